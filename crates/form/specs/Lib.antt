@@ -1,0 +1,4 @@
+pub mod Limits
+pub mod Header
+pub mod Names
+pub mod Numbers

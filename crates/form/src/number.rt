@@ -1,0 +1,32 @@
+// The numbers that come back: 0 accepts, every other one refuses.
+pub struct Number {}
+
+impl Number {
+    pub const ACCEPTED: u8 = 0;
+    // a lent buffer is shorter than the stated size
+    pub const SHORT_BUFFER: u8 = 1;
+
+    pub const LONG_MESSAGE: u8 = 2;
+
+    pub const BROKEN_HEADER: u8 = 3;
+    // a byte below 32 inside a line
+    pub const CONTROL_BYTE: u8 = 4;
+
+    pub const LONG_LINE: u8 = 5;
+    // bytes left without CR
+    pub const OPEN_LINE: u8 = 6;
+
+    pub const MANY_SEGMENTS: u8 = 7;
+
+    pub const UNKNOWN_KIND: u8 = 8;
+
+    pub const NO_CONTEXT: u8 = 9;
+    // a kind that is not allowed there, or no L at the end
+    pub const MISPLACED: u8 = 10;
+
+    pub const MANY_LEAVES: u8 = 11;
+
+    pub const SHORT_OUTPUT: u8 = 12;
+    // no message reads to this table
+    pub const NO_TABLE: u8 = 13;
+}

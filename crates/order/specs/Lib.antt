@@ -1,0 +1,4 @@
+pub mod Grammar
+pub mod Contexts
+pub mod Place
+pub mod Owners

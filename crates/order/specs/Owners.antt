@@ -1,0 +1,51 @@
+-- Levels and owners (document 01, "The seven contexts").
+-- Assumes nothing.
+use mathlib.Core.Bool.{Bool, true, false, not, _&&_}
+use mathlib.Core.List.{List, [], _∷_}
+use Prim.Native.Nat.{ℕ, suc}
+use lib.Dec.{ltb, eqb}
+use lib.ListN.{length, getD}
+
+-- "Levels: H and L 1, P 2, ERR 2; OBR 3, OBX 4 in ORM and ORU; AP 3, AC 4, OBR 5, OBX 6 in ORA; AP 3, AC 4 in ADM;
+-- AP 3, AC 4, FAC 5, REG 6, ACT 7 in FAC; REG 3 in REG." A row is a context, a column a kind, both by number; 0 where there is none.
+unfoldable pub levels : List (List ℕ)
+levels =
+    --      H   P   AP  AC  OBR OBX FAC REG ACT ERR L
+    []
+    ∷ (0 ∷ 1 ∷ 2 ∷ 3 ∷ 4 ∷ 0 ∷ 0 ∷ 0 ∷ 0 ∷ 0 ∷ 0 ∷ 1 ∷ [])  -- ADM
+    ∷ (0 ∷ 1 ∷ 2 ∷ 0 ∷ 0 ∷ 3 ∷ 4 ∷ 0 ∷ 0 ∷ 0 ∷ 0 ∷ 1 ∷ [])  -- ORM
+    ∷ (0 ∷ 1 ∷ 2 ∷ 3 ∷ 4 ∷ 5 ∷ 6 ∷ 0 ∷ 0 ∷ 0 ∷ 0 ∷ 1 ∷ [])  -- ORA
+    ∷ (0 ∷ 1 ∷ 2 ∷ 0 ∷ 0 ∷ 0 ∷ 0 ∷ 0 ∷ 3 ∷ 0 ∷ 0 ∷ 1 ∷ [])  -- REG
+    ∷ (0 ∷ 1 ∷ 0 ∷ 0 ∷ 0 ∷ 0 ∷ 0 ∷ 0 ∷ 0 ∷ 0 ∷ 2 ∷ 1 ∷ [])  -- ERR
+    ∷ (0 ∷ 1 ∷ 2 ∷ 0 ∷ 0 ∷ 3 ∷ 4 ∷ 0 ∷ 0 ∷ 0 ∷ 0 ∷ 1 ∷ [])  -- ORU
+    ∷ (0 ∷ 1 ∷ 2 ∷ 3 ∷ 4 ∷ 0 ∷ 0 ∷ 5 ∷ 6 ∷ 7 ∷ 0 ∷ 1 ∷ [])  -- FAC
+    ∷ []
+
+unfoldable pub level : ℕ → ℕ → ℕ
+level context kind = getD (getD levels context []) kind 0
+
+-- the row of the nearest of some earlier kinds that passes a test, or 0; the nearest stands first
+unfoldable pub nearest : (ℕ → Bool) → List ℕ → ℕ
+nearest p [] = 0
+nearest p (k ∷ before) = elim (p k) [ true ↦ suc (length before) | false ↦ nearest p before ]
+
+-- whether a kind is C
+unfoldable pub isC : ℕ → Bool
+isC k = eqb k 12
+
+-- "The owner of a segment is the nearest earlier one, C aside, with a smaller level; H and L have 0. The owner of a C is the
+-- nearest earlier segment that is no C." Over any levels lv of kinds; H and L have 0 since no level is below theirs.
+unfoldable pub owner : (ℕ → ℕ) → List ℕ → ℕ → ℕ
+owner lv before k =
+    elim (isC k) [
+      | true ↦ nearest (λ j. not (isC j)) before
+      | false ↦ nearest (λ j. not (isC j) && ltb (lv j) (lv k)) before
+    ]
+
+-- the owners of kinds in a row, after those before them
+unfoldable pub ownersAfter : (ℕ → ℕ) → List ℕ → List ℕ → List ℕ
+ownersAfter lv before [] = []
+ownersAfter lv before (k ∷ ks) = owner lv before k ∷ ownersAfter lv (k ∷ before) ks
+
+unfoldable pub owners : (ℕ → ℕ) → List ℕ → List ℕ
+owners lv kinds = ownersAfter lv [] kinds
