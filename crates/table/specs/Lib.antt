@@ -1,0 +1,5 @@
+pub mod Leaves
+pub mod Rows
+pub mod Reading
+pub mod Back
+pub mod Examples
