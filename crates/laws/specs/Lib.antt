@@ -1,3 +1,4 @@
 pub mod Lists
+pub mod Every
 pub mod Texts
 pub mod Tables

@@ -1,1 +1,11 @@
+pub mod Splitting
+pub mod Flat
+pub mod Places
+pub mod Passes
+pub mod Counting
+pub mod Rows
+pub mod Back
+pub mod Sound
+pub mod SoundTest
+pub mod SoundTables
 pub mod Examples
