@@ -1,1 +1,4 @@
+pub mod HeaderRule
 pub mod LineCount
+pub mod Names
+pub mod Spelling

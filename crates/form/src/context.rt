@@ -1,0 +1,77 @@
+// The seven contexts: their numbers, and the number of a name.
+ghost use mathlib.Core.Path.{_≡_};
+ghost use mathlib.Core.List.{[], _∷_};
+ghost use Rattle.form.specs.Names.{contextNames, contextOf, spelledAmong};
+use crate::letters;
+
+// A context is its number, from 1 to 7; 0 is no context.
+pub struct Context {}
+
+impl Context {
+    pub const ADM: u8 = 1;
+
+    pub const ORM: u8 = 2;
+
+    pub const ORA: u8 = 3;
+
+    pub const REG: u8 = 4;
+
+    pub const ERR: u8 = 5;
+
+    pub const ORU: u8 = 6;
+
+    pub const FAC: u8 = 7;
+
+    // The context of a name of so many letters, the first three by value: a reader gathers them across cut lines. 0 where
+    // no context has that name.
+    pub fn spelled(length: usize, first: u8, second: u8, third: u8) -> u8
+        ensures { λ r. ⌜ r ≡ spelledAmong contextNames length first second third ⌝ }
+    {
+        if length == 3 {
+            three_letters(first, second, third)
+        } else {
+            0
+        }
+    }
+
+    // The context of a name, or 0 where no context has it.
+    pub fn named(text: &[u8]) -> u8
+        ensures { λ r. ⌜ r ≡ contextOf (now (text .entry)) ⌝ }
+    {
+        Context::spelled(
+            text.len(),
+            letters::letter(text, 0),
+            letters::letter(text, 1),
+            letters::letter(text, 2),
+        )
+    }
+}
+
+// Every context's name has three letters.
+fn three_letters(first: u8, second: u8, third: u8) -> u8
+    ensures { λ r. ⌜ r ≡ contextOf (first ∷ second ∷ third ∷ []) ⌝ }
+{
+    match first {
+        b'A' => letters::ended(second, third, b'D', b'M', Context::ADM),
+        b'O' => order(second, third),
+        b'R' => letters::ended(second, third, b'E', b'G', Context::REG),
+        b'E' => letters::ended(second, third, b'R', b'R', Context::ERR),
+        b'F' => letters::ended(second, third, b'A', b'C', Context::FAC),
+        _ => 0,
+    }
+}
+
+// ORM, ORA, ORU, by what follows the O.
+fn order(second: u8, third: u8) -> u8
+    ensures { λ r. ⌜ r ≡ contextOf (79 ∷ second ∷ third ∷ []) ⌝ }
+{
+    if second != b'R' {
+        return 0;
+    }
+    match third {
+        b'M' => Context::ORM,
+        b'A' => Context::ORA,
+        b'U' => Context::ORU,
+        _ => 0,
+    }
+}

@@ -2,6 +2,7 @@
 // separators, the names of its kinds and contexts, and the numbers that come back from every call.
 pub mod context;
 pub mod kind;
+mod letters;
 pub mod limits;
 pub mod number;
 pub mod separators;

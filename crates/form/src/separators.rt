@@ -1,6 +1,6 @@
 // The five separators and the header rule.
 ghost use mathlib.Core.Path.{_≡_};
-ghost use Rattle.form.specs.Header.{allowed, different, headerOf};
+ghost use Rattle.form.specs.Header.{within, allowed, allAllowed, different, five, headerOf};
 
 // The separators that a message's header names, in the order of its bytes 1 to 5.
 pub struct Separators {
@@ -15,4 +15,116 @@ pub struct Separators {
 pub enum Header {
     Sound(Separators),
     Broken,
+}
+
+impl Header {
+    // What the header of a message says: the separators of a sound one, for every list of bytes.
+    pub fn of(message: &[u8]) -> Header
+        ensures { λ r. ⌜ r ≡ headerOf (now (message .entry)) ⌝ }
+    {
+        if message.len() < 7 {
+            return Header::Broken;
+        }
+        if message[0] != b'H' {
+            return Header::Broken;
+        }
+        if message[6] != message[1] {
+            return Header::Broken;
+        }
+        let separators = Separators {
+            field: message[1],
+            subfield: message[2],
+            repeater: message[3],
+            escape: message[4],
+            subsubfield: message[5],
+        };
+        if !separators.allowed() {
+            return Header::Broken;
+        }
+        if !separators.different() {
+            return Header::Broken;
+        }
+        Header::Sound(separators)
+    }
+}
+
+impl Separators {
+    // Whether each of the five may be a separator.
+    fn allowed(self) -> bool
+        ensures { λ r. ⌜ r ≡ allAllowed (five self) ⌝ }
+    {
+        if !allowed(self.field) {
+            return false;
+        }
+        if !allowed(self.subfield) {
+            return false;
+        }
+        if !allowed(self.repeater) {
+            return false;
+        }
+        if !allowed(self.escape) {
+            return false;
+        }
+        allowed(self.subsubfield)
+    }
+
+    // Whether no two of the five are the same byte.
+    fn different(self) -> bool
+        ensures { λ r. ⌜ r ≡ different (five self) ⌝ }
+    {
+        if self.field == self.subfield {
+            return false;
+        }
+        if self.field == self.repeater {
+            return false;
+        }
+        if self.field == self.escape {
+            return false;
+        }
+        if self.field == self.subsubfield {
+            return false;
+        }
+        if self.subfield == self.repeater {
+            return false;
+        }
+        if self.subfield == self.escape {
+            return false;
+        }
+        if self.subfield == self.subsubfield {
+            return false;
+        }
+        if self.repeater == self.escape {
+            return false;
+        }
+        if self.repeater == self.subsubfield {
+            return false;
+        }
+        self.escape != self.subsubfield
+    }
+}
+
+// Whether a byte may be a separator: visible, no letter, no digit.
+fn allowed(b: u8) -> bool
+    ensures { λ r. ⌜ r ≡ allowed b ⌝ }
+{
+    if !within(33, 126, b) {
+        return false;
+    }
+    if within(b'A', b'Z', b) {
+        return false;
+    }
+    if within(b'a', b'z', b) {
+        return false;
+    }
+    !within(b'0', b'9', b)
+}
+
+// Whether a byte lies from low to high.
+fn within(low: u8, high: u8, b: u8) -> bool
+    ensures { λ r. ⌜ r ≡ within low high b ⌝ }
+{
+    if b < low {
+        return false;
+    }
+    b <= high
 }

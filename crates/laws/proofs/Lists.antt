@@ -1,68 +1,84 @@
--- Laws of the small functions on lists: tests by cases; `same`, `among`, `count`, `numbered`, `values`, `All`.
+-- Laws of the small functions on lists: `same` tells equality, `among` membership, `count` counts, `numbered` gathers, `firstFrom` finds the first.
 -- Assumes nothing.
-use mathlib.Core.Bool.{Bool, true, false, _&&_, false≢true}
+use mathlib.Core.Bool.{Bool, true, false}
 use mathlib.Core.List.{List, [], _∷_, _++_, map}
+use mathlib.Core.Logic.{⊎-elim}
 use mathlib.Core.Path.{_≡_, refl, sym, ap, ap₂, _∙_}
-use Prim.Native.Nat.{ℕ, zero, suc, _+_, _<_}
-use native.Mathlib.Nat.{zero-add, suc-add}
+use Prim.Native.Nat.{ℕ, zero, suc, _+_, _≤_, _<_, zero-le, suc-le-suc}
+use native.Mathlib.Nat.{le-of-suc-le-suc, not-suc-le-zero, zero-add, add-zero, add-suc, suc-add}
 use native.Mathlib.Omega.{arith}
 use lib.Dec.{eqb}
-use borrow.Author.Tests.{eqb-true, eq-eqb}
-use lib.ListN.{drop, getD}
-use Rattle.laws.specs.Lists.{same, among, count, numbered}
-use Rattle.laws.specs.Tables.{values}
-use Rattle.laws.specs.Every.{All, none, also}
-
--- a test, with what it came to
-pub data Tested (t : Bool) : Type 0 where
-  passed : t ≡ true → Tested t
-  failed : t ≡ false → Tested t
-
-pub tested : (t : Bool) → Tested t
-tested true = passed refl
-tested false = failed refl
-
--- two tests that both pass
-pub both-pass : (s t : Bool) → s ≡ true → t ≡ true → s && t ≡ true
-both-pass s t hs ht = rw (hs, ht)
-
-pub first-passes : (s t : Bool) → s && t ≡ true → s ≡ true
-first-passes true t h = refl
-first-passes false t h = h
-
-pub second-passes : (s t : Bool) → s && t ≡ true → t ≡ true
-second-passes true t h = h
-second-passes false t h = absurd (false≢true h)
+use lib.ListN.{length, getD}
+use borrow.Author.Tests.{eqb-true, eq-eqb, ne-eqb}
+use Rattle.laws.specs.Lists.{same, among, count, numbered, firstFrom}
+use Rattle.laws.proofs.Tests.{Tested, passed, failed, tested, either, never-both, and-first, and-second, and-both}
 
 module _ {ℓ ℓ′} {A : Type ℓ} {B : Type ℓ′} (f : A → B) where
   pub map-append : (s t : List A) → map f (s ++ t) ≡ map f s ++ map f t
   map-append [] t = refl
   map-append (a ∷ s) t = ap {B = List B} (λ r. f a ∷ r) (map-append s t)
 
--- `same`: exactly of equal lists
+-- `same s t` holds exactly where s and t are equal
 pub same-self : (s : List ℕ) → same s s ≡ true
 unfolding same
 same-self [] = refl
-same-self (a ∷ s) = rw (eq-eqb a a refl) (same-self s)
+same-self (a ∷ s) = and-both (eq-eqb a a refl) (same-self s)
 
-pub same-true : (s t : List ℕ) → same s t ≡ true → s ≡ t
+pub same-equal : (s t : List ℕ) → same s t ≡ true → s ≡ t
 unfolding same
-same-true [] [] h = refl
-same-true [] (b ∷ t) h = absurd (false≢true h)
-same-true (a ∷ s) [] h = absurd (false≢true h)
-same-true (a ∷ s) (b ∷ t) h =
-    ap₂ (λ (x : ℕ) (y : List ℕ). x ∷ y) (eqb-true a b (first-passes (eqb a b) (same s t) h))
-    (same-true s t (second-passes (eqb a b) (same s t) h))
+same-equal [] [] h = refl
+same-equal [] (b ∷ t) h = absurd (never-both h refl)
+same-equal (a ∷ s) [] h = absurd (never-both h refl)
+same-equal (a ∷ s) (b ∷ t) h =
+    ap₂ (λ (x : ℕ) (r : List ℕ). x ∷ r) (eqb-true a b (and-first (eqb a b) (same s t) h)) (same-equal s t (and-second (eqb a b) (same s t) h))
+
+pub different-same : {s t : List ℕ} → (s ≡ t → ⊥) → same s t ≡ false
+different-same {s} {t} h = ⊎-elim (λ e. absurd (h (same-equal s t e))) (λ e. e) (either (same s t))
+
+pub same-different : {s t : List ℕ} → same s t ≡ false → s ≡ t → ⊥
+same-different {s} {t} h e = never-both (rw (← e) (same-self s)) h
 
 -- `among`: the first element decides, or the rest
 module _ (a : ℕ) (s : List ℕ) (b : ℕ) where
-  pub among-here : eqb b a ≡ true → among (a ∷ s) b ≡ true
+  pub among-hit : eqb b a ≡ true → among (a ∷ s) b ≡ true
   unfolding among
-  among-here h = rw (h, among)
+  among-hit h = rw (h, among)
 
-  pub among-later : eqb b a ≡ false → among (a ∷ s) b ≡ among s b
+  pub among-miss : eqb b a ≡ false → among (a ∷ s) b ≡ among s b
   unfolding among
-  among-later h = rw (h, among)
+  among-miss h = rw (h, among)
+
+-- an element that stands in the list is among it, and what is not among it stands nowhere in it
+pub among-at : (s : List ℕ) (b k : ℕ) → k < length s → b ≡ getD s k 0 → among s b ≡ true
+unfolding among
+among-at [] b k h e = absurd (not-suc-le-zero h)
+among-at (a ∷ s) b zero h e = rw (eq-eqb b a e, among)
+among-at (a ∷ s) b (suc k) h e =
+    ⊎-elim
+    (λ (y : eqb b a ≡ true). rw (y, among))
+    (λ (n : eqb b a ≡ false). rw (n, among) (among-at s b k (le-of-suc-le-suc h) e))
+    (either (eqb b a))
+
+pub not-among-at : (s : List ℕ) (b k : ℕ) → among s b ≡ false → k < length s → b ≡ getD s k 0 → ⊥
+not-among-at s b k n h e = never-both (among-at s b k h e) n
+
+-- b stands nowhere in the list: it differs from each element
+pub data Absent (b : ℕ) : List ℕ → Type 0 where
+  nowhere : Absent b []
+  past : {a : ℕ} {s : List ℕ} → (b ≡ a → ⊥) → Absent b s → Absent b (a ∷ s)
+
+pub absent-among : {b : ℕ} {s : List ℕ} → Absent b s → among s b ≡ false
+unfolding among
+absent-among nowhere = refl
+absent-among {b} (past {a} {s} h n) = rw (ne-eqb b a h, among) (absent-among n)
+
+pub among-first : (a : ℕ) (s : List ℕ) → among (a ∷ s) a ≡ true
+unfolding among
+among-first a s = rw (eq-eqb a a refl, among)
+
+pub among-later : (a b : ℕ) (s : List ℕ) → among s b ≡ true → among (a ∷ s) b ≡ true
+unfolding among
+among-later a b s h = ⊎-elim (λ (y : eqb b a ≡ true). rw (y, among)) (λ (n : eqb b a ≡ false). rw (n, among) h) (either (eqb b a))
 
 -- `count`: an element that passes is one more
 module _ {ℓ} {A : Type ℓ} (p : A → Bool) where
@@ -99,41 +115,56 @@ module _ {ℓ ℓ′} {A : Type ℓ} {B : Type ℓ′} where
   numbered-as f g h n [] = refl
   numbered-as f g h n (a ∷ s) = ap₂ (λ (x y : List B). x ++ y) (h n a) (numbered-as f g h (suc n) s)
 
--- `values`: from one further on, of two functions that agree, and one of them
-module _ {ℓ} {A : Type ℓ} where
-  pub values-later : (f : ℕ → A) (i n : ℕ) → values f (suc i) n ≡ values (λ k. f (suc k)) i n
-  unfolding values
-  values-later f i zero = refl
-  values-later f i (suc n) = ap {B = List A} (λ r. f (suc i) ∷ r) (values-later f (suc i) n)
+-- what `firstFrom` finds of the list s, counted from n
+pub record Found {ℓ} {A : Type ℓ} (p : A → Bool) (d : A) (n : ℕ) (s : List A) : Type 0 where
+  pub place : ℕ
+  pub number : firstFrom p n s ≡ n + place
+  pub inside : place < length s
+  pub passes : p (getD s place d) ≡ true
 
-  pub values-as : (f g : ℕ → A) → ((k : ℕ) → f k ≡ g k) → (i n : ℕ) → values f i n ≡ values g i n
-  unfolding values
-  values-as f g h i zero = refl
-  values-as f g h i (suc n) = ap₂ (λ (x : A) (y : List A). x ∷ y) (h i) (values-as f g h (suc i) n)
+module _ {ℓ} {A : Type ℓ} (p : A → Bool) where
+  pub first-hit : (n : ℕ) (a : A) (s : List A) → p a ≡ true → firstFrom p n (a ∷ s) ≡ n
+  unfolding firstFrom
+  first-hit n a s h = rw (h, firstFrom)
 
-  pub getD-values : (f : ℕ → A) (d : A) (i n k : ℕ) → k < n → getD (values f i n) k d ≡ f (i + k)
-  unfolding values
-  getD-values f d i zero k h = absurd (omega arith)
-  getD-values f d i (suc n) zero h = ap f (omega arith)
-  getD-values f d i (suc n) (suc k) h = getD-values f d (suc i) n k (omega arith) ∙ ap f (omega arith)
+  pub first-miss : (n : ℕ) (a : A) (s : List A) → p a ≡ false → firstFrom p n (a ∷ s) ≡ firstFrom p (suc n) s
+  unfolding firstFrom
+  first-miss n a s h = rw (h, firstFrom)
 
--- `All`: of the first and of the rest, of two lists in a row, of what is left of a list, of what is made of one
-module _ {ℓ ℓ′} {A : Type ℓ} {P : A → Type ℓ′} where
-  pub all-first : {a : A} {s : List A} → All P (a ∷ s) → P a
-  all-first (also h w) = h
+  -- none passes: none is found
+  pub first-none : (d : A) (n : ℕ) (s : List A) → ((k : ℕ) → k < length s → p (getD s k d) ≡ false) → firstFrom p n s ≡ 0
+  unfolding firstFrom
+  first-none d n [] h = refl
+  first-none d n (a ∷ s) h =
+      first-miss n a s (h zero (suc-le-suc zero-le)) ∙ first-none d (suc n) s (λ k l. h (suc k) (suc-le-suc l))
 
-  pub all-rest : {a : A} {s : List A} → All P (a ∷ s) → All P s
-  all-rest (also h w) = w
+  -- one passes: one is found
+  pub first-some : (d : A) (n : ℕ) (s : List A) (k : ℕ) → k < length s → p (getD s k d) ≡ true → n ≤ firstFrom p n s
+  unfolding firstFrom
+  first-some d n [] k h e = absurd (not-suc-le-zero h)
+  first-some d n (a ∷ s) zero h e = rw (first-hit n a s e) (omega arith)
+  first-some d n (a ∷ s) (suc k) h e =
+      let rest : suc n ≤ firstFrom p (suc n) s = first-some d (suc n) s k (le-of-suc-le-suc h) e in
+      ⊎-elim
+      (λ (y : p a ≡ true). rw (first-hit n a s y) (omega arith))
+      (λ (f : p a ≡ false). rw (first-miss n a s f) (omega arith))
+      (either (p a))
 
-  pub all-append : {s t : List A} → All P s → All P t → All P (s ++ t)
-  all-append none v = v
-  all-append (also h w) v = also h (all-append w v)
+  found-later : {d : A} (n : ℕ) (a : A) (s : List A) → p a ≡ false → Found p d (suc n) s → Found p d n (a ∷ s)
+  found-later n a s f w =
+      record {
+        place = suc (w .place);
+        number = first-miss n a s f ∙ w .number ∙ suc-add n (w .place) ∙ sym (add-suc n (w .place));
+        inside = suc-le-suc (w .inside);
+        passes = w .passes;
+      }
 
-  pub all-drop : (n : ℕ) {s : List A} → All P s → All P (drop n s)
-  all-drop zero w = w
-  all-drop (suc n) none = none
-  all-drop (suc n) (also h w) = all-drop n w
-
-  pub all-map {κ κ′} : {B : Type κ} {Q : B → Type κ′} (f : A → B) → ((a : A) → P a → Q (f a)) → {s : List A} → All P s → All Q (map f s)
-  all-map f h none = none
-  all-map f h (also {a} w ws) = also (h a w) (all-map f h ws)
+  -- what is found passes, and its number says where it stands
+  pub first-found : (d : A) (n : ℕ) (s : List A) → (firstFrom p n s ≡ 0 → ⊥) → Found p d n s
+  unfolding firstFrom
+  first-found d n [] h = absurd (h refl)
+  first-found d n (a ∷ s) h =
+      ⊎-elim
+      (λ (y : p a ≡ true). record { place = 0; number = first-hit n a s y ∙ sym (add-zero n); inside = suc-le-suc zero-le; passes = y })
+      (λ (f : p a ≡ false). found-later n a s f (first-found d (suc n) s (λ e. h (first-miss n a s f ∙ e))))
+      (either (p a))

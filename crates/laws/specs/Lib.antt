@@ -1,4 +1,6 @@
 pub mod Lists
 pub mod Every
+pub mod Each
+pub mod Sums
 pub mod Texts
 pub mod Tables

@@ -7,7 +7,8 @@ use native.Mathlib.Omega.{arith}
 use lib.ListN.{length, drop, getD, take-append-drop}
 use Rattle.laws.specs.Lists.{among}
 use Rattle.laws.specs.Every.{All}
-use Rattle.laws.proofs.Lists.{Tested, passed, failed, tested, getD-values}
+use Rattle.laws.proofs.Tests.{Tested, passed, failed, tested}
+use Rattle.laws.proofs.Tables.{getD-values}
 use Rattle.form.specs.declared.separators.Separators.{Separators}
 use Rattle.form.specs.Header.{splitting}
 use Rattle.line.specs.Lines.{CR}
@@ -89,7 +90,7 @@ module _ (ps : Separators) (rest : List ℕ) (ss : List (List ℕ)) where
     second-leaf : leafAt (table .leafRows) (table .text) 1 ≡ separatorsLeaf header
     unfolding tableOf leavesOf
     second-leaf =
-        sym (getD-values (leafAt (table .leafRows) (table .text)) (leaf [] []) 0 (table .card .leaves) 1 many)
+        sym (getD-values (leafAt (table .leafRows) (table .text)) 0 (table .card .leaves) 1 (leaf [] []) many)
         ∙ ap (λ (ls : List Leaf). getD ls 1 (leaf [] [])) (leavesOf-table levels ps (header ∷ ss) ∙ leaves-filed)
       where
         many : 1 < table .card .leaves

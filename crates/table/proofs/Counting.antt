@@ -7,7 +7,8 @@ use native.Mathlib.Omega.{arith}
 use lib.ListN.{length, drop, length-map, length-append}
 use Rattle.laws.specs.Lists.{among, count}
 use Rattle.laws.specs.Every.{All}
-use Rattle.laws.proofs.Lists.{Tested, passed, failed, tested, count-pass, count-fail}
+use Rattle.laws.proofs.Tests.{Tested, passed, failed, tested}
+use Rattle.laws.proofs.Lists.{count-pass, count-fail}
 use Rattle.form.specs.declared.separators.Separators.{Separators}
 use Rattle.form.specs.Header.{splitting}
 use Rattle.line.specs.Lines.{CR}

@@ -9,7 +9,9 @@ use lib.ListN.{length, take, drop}
 use lib.Seq.{drop-append-le}
 use Rattle.laws.specs.Lists.{among, concat, numbered}
 use Rattle.laws.specs.Every.{All, also}
-use Rattle.laws.proofs.Lists.{Tested, passed, failed, tested, among-here, among-later, numbered-map, numbered-as, map-append, all-drop}
+use Rattle.laws.proofs.Tests.{Tested, passed, failed, tested}
+use Rattle.laws.proofs.Lists.{among-hit, among-miss, numbered-map, numbered-as, map-append}
+use Rattle.laws.proofs.Every.{all-drop}
 use Rattle.form.specs.declared.separators.Separators.{Separators}
 use Rattle.form.specs.Header.{splitting}
 use Rattle.line.specs.Lines.{CR}
@@ -74,13 +76,13 @@ module _ (p : ℕ) (finer : List ℕ) where
       deeper : eqb b p ≡ false → Tested (among finer b) → ((m : ℕ) (q t : List ℕ) → Agree m q t)
           → flat (p ∷ finer) (n ∷ place) text (b ∷ s) ≡ here (b ∷ firstPart p s) (otherParts p s)
       deeper no-p (passed h) ih =
-          flat-separator (p ∷ finer) (n ∷ place) text b s (among-later p finer b no-p ∙ h)
+          flat-separator (p ∷ finer) (n ∷ place) text b s (among-miss p finer b no-p ∙ h)
           ∙ ap {B = List Leaf} (λ q. leaf (n ∷ place) text ∷ flat (p ∷ finer) q [] s) (raised-later p finer b n place no-p)
           ∙ ap {B = List Leaf} (λ r. leaf (n ∷ place) text ∷ r) (ih n (raised finer b place) [])
           ∙ ap (λ (r : List Leaf). under (n ∷ []) r ++ parts finer (suc n) (otherParts p s))
           (sym (flat-separator finer place text b (firstPart p s) h))
       deeper no-p (failed h) ih =
-          flat-text (p ∷ finer) (n ∷ place) text b s (among-later p finer b no-p ∙ h)
+          flat-text (p ∷ finer) (n ∷ place) text b s (among-miss p finer b no-p ∙ h)
           ∙ ih n place (text ++ (b ∷ []))
           ∙ ap (λ (r : List Leaf). under (n ∷ []) r ++ parts finer (suc n) (otherParts p s))
           (sym (flat-text finer place text b (firstPart p s) h))
@@ -88,7 +90,7 @@ module _ (p : ℕ) (finer : List ℕ) where
       go : Tested (eqb b p) → ((m : ℕ) (q t : List ℕ) → Agree m q t)
           → flat (p ∷ finer) (n ∷ place) text (b ∷ s) ≡ here (firstPart p (b ∷ s)) (otherParts p (b ∷ s))
       go (passed h) ih =
-          flat-separator (p ∷ finer) (n ∷ place) text b s (among-here p finer b h)
+          flat-separator (p ∷ finer) (n ∷ place) text b s (among-hit p finer b h)
           ∙ ap {B = List Leaf} (λ q. leaf (n ∷ place) text ∷ flat (p ∷ finer) q [] s) (raised-here p finer b n place h)
           ∙ ap {B = List Leaf} (λ r. leaf (n ∷ place) text ∷ r) (ih (suc n) (ones finer) [])
           ∙ ap {B = List Leaf} (λ r. leaf (n ∷ place) text ∷ parts finer (suc n) r) (sym (split-parts p s))

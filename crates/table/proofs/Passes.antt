@@ -9,7 +9,7 @@ use mathlib.Core.Bool.{true, false}
 use lib.ListN.{length, drop, getD}
 use lib.Seq.{drop-cons}
 use Rattle.laws.specs.Lists.{among}
-use Rattle.laws.proofs.Lists.{Tested, passed, failed, tested}
+use Rattle.laws.proofs.Tests.{Tested, passed, failed, tested}
 use Rattle.table.specs.Leaves.{Leaf}
 use Rattle.table.specs.Flat.{leaf, raised, flat, Pass, step, steps, ended}
 use Rattle.table.proofs.Flat.{flat-separator, flat-text}

@@ -11,7 +11,8 @@ use lib.ListN.{length}
 use borrow.Author.Tests.{eqb-true, eq-eqb, ne-eqb}
 use Rattle.laws.specs.Lists.{among}
 use Rattle.laws.specs.Every.{All, none, also}
-use Rattle.laws.proofs.Lists.{Tested, passed, failed, tested, among-later}
+use Rattle.laws.proofs.Tests.{Tested, passed, failed, tested}
+use Rattle.laws.proofs.Lists.{among-miss}
 use Rattle.table.specs.Back.{between}
 use Rattle.table.specs.Flat.{ones, raised}
 use Rattle.table.proofs.Flat.{raised-here, raised-later}
@@ -59,7 +60,7 @@ between-raised (p ∷ ps) b (n ∷ place) fits h = go (tested (eqb b p)) (betwee
     go (failed e) ih =
         ap (between (p ∷ ps) (n ∷ place)) (raised-later p ps b n place e)
         ∙ between-later p ps n n place (raised ps b place) (eq-eqb n n refl)
-        ∙ ih (sym (among-later p ps b e) ∙ h)
+        ∙ ih (sym (among-miss p ps b e) ∙ h)
 
 -- no number of a place grows faster than the bytes passed
 abbrev pub Within : ℕ → List ℕ → Type 0

@@ -10,7 +10,9 @@ use lib.Seq.{take-at, drop-at, getD-at, drop-append-add, getD-append-add}
 use Rattle.laws.specs.Lists.{among, concat}
 use Rattle.laws.specs.Every.{All, none, also}
 use Rattle.laws.specs.Tables.{values}
-use Rattle.laws.proofs.Lists.{Tested, passed, failed, tested, values-later, values-as, all-append, all-map}
+use Rattle.laws.proofs.Tests.{Tested, passed, failed, tested}
+use Rattle.laws.proofs.Tables.{values-later, values-as}
+use Rattle.laws.proofs.Every.{all-append, all-map}
 use Rattle.form.specs.declared.separators.Separators.{Separators}
 use Rattle.form.specs.Header.{splitting}
 use Rattle.table.specs.Leaves.{Leaf, segmentLeaves, headerLeaves, leavesFrom, messageLeaves}

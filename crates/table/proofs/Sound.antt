@@ -6,7 +6,8 @@ use Prim.Native.Nat.{ℕ}
 use lib.ListN.{length}
 use Rattle.laws.specs.Lists.{among}
 use Rattle.laws.specs.Every.{none, also}
-use Rattle.laws.proofs.Lists.{Tested, passed, failed, tested, all-append}
+use Rattle.laws.proofs.Tests.{Tested, passed, failed, tested}
+use Rattle.laws.proofs.Every.{all-append}
 use Rattle.table.specs.Leaves.{Leaf}
 use Rattle.table.specs.Back.{between, unsplitFrom, unsplit}
 use Rattle.table.specs.Flat.{leaf, raised, flat}

@@ -7,7 +7,8 @@ use Prim.Native.Nat.{ℕ}
 use lib.ListN.{length}
 use Rattle.laws.specs.Lists.{same, among}
 use Rattle.laws.specs.Every.{none, also}
-use Rattle.laws.proofs.Lists.{Tested, passed, failed, tested, both-pass, first-passes, second-passes, same-self, same-true}
+use Rattle.laws.proofs.Tests.{Tested, passed, failed, tested, and-both, and-first, and-second}
+use Rattle.laws.proofs.Lists.{same-self, same-equal}
 use Rattle.table.specs.Leaves.{Leaf}
 use Rattle.table.specs.Back.{between}
 use Rattle.table.specs.Flat.{leaf, raised}
@@ -33,70 +34,70 @@ plain-holds ps (also {a = b} {s = s} h w) = rw (h, plain) (plain-holds ps w)
 module _ (ps from to : List ℕ) (h : onward ps from to ≡ true) where
   pub onward-among : among ps (between ps from to) ≡ true
   unfolding onward
-  onward-among = first-passes (among ps (between ps from to)) (same (raised ps (between ps from to) from) to) h
+  onward-among = and-first (among ps (between ps from to)) (same (raised ps (between ps from to) from) to) h
 
   pub onward-raised : raised ps (between ps from to) from ≡ to
   unfolding onward
   onward-raised =
-      same-true (raised ps (between ps from to) from) to
-      (second-passes (among ps (between ps from to)) (same (raised ps (between ps from to) from) to) h)
+      same-equal (raised ps (between ps from to) from) to
+      (and-second (among ps (between ps from to)) (same (raised ps (between ps from to) from) to) h)
 
 pub onward-holds : (ps place : List ℕ) (b : ℕ) → length place ≡ length ps → among ps b ≡ true → onward ps place (raised ps b place) ≡ true
 unfolding onward
 onward-holds ps place b fits h =
     ap (λ (c : ℕ). among ps c && same (raised ps c place) (raised ps b place)) (between-raised ps b place fits h)
-    ∙ both-pass (among ps b) (same (raised ps b place) (raised ps b place)) h (same-self (raised ps b place))
+    ∙ and-both h (same-self (raised ps b place))
 
 -- what the test of the leaves after one says of the next
 module _ (ps place : List ℕ) (l : Leaf) (ls : List Leaf) where
   pub after-onward : soundAfter ps place (l ∷ ls) ≡ true → onward ps place (l .place) ≡ true
   unfolding soundAfter
   after-onward h =
-      first-passes (onward ps place (l .place)) (plain ps (l .text))
-      (first-passes (onward ps place (l .place) && plain ps (l .text)) (soundAfter ps (l .place) ls) h)
+      and-first (onward ps place (l .place)) (plain ps (l .text))
+      (and-first (onward ps place (l .place) && plain ps (l .text)) (soundAfter ps (l .place) ls) h)
 
   pub after-plain : soundAfter ps place (l ∷ ls) ≡ true → plain ps (l .text) ≡ true
   unfolding soundAfter
   after-plain h =
-      second-passes (onward ps place (l .place)) (plain ps (l .text))
-      (first-passes (onward ps place (l .place) && plain ps (l .text)) (soundAfter ps (l .place) ls) h)
+      and-second (onward ps place (l .place)) (plain ps (l .text))
+      (and-first (onward ps place (l .place) && plain ps (l .text)) (soundAfter ps (l .place) ls) h)
 
   pub after-rest : soundAfter ps place (l ∷ ls) ≡ true → soundAfter ps (l .place) ls ≡ true
   unfolding soundAfter
-  after-rest h = second-passes (onward ps place (l .place) && plain ps (l .text)) (soundAfter ps (l .place) ls) h
+  after-rest h = and-second (onward ps place (l .place) && plain ps (l .text)) (soundAfter ps (l .place) ls) h
 
   pub after-holds : onward ps place (l .place) ≡ true → plain ps (l .text) ≡ true → soundAfter ps (l .place) ls ≡ true
       → soundAfter ps place (l ∷ ls) ≡ true
   unfolding soundAfter
   after-holds ho hp hs =
-      both-pass (onward ps place (l .place) && plain ps (l .text)) (soundAfter ps (l .place) ls)
-      (both-pass (onward ps place (l .place)) (plain ps (l .text)) ho hp) hs
+      and-both
+      (and-both ho hp) hs
 
 -- and of the first
 module _ (ps place : List ℕ) (l : Leaf) (ls : List Leaf) where
   pub from-place : soundFrom ps place (l ∷ ls) ≡ true → l .place ≡ place
   unfolding soundFrom
   from-place h =
-      same-true (l .place) place
-      (first-passes (same (l .place) place) (plain ps (l .text))
-      (first-passes (same (l .place) place && plain ps (l .text)) (soundAfter ps (l .place) ls) h))
+      same-equal (l .place) place
+      (and-first (same (l .place) place) (plain ps (l .text))
+      (and-first (same (l .place) place && plain ps (l .text)) (soundAfter ps (l .place) ls) h))
 
   pub from-plain : soundFrom ps place (l ∷ ls) ≡ true → plain ps (l .text) ≡ true
   unfolding soundFrom
   from-plain h =
-      second-passes (same (l .place) place) (plain ps (l .text))
-      (first-passes (same (l .place) place && plain ps (l .text)) (soundAfter ps (l .place) ls) h)
+      and-second (same (l .place) place) (plain ps (l .text))
+      (and-first (same (l .place) place && plain ps (l .text)) (soundAfter ps (l .place) ls) h)
 
   pub from-rest : soundFrom ps place (l ∷ ls) ≡ true → soundAfter ps (l .place) ls ≡ true
   unfolding soundFrom
-  from-rest h = second-passes (same (l .place) place && plain ps (l .text)) (soundAfter ps (l .place) ls) h
+  from-rest h = and-second (same (l .place) place && plain ps (l .text)) (soundAfter ps (l .place) ls) h
 
 pub from-holds : (ps place text : List ℕ) (ls : List Leaf) → plain ps text ≡ true → soundAfter ps place ls ≡ true
     → soundFrom ps place (leaf place text ∷ ls) ≡ true
 unfolding soundFrom
 from-holds ps place text ls hp hs =
-    both-pass (same place place && plain ps text) (soundAfter ps place ls)
-    (both-pass (same place place) (plain ps text) (same-self place) hp) hs
+    and-both
+    (and-both (same-self place) hp) hs
 
 -- leaves that pass the test are sound
 pub soundAfter-true : (ps place text : List ℕ) (ls : List Leaf) → Plain ps text → soundAfter ps place ls ≡ true

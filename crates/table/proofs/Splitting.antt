@@ -9,7 +9,8 @@ use lib.ListN.{length}
 use borrow.Author.Tests.{eqb-true, eq-eqb}
 use Rattle.laws.specs.Lists.{count}
 use Rattle.laws.specs.Every.{All, none, also}
-use Rattle.laws.proofs.Lists.{Tested, passed, failed, tested, count-pass, count-fail}
+use Rattle.laws.proofs.Tests.{Tested, passed, failed, tested}
+use Rattle.laws.proofs.Lists.{count-pass, count-fail}
 use Rattle.line.specs.Lines.{CR}
 use Rattle.table.specs.Leaves.{onto, split}
 use Rattle.table.specs.Flat.{Without, gluedTo, glued}

@@ -1,0 +1,177 @@
+-- Names and their numbers: laws of any list of names, and what they say of the twelve kinds and the seven contexts.
+-- Assumes nothing.
+use mathlib.Core.Bool.{Bool, true, false, _&&_}
+use mathlib.Core.List.{List, [], _∷_}
+use mathlib.Core.Logic.{⊎-elim}
+use mathlib.Core.Path.{_≡_, refl, sym, ap, _∙_}
+use Prim.Native.Nat.{ℕ, zero, suc, _≤_, _<_}
+use native.Mathlib.Nat.{le-of-suc-le-suc, not-suc-le-zero}
+use native.Mathlib.Numerals.{one-add}
+use native.Mathlib.Omega.{arith}
+use lib.Dec.{leb, eqb}
+use lib.ListN.{length, getD, take}
+use borrow.Author.Tests.{leb-true, leb-false, eqb-true, eqb-false, le-leb, lt-leb}
+use Rattle.laws.specs.Lists.{same, firstFrom}
+use Rattle.laws.specs.Tables.{everyFrom}
+use Rattle.laws.specs.Texts.{bytes}
+use Rattle.laws.proofs.Lists.{same-self, same-equal, different-same, Found, first-none, first-some, first-found}
+use Rattle.laws.proofs.Tables.{every-at}
+use Rattle.laws.proofs.Tests.{either, and-first, and-second}
+use Rattle.form.specs.Names.{kindNames, contextNames, numberAmong, kindOf, contextOf, spelledAmong}
+
+-- whether no name has more than three letters
+unfoldable pub allShort : List (List ℕ) → Bool
+allShort [] = true
+allShort (t ∷ names) = leb (length t) 3 && allShort names
+
+-- whether each name has its own number, counted from 1: no name stands twice
+unfoldable pub ownNumbers : List (List ℕ) → Bool
+ownNumbers names = everyFrom (λ k. eqb (numberAmong names (getD ([] ∷ names) k [])) k) 1 (length names)
+
+short-at : (names : List (List ℕ)) → allShort names ≡ true → (k : ℕ) → k < length names → length (getD names k []) ≤ 3
+unfolding allShort
+short-at [] h k l = absurd (not-suc-le-zero l)
+short-at (t ∷ names) h zero l = leb-true (length t) 3 (and-first (leb (length t) 3) (allShort names) h)
+short-at (t ∷ names) h (suc k) l = short-at names (and-second (leb (length t) 3) (allShort names) h) k (le-of-suc-le-suc l)
+
+-- the letters of a text of at most three are the text
+letters-text : (t : List ℕ) → length t ≤ 3 → take (length t) (getD t 0 0 ∷ getD t 1 0 ∷ getD t 2 0 ∷ []) ≡ t
+letters-text [] h = refl
+letters-text (a ∷ []) h = refl
+letters-text (a ∷ b ∷ []) h = refl
+letters-text (a ∷ b ∷ c ∷ []) h = refl
+letters-text (a ∷ b ∷ c ∷ d ∷ t) h = absurd (let z : ⊥ = omega arith in z)
+
+module _ (names : List (List ℕ)) where
+  -- a text that differs from every name has no number
+  pub unknown : (t : List ℕ) → ((k : ℕ) → k < length names → t ≡ getD names k [] → ⊥) → numberAmong names t ≡ 0
+  unfolding numberAmong
+  unknown t h = first-none (same t) [] 1 names (λ k l. different-same (h k l))
+
+  -- a name has one
+  pub known : (k : ℕ) → k < length names → 1 ≤ numberAmong names (getD names k [])
+  unfolding numberAmong
+  known k l = first-some (same (getD names k [])) [] 1 names k l (same-self (getD names k []))
+
+  -- so a text has a number exactly where it is one of the names
+  pub one-known : (t : List ℕ) (k : ℕ) → k < length names → t ≡ getD names k [] → numberAmong names t ≡ 0 → ⊥
+  one-known t k l e z = omega (arith, known k l, ap (numberAmong names) e)
+
+  pub known-one : (t : List ℕ) → (numberAmong names t ≡ 0 → ⊥) → (k : ℕ) × (k < length names) × (t ≡ getD names k [])
+  unfolding numberAmong
+  known-one t h =
+      let w = first-found (same t) [] 1 names h in
+      (w .place, w .inside, same-equal t (getD names (w .place) []) (w .passes))
+
+  -- a text that has a number is the name of that number, and the number counts the names
+  pub name-of-number : (t : List ℕ) → (numberAmong names t ≡ 0 → ⊥) → getD ([] ∷ names) (numberAmong names t) [] ≡ t
+  unfolding numberAmong
+  name-of-number t h =
+      let w = first-found (same t) [] 1 names h in
+      rw (w .number, one-add) (sym (same-equal t (getD names (w .place) []) (w .passes)))
+
+  found-within : (t : List ℕ) → Found (same t) [] 1 names → numberAmong names t ≤ length names
+  unfolding numberAmong
+  found-within t w = omega (arith, w .number, w .inside)
+
+  pub number-within : (t : List ℕ) → numberAmong names t ≤ length names
+  unfolding numberAmong
+  number-within t =
+      ⊎-elim
+      (λ (e : eqb (numberAmong names t) 0 ≡ true). omega (arith, eqb-true (numberAmong names t) 0 e))
+      (λ (e : eqb (numberAmong names t) 0 ≡ false). found-within t (first-found (same t) [] 1 names (eqb-false (numberAmong names t) 0 e)))
+      (either (eqb (numberAmong names t) 0))
+
+  -- two texts of the same number are the same
+  pub same-number : (s t : List ℕ) → numberAmong names s ≡ numberAmong names t → (numberAmong names s ≡ 0 → ⊥) → s ≡ t
+  same-number s t e h =
+      sym (name-of-number s h) ∙ ap (λ (n : ℕ). getD ([] ∷ names) n []) e ∙ name-of-number t (λ z. h (e ∙ z))
+
+  -- each name's own number, where no name stands twice
+  pub number-of-name : ownNumbers names ≡ true → (k : ℕ) → 1 ≤ k → k ≤ length names → numberAmong names (getD ([] ∷ names) k []) ≡ k
+  unfolding ownNumbers
+  number-of-name own k l u =
+      eqb-true (numberAmong names (getD ([] ∷ names) k [])) k
+      (every-at (λ k. eqb (numberAmong names (getD ([] ∷ names) k [])) k) 1 (length names) own k l (omega arith))
+
+  -- a text known by its length and letters: the step equations
+  pub spelled-short : (n a b c : ℕ) → n ≤ 3 → spelledAmong names n a b c ≡ numberAmong names (take n (a ∷ b ∷ c ∷ []))
+  unfolding spelledAmong
+  spelled-short n a b c h = rw (le-leb n 3 h, spelledAmong)
+
+  pub spelled-long : (n a b c : ℕ) → 3 < n → spelledAmong names n a b c ≡ 0
+  unfolding spelledAmong
+  spelled-long n a b c h = rw (lt-leb n 3 h, spelledAmong)
+
+  -- it is known so, where no name has more than three letters
+  pub spelled-letters : allShort names ≡ true → (t : List ℕ)
+      → spelledAmong names (length t) (getD t 0 0) (getD t 1 0) (getD t 2 0) ≡ numberAmong names t
+  spelled-letters short t =
+      ⊎-elim
+      (λ (e : leb (length t) 3 ≡ true). spelled-short (length t) (getD t 0 0) (getD t 1 0) (getD t 2 0) (leb-true (length t) 3 e)
+      ∙ ap (numberAmong names) (letters-text t (leb-true (length t) 3 e)))
+      (λ (e : leb (length t) 3 ≡ false). spelled-long (length t) (getD t 0 0) (getD t 1 0) (getD t 2 0) (leb-false (length t) 3 e)
+      ∙ sym (unknown t (λ k l q. longer k l q (leb-false (length t) 3 e))))
+      (either (leb (length t) 3))
+    where
+      longer : (k : ℕ) → k < length names → t ≡ getD names k [] → 3 < length t → ⊥
+      longer k l q h = omega (arith, ap length q, short-at names short k l)
+
+-- the names of both lists are short and different: computed once
+pub kinds-short : allShort kindNames ≡ true
+unfolding allShort kindNames bytes
+kinds-short = refl
+
+pub contexts-short : allShort contextNames ≡ true
+unfolding allShort contextNames bytes
+contexts-short = refl
+
+pub kinds-own : ownNumbers kindNames ≡ true
+unfolding ownNumbers kindNames bytes numberAmong firstFrom same everyFrom
+kinds-own = refl
+
+pub contexts-own : ownNumbers contextNames ≡ true
+unfolding ownNumbers contextNames bytes numberAmong firstFrom same everyFrom
+contexts-own = refl
+
+-- what follows for kinds
+pub kind-letters : (t : List ℕ) → spelledAmong kindNames (length t) (getD t 0 0) (getD t 1 0) (getD t 2 0) ≡ kindOf t
+unfolding kindOf
+kind-letters t = spelled-letters kindNames kinds-short t
+
+pub kind-within : (t : List ℕ) → kindOf t ≤ 12
+unfolding kindOf kindNames
+kind-within t = number-within kindNames t
+
+pub kind-name : (t : List ℕ) → (kindOf t ≡ 0 → ⊥) → getD ([] ∷ kindNames) (kindOf t) [] ≡ t
+unfolding kindOf
+kind-name t h = name-of-number kindNames t h
+
+pub name-kind : (k : ℕ) → 1 ≤ k → k ≤ 12 → kindOf (getD ([] ∷ kindNames) k []) ≡ k
+unfolding kindOf kindNames
+name-kind k l u = number-of-name kindNames kinds-own k l u
+
+-- a line `A` begins a segment of its own, and that segment is of no kind: a text of known kind is no addendum's
+pub addendum-unknown : kindOf (65 ∷ []) ≡ 0
+unfolding kindOf kindNames bytes numberAmong firstFrom same
+addendum-unknown = refl
+
+pub known-no-addendum : (t : List ℕ) → (kindOf t ≡ 0 → ⊥) → t ≡ 65 ∷ [] → ⊥
+known-no-addendum t h e = h (rw e addendum-unknown)
+
+-- the same for contexts
+pub context-letters : (t : List ℕ) → spelledAmong contextNames (length t) (getD t 0 0) (getD t 1 0) (getD t 2 0) ≡ contextOf t
+unfolding contextOf
+context-letters t = spelled-letters contextNames contexts-short t
+
+pub context-within : (t : List ℕ) → contextOf t ≤ 7
+unfolding contextOf contextNames
+context-within t = number-within contextNames t
+
+pub context-name : (t : List ℕ) → (contextOf t ≡ 0 → ⊥) → getD ([] ∷ contextNames) (contextOf t) [] ≡ t
+unfolding contextOf
+context-name t h = name-of-number contextNames t h
+
+pub name-context : (k : ℕ) → 1 ≤ k → k ≤ 7 → contextOf (getD ([] ∷ contextNames) k []) ≡ k
+unfolding contextOf contextNames
+name-context k l u = number-of-name contextNames contexts-own k l u

@@ -1,0 +1,26 @@
+-- What holds of every element: of the first and of the rest, of two lists in a row, of what is left of a list, of what is made of one.
+-- Assumes nothing.
+use mathlib.Core.List.{List, [], _∷_, _++_, map}
+use Prim.Native.Nat.{ℕ, zero, suc}
+use lib.ListN.{drop}
+use Rattle.laws.specs.Every.{All, none, also}
+
+module _ {ℓ ℓ′} {A : Type ℓ} {P : A → Type ℓ′} where
+  pub all-first : {a : A} {s : List A} → All P (a ∷ s) → P a
+  all-first (also h w) = h
+
+  pub all-rest : {a : A} {s : List A} → All P (a ∷ s) → All P s
+  all-rest (also h w) = w
+
+  pub all-append : {s t : List A} → All P s → All P t → All P (s ++ t)
+  all-append none v = v
+  all-append (also h w) v = also h (all-append w v)
+
+  pub all-drop : (n : ℕ) {s : List A} → All P s → All P (drop n s)
+  all-drop zero w = w
+  all-drop (suc n) none = none
+  all-drop (suc n) (also h w) = all-drop n w
+
+  pub all-map {κ κ′} : {B : Type κ} {Q : B → Type κ′} (f : A → B) → ((a : A) → P a → Q (f a)) → {s : List A} → All P s → All Q (map f s)
+  all-map f h none = none
+  all-map f h (also {a} w ws) = also (h a w) (all-map f h ws)

@@ -1,0 +1,41 @@
+-- Lists one after the other: their length, and sums over lists.
+-- Assumes nothing.
+use mathlib.Core.Path.{_≡_, refl, ap, _∙_}
+use mathlib.Core.List.{List, [], _∷_, _++_, map, append-assoc}
+use Prim.Native.Nat.{ℕ, _+_}
+use native.Mathlib.Omega.{arith}
+use lib.ListN.{length, length-append}
+use Rattle.laws.specs.Lists.{concat}
+use Rattle.laws.specs.Sums.{sumOf}
+
+module _ {ℓ} {A : Type ℓ} where
+  pub sumOf-nil : (f : A → ℕ) → sumOf f [] ≡ 0
+  unfolding sumOf
+  sumOf-nil f = refl
+
+  pub sumOf-cons : (f : A → ℕ) (a : A) (s : List A) → sumOf f (a ∷ s) ≡ f a + sumOf f s
+  unfolding sumOf
+  sumOf-cons f a s = refl
+
+  pub sumOf-append : (f : A → ℕ) (s t : List A) → sumOf f (s ++ t) ≡ sumOf f s + sumOf f t
+  unfolding sumOf
+  sumOf-append f [] t = omega arith
+  sumOf-append f (a ∷ s) t = omega (arith, sumOf-append f s t)
+
+  pub concat-nil : concat {A = A} [] ≡ []
+  unfolding concat
+  concat-nil = refl
+
+  pub concat-cons : (s : List A) (ss : List (List A)) → concat (s ∷ ss) ≡ s ++ concat ss
+  unfolding concat
+  concat-cons s ss = refl
+
+  pub concat-append : (ss tt : List (List A)) → concat (ss ++ tt) ≡ concat ss ++ concat tt
+  unfolding concat
+  concat-append [] tt = refl
+  concat-append (s ∷ ss) tt = ap (λ (r : List A). s ++ r) (concat-append ss tt) ∙ rw (append-assoc s (concat ss) (concat tt))
+
+  pub length-concat : (ss : List (List A)) → length (concat ss) ≡ sumOf length ss
+  unfolding concat sumOf
+  length-concat [] = refl
+  length-concat (s ∷ ss) = omega (arith, length-append s (concat ss), length-concat ss)

@@ -1,0 +1,100 @@
+-- Computed tables and tests over all numbers below a bound: one test, carried to each number.
+-- Assumes nothing.
+use mathlib.Core.Bool.{Bool, true, false}
+use mathlib.Core.List.{List, [], _∷_}
+use mathlib.Core.Path.{_≡_, refl, ap, ap₂, subst, _∙_, sym}
+use Prim.Native.Nat.{ℕ, zero, suc, _+_, _-_, _≤_, _<_}
+use native.Mathlib.Nat.{add-zero, zero-add, add-suc, suc-add, le-of-suc-le-suc, not-suc-le-zero}
+use native.Mathlib.Omega.{arith}
+use borrow.Author.Tests.{eq-eqb, ne-eqb}
+use lib.Dec.{T, eqb}
+use lib.ListN.{length, getD, set, replicate}
+use Rattle.laws.specs.Tables.{values, everyFrom, below}
+use Rattle.laws.proofs.Bools.{T-true, true-T}
+
+pub length-values {ℓ} : {A : Type ℓ} (f : ℕ → A) (i n : ℕ) → length (values f i n) ≡ n
+unfolding values
+length-values f i zero = refl
+length-values f i (suc n) = ap suc (length-values f (suc i) n)
+
+-- the k-th of the values from i on
+pub getD-values {ℓ} : {A : Type ℓ} (f : ℕ → A) (i n k : ℕ) (d : A) → k < n → getD (values f i n) k d ≡ f (i + k)
+unfolding values
+getD-values f i zero k d h = absurd (not-suc-le-zero h)
+getD-values f i (suc n) zero d h = ap f (sym (add-zero i))
+getD-values f i (suc n) (suc k) d h =
+    getD-values f (suc i) n k d (le-of-suc-le-suc h) ∙ ap f (suc-add i k ∙ sym (add-suc i k))
+
+pub getD-values-zero {ℓ} : {A : Type ℓ} (f : ℕ → A) (n k : ℕ) (d : A) → k < n → getD (values f 0 n) k d ≡ f k
+getD-values-zero f n k d h = getD-values f 0 n k d h ∙ ap f (zero-add k)
+
+-- the two parts of one step of the test
+step-head : (b : Bool) (x : Bool) → T (elim b [ true ↦ x | false ↦ false ]) → T b
+step-head true x t = tt
+step-head false x t = t
+
+step-tail : (b : Bool) (x : Bool) → T (elim b [ true ↦ x | false ↦ false ]) → T x
+step-tail true x t = t
+step-tail false x t = absurd t
+
+pub everyFrom-at : (f : ℕ → Bool) (i n : ℕ) → T (everyFrom f i n) → (k : ℕ) → k < n → T (f (i + k))
+unfolding everyFrom
+everyFrom-at f i zero t k h = absurd (not-suc-le-zero h)
+everyFrom-at f i (suc n) t zero h =
+    subst (λ (m : ℕ). T (f m)) (sym (add-zero i)) (step-head (f i) (everyFrom f (suc i) n) t)
+everyFrom-at f i (suc n) t (suc k) h =
+    subst (λ (m : ℕ). T (f m)) (suc-add i k ∙ sym (add-suc i k))
+    (everyFrom-at f (suc i) n (step-tail (f i) (everyFrom f (suc i) n) t) k (le-of-suc-le-suc h))
+
+-- one test over all numbers below n, at each of them
+pub at : (n : ℕ) (f : ℕ → Bool) → T (below n f) → (k : ℕ) → k < n → T (f k)
+at n f t k h = subst (λ (m : ℕ). T (f m)) (zero-add k) (everyFrom-at f 0 n t k h)
+
+-- two tables are the same where their functions are
+pub values-same {ℓ} : {A : Type ℓ} (f g : ℕ → A) (i n : ℕ) → ((k : ℕ) → i ≤ k → k < i + n → f k ≡ g k) → values f i n ≡ values g i n
+unfolding values
+values-same f g i zero e = refl
+values-same f g i (suc n) e =
+    ap₂ (λ a s. a ∷ s) (e i (omega arith) (omega arith)) (values-same f g (suc i) n (λ k low high. e k (omega arith) (omega arith)))
+
+-- the function that is v at k, and else f
+abbrev pub changed {ℓ} : {A : Type ℓ} → (ℕ → A) → ℕ → A → ℕ → A
+changed f k v m = elim (eqb m k) [ true ↦ v | false ↦ f m ]
+
+pub changed-here {ℓ} : {A : Type ℓ} (f : ℕ → A) (k : ℕ) (v : A) (m : ℕ) → m ≡ k → changed f k v m ≡ v
+changed-here f k v m e = ap (λ (b : Bool). elim b [ true ↦ v | false ↦ f m ]) (eq-eqb m k e)
+
+pub changed-other {ℓ} : {A : Type ℓ} (f : ℕ → A) (k : ℕ) (v : A) (m : ℕ) → (m ≡ k → ⊥) → changed f k v m ≡ f m
+changed-other f k v m e = ap (λ (b : Bool). elim b [ true ↦ v | false ↦ f m ]) (ne-eqb m k e)
+
+-- a store into a table changes its function
+pub set-values {ℓ} : {A : Type ℓ} (f : ℕ → A) (i n k : ℕ) (v : A) → set (values f i n) k v ≡ values (changed f (i + k) v) i n
+unfolding values
+set-values f i zero k v = refl
+set-values f i (suc n) zero v =
+    ap₂ (λ a s. a ∷ s) (sym (changed-here f (i + 0) v i (omega arith)))
+    (values-same f (changed f (i + 0) v) (suc i) n (λ m low high. sym (changed-other f (i + 0) v m (λ e. omega arith))))
+set-values f i (suc n) (suc k) v =
+    ap₂ (λ a s. a ∷ s) (sym (changed-other f (i + suc k) v i (λ e. omega arith)))
+    (set-values f (suc i) n k v ∙ ap (λ (m : ℕ). values (changed f m v) (suc i) n) (omega arith))
+
+-- a repeated value as a table
+pub replicate-values {ℓ} : {A : Type ℓ} (a : A) (i n : ℕ) → replicate n a ≡ values (λ (k : ℕ). a) i n
+unfolding values
+replicate-values a i zero = refl
+replicate-values a i (suc n) = ap (λ s. a ∷ s) (replicate-values a (suc i) n)
+
+-- a table from one further on; two tables whose functions agree everywhere
+pub values-later {ℓ} : {A : Type ℓ} (f : ℕ → A) (i n : ℕ) → values f (suc i) n ≡ values (λ k. f (suc k)) i n
+unfolding values
+values-later f i zero = refl
+values-later {A} f i (suc n) = ap {B = List A} (λ r. f (suc i) ∷ r) (values-later f (suc i) n)
+
+pub values-as {ℓ} : {A : Type ℓ} (f g : ℕ → A) → ((k : ℕ) → f k ≡ g k) → (i n : ℕ) → values f i n ≡ values g i n
+values-as f g h i n = values-same f g i n (λ k low high. h k)
+
+-- the same test, as an equation
+pub every-at : (f : ℕ → Bool) (i n : ℕ) → everyFrom f i n ≡ true → (k : ℕ) → i ≤ k → k < i + n → f k ≡ true
+every-at f i n e k low high =
+    subst (λ (m : ℕ). f m ≡ true) (omega arith)
+    (T-true (f (i + (k - i))) (everyFrom-at f i n (true-T (everyFrom f i n) e) (k - i) (omega arith)))

@@ -1,0 +1,45 @@
+-- Tests: what an `&&` that holds says, and the two cases of a test.
+-- Assumes nothing.
+use mathlib.Core.Bool.{Bool, true, false, not, _&&_, false≢true}
+use mathlib.Core.Logic.{_⊎_, inl, inr}
+use mathlib.Core.Path.{_≡_, refl, sym, _∙_}
+
+-- a test holds or fails
+pub either : (t : Bool) → (t ≡ true) ⊎ (t ≡ false)
+either true = inl refl
+either false = inr refl
+
+-- a test, with what it came to
+pub data Tested (t : Bool) : Type 0 where
+  passed : t ≡ true → Tested t
+  failed : t ≡ false → Tested t
+
+pub tested : (t : Bool) → Tested t
+tested true = passed refl
+tested false = failed refl
+
+-- no test does both
+pub never-both : {t : Bool} → t ≡ true → t ≡ false → ⊥
+never-both h k = false≢true (sym k ∙ h)
+
+pub and-first : (s t : Bool) → (s && t) ≡ true → s ≡ true
+and-first true t h = refl
+and-first false t h = h
+
+pub and-second : (s t : Bool) → (s && t) ≡ true → t ≡ true
+and-second true t h = h
+and-second false t h = absurd (false≢true h)
+
+pub and-both : {s t : Bool} → s ≡ true → t ≡ true → (s && t) ≡ true
+and-both h k = rw (h, k)
+
+-- what fails on the left, or on the right
+pub and-fails-first : {s : Bool} (t : Bool) → s ≡ false → (s && t) ≡ false
+and-fails-first t h = rw h
+
+pub and-fails-second : (s : Bool) {t : Bool} → t ≡ false → (s && t) ≡ false
+and-fails-second true h = h
+and-fails-second false h = refl
+
+pub not-holds : (t : Bool) → t ≡ false → not t ≡ true
+not-holds t h = rw h
