@@ -1,11 +1,10 @@
 -- Names and their numbers: laws of any list of names, and what they say of the twelve kinds and the seven contexts.
 -- Assumes nothing.
-use mathlib.Core.Bool.{Bool, true, false, _&&_}
+use mathlib.Core.Bool.{Bool, true, false}
 use mathlib.Core.List.{List, [], _∷_}
 use mathlib.Core.Logic.{⊎-elim}
-use mathlib.Core.Path.{_≡_, refl, sym, ap, _∙_}
-use Prim.Native.Nat.{ℕ, zero, suc, _≤_, _<_}
-use native.Mathlib.Nat.{le-of-suc-le-suc, not-suc-le-zero}
+use mathlib.Core.Path.{_≡_, refl, sym, ap, subst⁻¹, _∙_}
+use Prim.Native.Nat.{ℕ, _≤_, _<_}
 use native.Mathlib.Numerals.{one-add}
 use native.Mathlib.Omega.{arith}
 use lib.Dec.{leb, eqb}
@@ -14,25 +13,27 @@ use borrow.Author.Tests.{leb-true, leb-false, eqb-true, eqb-false, le-leb, lt-le
 use Rattle.laws.specs.Lists.{same, firstFrom}
 use Rattle.laws.specs.Tables.{everyFrom}
 use Rattle.laws.specs.Texts.{bytes}
-use Rattle.laws.proofs.Lists.{same-self, same-equal, different-same, Found, first-none, first-some, first-found}
+use Rattle.laws.proofs.Lists.{every, every-element, same-self, same-equal, different-same, Found, first-none, first-some, first-found}
 use Rattle.laws.proofs.Tables.{every-at}
-use Rattle.laws.proofs.Tests.{either, and-first, and-second}
+use Rattle.laws.proofs.Tests.{either}
+use Rattle.form.specs.Header.{within}
+use Rattle.form.proofs.HeaderRule.{within-bounds}
 use Rattle.form.specs.Names.{kindNames, contextNames, numberAmong, kindOf, contextOf, spelledAmong}
 
--- whether no name has more than three letters
-unfoldable pub allShort : List (List ℕ) → Bool
-allShort [] = true
-allShort (t ∷ names) = leb (length t) 3 && allShort names
+-- whether a text has at most three letters, and whether it has capital letters alone
+unfoldable pub short : List ℕ → Bool
+short t = leb (length t) 3
+
+unfoldable pub capitals : List ℕ → Bool
+capitals t = every (within 65 90) t
 
 -- whether each name has its own number, counted from 1: no name stands twice
 unfoldable pub ownNumbers : List (List ℕ) → Bool
 ownNumbers names = everyFrom (λ k. eqb (numberAmong names (getD ([] ∷ names) k [])) k) 1 (length names)
 
-short-at : (names : List (List ℕ)) → allShort names ≡ true → (k : ℕ) → k < length names → length (getD names k []) ≤ 3
-unfolding allShort
-short-at [] h k l = absurd (not-suc-le-zero l)
-short-at (t ∷ names) h zero l = leb-true (length t) 3 (and-first (leb (length t) 3) (allShort names) h)
-short-at (t ∷ names) h (suc k) l = short-at names (and-second (leb (length t) 3) (allShort names) h) k (le-of-suc-le-suc l)
+short-length : (t : List ℕ) → short t ≡ true → length t ≤ 3
+unfolding short
+short-length t h = leb-true (length t) 3 h
 
 -- the letters of a text of at most three are the text
 letters-text : (t : List ℕ) → length t ≤ 3 → take (length t) (getD t 0 0 ∷ getD t 1 0 ∷ getD t 2 0 ∷ []) ≡ t
@@ -62,6 +63,12 @@ module _ (names : List (List ℕ)) where
   known-one t h =
       let w = first-found (same t) [] 1 names h in
       (w .place, w .inside, same-equal t (getD names (w .place) []) (w .passes))
+
+  -- and what every name passes, it passes
+  pub known-passes : (f : List ℕ → Bool) → every f names ≡ true → (t : List ℕ) → (numberAmong names t ≡ 0 → ⊥) → f t ≡ true
+  known-passes f h t known =
+      let w = known-one t known in
+      subst⁻¹ (λ (u : List ℕ). f u ≡ true) (w .2) (every-element f names [] h (w .0) (w .1))
 
   -- a text that has a number is the name of that number, and the number counts the names
   pub name-of-number : (t : List ℕ) → (numberAmong names t ≡ 0 → ⊥) → getD ([] ∷ names) (numberAmong names t) [] ≡ t
@@ -104,9 +111,9 @@ module _ (names : List (List ℕ)) where
   spelled-long n a b c h = rw (lt-leb n 3 h, spelledAmong)
 
   -- it is known so, where no name has more than three letters
-  pub spelled-letters : allShort names ≡ true → (t : List ℕ)
+  pub spelled-letters : every short names ≡ true → (t : List ℕ)
       → spelledAmong names (length t) (getD t 0 0) (getD t 1 0) (getD t 2 0) ≡ numberAmong names t
-  spelled-letters short t =
+  spelled-letters all-short t =
       ⊎-elim
       (λ (e : leb (length t) 3 ≡ true). spelled-short (length t) (getD t 0 0) (getD t 1 0) (getD t 2 0) (leb-true (length t) 3 e)
       ∙ ap (numberAmong names) (letters-text t (leb-true (length t) 3 e)))
@@ -115,15 +122,15 @@ module _ (names : List (List ℕ)) where
       (either (leb (length t) 3))
     where
       longer : (k : ℕ) → k < length names → t ≡ getD names k [] → 3 < length t → ⊥
-      longer k l q h = omega (arith, ap length q, short-at names short k l)
+      longer k l q h = omega (arith, ap length q, short-length (getD names k []) (every-element short names [] all-short k l))
 
 -- the names of both lists are short and different: computed once
-pub kinds-short : allShort kindNames ≡ true
-unfolding allShort kindNames bytes
+pub kinds-short : every short kindNames ≡ true
+unfolding every short kindNames bytes
 kinds-short = refl
 
-pub contexts-short : allShort contextNames ≡ true
-unfolding allShort contextNames bytes
+pub contexts-short : every short contextNames ≡ true
+unfolding every short contextNames bytes
 contexts-short = refl
 
 pub kinds-own : ownNumbers kindNames ≡ true
@@ -133,6 +140,15 @@ kinds-own = refl
 pub contexts-own : ownNumbers contextNames ≡ true
 unfolding ownNumbers contextNames bytes numberAmong firstFrom same everyFrom
 contexts-own = refl
+
+pub kinds-capitals : every capitals kindNames ≡ true
+unfolding every capitals within kindNames bytes
+kinds-capitals = refl
+
+-- a capital letter at each place: a kind's name holds neither a separator nor a byte below 32
+pub capital-at : (t : List ℕ) → capitals t ≡ true → (i : ℕ) → i < length t → (65 ≤ getD t i 0) × (getD t i 0 ≤ 90)
+unfolding capitals
+capital-at t h i l = within-bounds 65 90 (getD t i 0) (every-element (within 65 90) t 0 h i l)
 
 -- what follows for kinds
 pub kind-letters : (t : List ℕ) → spelledAmong kindNames (length t) (getD t 0 0) (getD t 1 0) (getD t 2 0) ≡ kindOf t
@@ -146,6 +162,14 @@ kind-within t = number-within kindNames t
 pub kind-name : (t : List ℕ) → (kindOf t ≡ 0 → ⊥) → getD ([] ∷ kindNames) (kindOf t) [] ≡ t
 unfolding kindOf
 kind-name t h = name-of-number kindNames t h
+
+pub kind-short : (t : List ℕ) → (kindOf t ≡ 0 → ⊥) → length t ≤ 3
+unfolding kindOf
+kind-short t h = short-length t (known-passes kindNames short kinds-short t h)
+
+pub kind-capital : (t : List ℕ) → (kindOf t ≡ 0 → ⊥) → (i : ℕ) → i < length t → (65 ≤ getD t i 0) × (getD t i 0 ≤ 90)
+unfolding kindOf
+kind-capital t h = capital-at t (known-passes kindNames capitals kinds-capitals t h)
 
 pub name-kind : (k : ℕ) → 1 ≤ k → k ≤ 12 → kindOf (getD ([] ∷ kindNames) k []) ≡ k
 unfolding kindOf kindNames

@@ -11,8 +11,8 @@ use lib.ListN.{length, getD, take}
 use lib.Seq.{length-take-le, take-append-seam, getD-append-seam}
 use borrow.Author.Tests.{eqb-true, eqb-false, eq-eqb, leb-true, leb-false}
 use Rattle.laws.specs.Lists.{same, among}
-use Rattle.laws.proofs.Lists.{same-self, Absent, Absent.nowhere, Absent.past, absent-among, among-first, among-later}
-use Rattle.laws.proofs.Tests.{either, never-both, and-first, and-second, and-both}
+use Rattle.laws.proofs.Lists.{every, every-element, same-self, Absent, Absent.nowhere, Absent.past, absent-among, among-first, among-later}
+use Rattle.laws.proofs.Tests.{either, never-both, and-both}
 use Rattle.form.specs.Names.{numberAmong, spelledAmong}
 use Rattle.form.proofs.Names.{unknown, spelled-short, spelled-long}
 
@@ -68,24 +68,16 @@ module _ (names : List (List ℕ)) (a b c n : ℕ)
       (λ (e : eqb y b ≡ false). rw (q, e) (no-name (a ∷ []) y (z ∷ []) names (rw second (past (eqb-false y b e) nowhere))))
       (either (eqb y b))
 
--- whether each name's length is one of these
-unfoldable pub lengthsAmong : List ℕ → List (List ℕ) → Bool
-lengthsAmong lengths [] = true
-lengthsAmong lengths (t ∷ names) = among lengths (length t) && lengthsAmong lengths names
+-- whether a name's length is one of these
+unfoldable pub lengthAmong : List ℕ → List ℕ → Bool
+lengthAmong lengths t = among lengths (length t)
 
-length-at : (lengths : List ℕ) (names : List (List ℕ)) → lengthsAmong lengths names ≡ true → (k : ℕ) → k < length names
-    → among lengths (length (getD names k [])) ≡ true
-unfolding lengthsAmong
-length-at lengths [] h k l = absurd (not-suc-le-zero l)
-length-at lengths (t ∷ names) h zero l = and-first (among lengths (length t)) (lengthsAmong lengths names) h
-length-at lengths (t ∷ names) h (suc k) l =
-    length-at lengths names (and-second (among lengths (length t)) (lengthsAmong lengths names) h) k (le-of-suc-le-suc l)
-
--- so a text of another length is no name
-module _ (names : List (List ℕ)) (lengths : List ℕ) (each : lengthsAmong lengths names ≡ true) where
+-- where every name's is, a text of another length is no name
+module _ (names : List (List ℕ)) (lengths : List ℕ) (each : every (lengthAmong lengths) names ≡ true) where
   other-length : (t : List ℕ) → Absent (length t) lengths → numberAmong names t ≡ 0
+  unfolding lengthAmong
   other-length t h =
-      unknown names t (λ k l e. never-both (rw e (length-at lengths names each k l)) (absent-among h))
+      unknown names t (λ k l e. never-both (rw e (every-element (lengthAmong lengths) names [] each k l)) (absent-among h))
 
   pub no-length : (n a b c : ℕ) → Absent n lengths → spelledAmong names n a b c ≡ 0
   no-length n a b c h =

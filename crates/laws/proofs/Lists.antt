@@ -1,6 +1,6 @@
 -- Laws of the small functions on lists: `same` tells equality, `among` membership, `count` counts, `numbered` gathers, `firstFrom` finds the first.
 -- Assumes nothing.
-use mathlib.Core.Bool.{Bool, true, false}
+use mathlib.Core.Bool.{Bool, true, false, _&&_}
 use mathlib.Core.List.{List, [], _∷_, _++_, map}
 use mathlib.Core.Logic.{⊎-elim}
 use mathlib.Core.Path.{_≡_, refl, sym, ap, ap₂, _∙_}
@@ -114,6 +114,17 @@ module _ {ℓ ℓ′} {A : Type ℓ} {B : Type ℓ′} where
   unfolding numbered
   numbered-as f g h n [] = refl
   numbered-as f g h n (a ∷ s) = ap₂ (λ (x y : List B). x ++ y) (h n a) (numbered-as f g h (suc n) s)
+
+-- whether every element passes a test, and that each of them does
+unfoldable pub every {ℓ} : {A : Type ℓ} → (A → Bool) → List A → Bool
+every f [] = true
+every f (a ∷ s) = f a && every f s
+
+pub every-element {ℓ} : {A : Type ℓ} (f : A → Bool) (s : List A) (d : A) → every f s ≡ true → (k : ℕ) → k < length s → f (getD s k d) ≡ true
+unfolding every
+every-element f [] d h k l = absurd (not-suc-le-zero l)
+every-element f (a ∷ s) d h zero l = and-first (f a) (every f s) h
+every-element f (a ∷ s) d h (suc k) l = every-element f s d (and-second (f a) (every f s) h) k (le-of-suc-le-suc l)
 
 -- what `firstFrom` finds of the list s, counted from n
 pub record Found {ℓ} {A : Type ℓ} (p : A → Bool) (d : A) (n : ℕ) (s : List A) : Type 0 where

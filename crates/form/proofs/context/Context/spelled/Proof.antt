@@ -5,9 +5,9 @@ use mathlib.Core.Path.{refl, sym}
 use borrow.Author.Needs.{needs}
 use Rattle.laws.specs.Lists.{among}
 use Rattle.laws.specs.Texts.{bytes}
-use Rattle.laws.proofs.Lists.{Absent.nowhere, Absent.past}
+use Rattle.laws.proofs.Lists.{every, Absent.nowhere, Absent.past}
 use Rattle.form.specs.Names.{contextNames, contextOf, spelledAmong}
-use Rattle.form.proofs.Spelling.{lengthsAmong, no-length}
+use Rattle.form.proofs.Spelling.{lengthAmong, no-length}
 use Rattle.form.proofs.context.Context.spelled.Statement.{statement}
 use Rattle.form.proofs.context.Context.spelled.Tie as tie
 
@@ -19,7 +19,7 @@ unfolding spelledAmong contextOf
 returns c = rw (c .before .if1 .taken) (c .three-letters .ensures)
 
 returns-2 : tie.Need-returns-2
-unfolding lengthsAmong contextNames bytes among
+unfolding every lengthAmong contextNames bytes among
 returns-2 c =
     let known = c .before .args in
     sym

@@ -5,9 +5,9 @@ use mathlib.Core.Path.{refl, sym}
 use borrow.Author.Needs.{needs}
 use Rattle.laws.specs.Lists.{among}
 use Rattle.laws.specs.Texts.{bytes}
-use Rattle.laws.proofs.Lists.{Absent.nowhere, Absent.past}
+use Rattle.laws.proofs.Lists.{every, Absent.nowhere, Absent.past}
 use Rattle.form.specs.Names.{kindNames, kindOf, spelledAmong}
-use Rattle.form.proofs.Spelling.{lengthsAmong, no-length}
+use Rattle.form.proofs.Spelling.{lengthAmong, no-length}
 use Rattle.form.proofs.kind.Kind.spelled.Statement.{statement}
 use Rattle.form.proofs.kind.Kind.spelled.Tie as tie
 
@@ -33,7 +33,7 @@ unfolding spelledAmong kindOf
 returns-3 c = rw (c .before .match .keys3) (c .three-letters .ensures)
 
 returns-4 : tie.Need-returns-4
-unfolding lengthsAmong kindNames bytes among
+unfolding every lengthAmong kindNames bytes among
 returns-4 c =
     let no = c .match .rest in
     let known = c .before .args in
