@@ -2,3 +2,4 @@ pub mod HeaderRule
 pub mod LineCount
 pub mod Names
 pub mod Spelling
+pub mod RoundedUp

@@ -179,3 +179,33 @@ module _ {ℓ} {A : Type ℓ} (p : A → Bool) where
       (λ (y : p a ≡ true). record { place = 0; number = first-hit n a s y ∙ sym (add-zero n); inside = suc-le-suc zero-le; passes = y })
       (λ (f : p a ≡ false). found-later n a s f (first-found d (suc n) s (λ e. h (first-miss n a s f ∙ e))))
       (either (p a))
+
+  -- no number passes those of the list
+  pub first-within : (n : ℕ) (s : List A) → firstFrom p (suc n) s ≤ n + length s
+  unfolding firstFrom
+  first-within n [] = zero-le
+  first-within n (a ∷ s) =
+      let rest : firstFrom p (suc (suc n)) s ≤ suc n + length s = first-within (suc n) s in
+      ⊎-elim
+      (λ (y : p a ≡ true). omega (arith, first-hit (suc n) a s y))
+      (λ (f : p a ≡ false). omega (arith, first-miss (suc n) a s f))
+      (either (p a))
+
+-- the first element that equals b: none where b is not among the list, one where it is
+pub first-not-among : (b n : ℕ) (s : List ℕ) → among s b ≡ false → firstFrom (eqb b) n s ≡ 0
+unfolding among firstFrom
+first-not-among b n [] h = refl
+first-not-among b n (a ∷ s) h =
+    ⊎-elim
+    (λ (y : eqb b a ≡ true). absurd (never-both (rw (y, among)) h))
+    (λ (f : eqb b a ≡ false). first-miss (eqb b) n a s f ∙ first-not-among b (suc n) s (rw (f, among) at h))
+    (either (eqb b a))
+
+pub first-among : (b n : ℕ) (s : List ℕ) → among s b ≡ true → n ≤ firstFrom (eqb b) n s
+unfolding among firstFrom
+first-among b n [] h = absurd (never-both h refl)
+first-among b n (a ∷ s) h =
+    ⊎-elim
+    (λ (y : eqb b a ≡ true). omega (arith, first-hit (eqb b) n a s y))
+    (λ (f : eqb b a ≡ false). omega (arith, first-miss (eqb b) n a s f, first-among b (suc n) s (rw (f, among) at h)))
+    (either (eqb b a))

@@ -1,3 +1,6 @@
 pub mod Lines
 pub mod Joining
 pub mod Cutting
+pub mod Sound
+pub mod Finding
+pub mod Going

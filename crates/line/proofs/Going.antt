@@ -1,0 +1,107 @@
+-- Going on: a walk that was opened and went on k times stands at the k-th line of the message, and then at its end or fault for ever.
+-- Assumes nothing.
+use mathlib.Core.Path.{_≡_, refl, sym, ap, ap₂, _∙_}
+use mathlib.Core.List.{List}
+use Prim.Native.Nat.{ℕ, zero, suc, _+_, _≤_}
+use native.Mathlib.Nat.{suc-add, zero-add}
+use native.Mathlib.Omega.{arith}
+use lib.Dec.{lit≤}
+use lib.ListN.{drop}
+use denote.Ref.{RefT, now}
+use Rattle.form.specs.declared.limits.Limits.{Limits}
+use Rattle.form.specs.Limits.{form}
+use Rattle.line.specs.Lines.{Lines, end, fault, line, walkFrom, walk}
+use Rattle.line.specs.Finding.{foundAt, handedOut, partOf, nextOf}
+use Rattle.line.specs.Going.{walkAfter, placeAfter, after}
+use Rattle.line.specs.declared.finder.Found.{Found}
+use Rattle.line.specs.declared.finder.Found.the-variants.{Line, End, Fault}
+use Rattle.line.proofs.Handing.{walkFrom-found}
+
+-- one line more
+pub after-suc : (k : ℕ) (ls : Lines) → after (suc k) ls ≡ after 1 (after k ls)
+unfolding after
+after-suc zero ls = refl
+after-suc (suc k) end = refl
+after-suc (suc k) (fault n p) = refl
+after-suc (suc k) (line t ls) = after-suc k ls
+
+module _ (L : Limits) (m : List ℕ) where
+  -- what is found at a place tells the walk from the next place
+  next-walked :
+      (at : ℕ) (f : Found)
+      → walkFrom L at (drop at m) ≡ handedOut L m at f
+      → walkFrom L (nextOf at f) (drop (nextOf at f) m) ≡ after 1 (walkFrom L at (drop at m))
+  unfolding handedOut nextOf after
+  next-walked at (Line e n) h = sym (ap (after 1) h)
+  next-walked at End h = h ∙ sym (ap (after 1) h)
+  next-walked at (Fault n p) h = h ∙ sym (ap (after 1) h)
+
+  -- what a found thing hands out shows what it is
+  handed-end : (at : ℕ) (f : Found) → handedOut L m at f ≡ end → f ≡ End
+  unfolding handedOut
+  handed-end at (Line e n) h = let z : _≡_ {A = ℕ} 0 1 = cc in absurd (omega arith)
+  handed-end at End h = refl
+  handed-end at (Fault n p) h = let z : _≡_ {A = ℕ} 0 1 = cc in absurd (omega arith)
+
+  handed-fault : (at : ℕ) (f : Found) (n p : ℕ) → handedOut L m at f ≡ fault n p → f ≡ Fault n p
+  unfolding handedOut
+  handed-fault at (Line e k) n p h = let z : _≡_ {A = ℕ} 0 1 = cc in absurd (omega arith)
+  handed-fault at End n p h = let z : _≡_ {A = ℕ} 0 1 = cc in absurd (omega arith)
+  handed-fault at (Fault k r) n p h = let a : k ≡ n = cc in let b : r ≡ p = cc in ap₂ Fault a b
+
+  handed-line : (at : ℕ) (f : Found) (t : List ℕ) (ls : Lines) → handedOut L m at f ≡ line t ls → partOf m at f ≡ t
+  unfolding handedOut partOf
+  handed-line at (Line e k) t ls h = cc
+  handed-line at End t ls h = let z : _≡_ {A = ℕ} 0 1 = cc in absurd (omega arith)
+  handed-line at (Fault k r) t ls h = let z : _≡_ {A = ℕ} 0 1 = cc in absurd (omega arith)
+
+  module _ (one : 1 ≤ L .line) where
+    -- a walk that went on k times has the lines after the first k before it
+    pub going-on : (k : ℕ) → walkFrom L (placeAfter L m k) (drop (placeAfter L m k) m) ≡ after k (walk L m)
+    unfolding placeAfter after walk
+    going-on zero = refl
+    going-on (suc k) =
+        next-walked (placeAfter L m k) (foundAt L m (placeAfter L m k)) (walkFrom-found m (placeAfter L m k) L one)
+        ∙ ap (after 1) (going-on k)
+        ∙ sym (after-suc k (walk L m))
+
+    -- so what is found there is the k-th line, the end or the fault
+    pub handed-after : (k : ℕ) → handedOut L m (placeAfter L m k) (foundAt L m (placeAfter L m k)) ≡ after k (walk L m)
+    handed-after k = sym (walkFrom-found m (placeAfter L m k) L one) ∙ going-on k
+
+    pub found-after-end : (k : ℕ) → after k (walk L m) ≡ end → foundAt L m (placeAfter L m k) ≡ End
+    found-after-end k h = handed-end (placeAfter L m k) (foundAt L m (placeAfter L m k)) (handed-after k ∙ h)
+
+    pub found-after-fault : (k n p : ℕ) → after k (walk L m) ≡ fault n p → foundAt L m (placeAfter L m k) ≡ Fault n p
+    found-after-fault k n p h = handed-fault (placeAfter L m k) (foundAt L m (placeAfter L m k)) n p (handed-after k ∙ h)
+
+    pub part-after-line : (k : ℕ) (t : List ℕ) (ls : Lines) → after k (walk L m) ≡ line t ls → partOf m (placeAfter L m k) (foundAt L m (placeAfter L m k)) ≡ t
+    part-after-line k t ls h = handed-line (placeAfter L m k) (foundAt L m (placeAfter L m k)) t ls (handed-after k ∙ h)
+
+  -- at an end or a fault the place stays, for ever
+  pub stays : (k j : ℕ) → nextOf (placeAfter L m k) (foundAt L m (placeAfter L m k)) ≡ placeAfter L m k → placeAfter L m (j + k) ≡ placeAfter L m k
+  unfolding placeAfter
+  stays k zero h = rw (zero-add k)
+  stays k (suc j) h =
+      ap (placeAfter L m) (suc-add j k) ∙ ap (λ (p : ℕ). nextOf p (foundAt L m p)) (stays k j h) ∙ h
+
+-- The walk that `open` and then k times `go_on` hand out, by their contracts.
+module _ (s : RefT (List ℕ)) where
+  pub walkAfter-message : (k : ℕ) → walkAfter s k .message ≡ s
+  unfolding walkAfter
+  walkAfter-message zero = refl
+  walkAfter-message (suc k) = walkAfter-message k
+
+  pub walkAfter-place : (k : ℕ) → walkAfter s k .at ≡ placeAfter form (now s) k
+  unfolding walkAfter placeAfter
+  walkAfter-place zero = refl
+  walkAfter-place (suc k) =
+      ap₂ (λ (x : RefT (List ℕ)) (p : ℕ). nextOf p (foundAt form (now x) p)) (walkAfter-message k) (walkAfter-place k)
+
+  -- Opening and going on k times gives the k-th line of the message, and then its end or fault for ever: `look` and `part` answer so.
+  pub walkAfter-lines :
+      (k : ℕ)
+      → handedOut form (now s) (walkAfter s k .at) (foundAt form (now (walkAfter s k .message)) (walkAfter s k .at)) ≡ after k (walk form (now s))
+  walkAfter-lines k =
+      ap₂ (λ (x : RefT (List ℕ)) (p : ℕ). handedOut form (now s) p (foundAt form (now x) p)) (walkAfter-message k) (walkAfter-place k)
+      ∙ handed-after form (now s) (lit≤ tt) k

@@ -1,0 +1,10 @@
+pub mod Joining
+pub mod Cutting
+pub mod Steps
+pub mod Walking
+pub mod Fewest
+pub mod Runs
+pub mod Finding
+pub mod Handing
+pub mod Going
+pub mod Written

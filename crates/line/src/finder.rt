@@ -1,0 +1,132 @@
+// Where the line lies that begins at a place of a message.
+use form::limits::Form;
+use form::number::Number;
+ghost use mathlib.Core.Path.{_≡_};
+ghost use Prim.Native.Nat.{_+_, _-_, _≤_, min};
+ghost use lib.ListN.{length, drop};
+ghost use Rattle.form.specs.Limits.{form};
+ghost use Rattle.line.specs.Finding.{textRun, lowRun, foundFrom, foundAt, nextOf, partOf};
+
+// CR ends a line.
+const CR: u8 = 13;
+
+// Bytes below this are no text.
+const SPACE: u8 = 32;
+
+// What stands at a place where a line may begin.
+pub enum Found {
+    // the place of its CR, and the place after the bytes below 32 that follow
+    Line { end: usize, next: usize },
+    // at or past the last byte
+    End,
+    // 4, 5 or 6 of the numbers that come back, and its place in the message
+    Fault { number: u8, place: usize },
+}
+
+// By the rule of a message that begins there: a first byte below 32, CR too, is the fault 4. For any place of any message.
+pub fn line_at(message: &[u8], at: usize) -> Found
+    ensures { λ r. ⌜ r ≡ foundAt form (now (message .entry)) at ⌝ }
+{
+    find_line(Form::LINE, message, at)
+}
+
+// The same for lines of any number of bytes.
+fn find_line(line: usize, message: &[u8], at: usize) -> Found
+    ensures { λ r. ⌜ r ≡ foundFrom line at (drop at (now (message .entry))) ⌝ }
+{
+    if message.len() <= at {
+        return Found::End;
+    }
+    let stop = text_stop(line, at, message.len());
+    let end = text_end(message, at, stop);
+    if message.len() <= end {
+        return Found::Fault {
+            number: Number::OPEN_LINE,
+            place: end,
+        };
+    }
+    let b = message[end];
+    if SPACE <= b {
+        return Found::Fault {
+            number: Number::LONG_LINE,
+            place: end,
+        };
+    }
+    if b == CR {
+        if at < end {
+            return Found::Line {
+                end,
+                next: low_end(message, end + 1),
+            };
+        }
+    }
+    Found::Fault {
+        number: Number::CONTROL_BYTE,
+        place: end,
+    }
+}
+
+// The last place where the CR of a line that begins at `at` may stand, or the message's end where that comes first.
+fn text_stop(line: usize, at: usize, end: usize) -> usize
+    requires { ⌜ at ≤ end ⌝ }
+    ensures { λ r. ⌜ r ≡ at + min line (end - at) ⌝ }
+{
+    if line < end - at { at + line } else { end }
+}
+
+// Where the text ends that begins at `from`, and `stop` where it goes on up to there.
+fn text_end(message: &[u8], from: usize, stop: usize) -> usize
+    requires { ⌜ (from ≤ stop) × (stop ≤ length (now message)) ⌝ }
+    ensures { λ r. ⌜ r ≡ from + min (stop - from) (textRun (drop from (now (message .entry)))) ⌝ }
+{
+    let mut i = from;
+    while i < stop {
+        if message[i] < SPACE {
+            return i;
+        }
+        i += 1;
+    }
+    stop
+}
+
+// Where the bytes below 32 end that begin at `from`.
+fn low_end(message: &[u8], from: usize) -> usize
+    ensures { λ r. ⌜ r ≡ from + lowRun (drop from (now (message .entry))) ⌝ }
+{
+    let mut i = from;
+    while i < message.len() {
+        if SPACE <= message[i] {
+            return i;
+        }
+        i += 1;
+    }
+    i
+}
+
+// The place of the next line, and `at` itself where there is an end or a fault.
+pub fn next_place(message: &[u8], at: usize) -> usize
+    ensures { λ r. ⌜ r ≡ nextOf at (foundAt form (now (message .entry)) at) ⌝ }
+{
+    match line_at(message, at) {
+        Found::Line { end: _, next } => next,
+        Found::End => at,
+        Found::Fault {
+            number: _,
+            place: _,
+        } => at,
+    }
+}
+
+// The part of the message that is the line at a place, without its CR, and an empty part where there is an end or a fault.
+pub fn line_part(message: &[u8], at: usize) -> &[u8]
+    ensures { λ r. ⌜ now r ≡ partOf (now (message .entry)) at (foundAt form (now (message .entry)) at) ⌝ }
+{
+    match line_at(message, at) {
+        Found::Line { end, next: _ } => &message[at..end],
+        Found::End => &message[..0],
+        Found::Fault {
+            number: _,
+            place: _,
+        } => &message[..0],
+    }
+}

@@ -1,0 +1,47 @@
+// The line walk: a screen opens it over a lent message of any length and asks for one line at a time.
+use crate::finder::Found;
+use crate::finder::line_at;
+use crate::finder::line_part;
+use crate::finder::next_place;
+ghost use mathlib.Core.Path.{_≡_};
+ghost use Rattle.form.specs.Limits.{form};
+ghost use Rattle.line.specs.Finding.{foundAt, partOf};
+ghost use Rattle.line.specs.Going.{opened, goneOn};
+
+// The message, and the place in it that the walk has come to.
+pub struct Walk<'a> {
+    pub message: &'a [u8],
+    pub at: usize,
+}
+
+// A walk that stands at the message's first line.
+pub fn open<'a>(message: &'a [u8]) -> Walk<'a>
+    ensures { λ r. ⌜ r ≡ opened (message .entry) ⌝ }
+{
+    Walk { message, at: 0 }
+}
+
+// Where the line lies that the walk stands at, the end, or the fault with its number and place.
+pub fn look<'a>(walk: Walk<'a>) -> Found
+    ensures { λ r. ⌜ r ≡ foundAt form (now (walk .entry .message)) (walk .entry .at) ⌝ }
+{
+    line_at(walk.message, walk.at)
+}
+
+// The line itself, without its CR; an empty part at the end or a fault.
+pub fn part<'a>(walk: Walk<'a>) -> &'a [u8]
+    ensures { λ r. ⌜ now r ≡ partOf (now (walk .entry .message)) (walk .entry .at) (foundAt form (now (walk .entry .message)) (walk .entry .at)) ⌝ }
+{
+    line_part(walk.message, walk.at)
+}
+
+// The walk at the next line. At an end or a fault it stays, so that the same is said again.
+pub fn go_on<'a>(walk: Walk<'a>) -> Walk<'a>
+    ensures { λ r. ⌜ r ≡ goneOn (walk .entry) ⌝ }
+{
+    let at = next_place(walk.message, walk.at);
+    Walk {
+        message: walk.message,
+        at,
+    }
+}
