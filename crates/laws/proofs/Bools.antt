@@ -1,6 +1,6 @@
 -- Tests that compute, as facts: both of two, one of two, and a test as an equation.
 -- Assumes nothing.
-use mathlib.Core.Bool.{Bool, true, false, not, _&&_, _||_}
+use mathlib.Core.Bool.{Bool, true, false, not, _&&_, _||_, Bool·beq}
 use mathlib.Core.Logic.{_⊎_, inl, inr}
 use mathlib.Core.Path.{_≡_, refl, subst⁻¹}
 use lib.Dec.{T}
@@ -39,6 +39,17 @@ either-right false b t = t
 pub either-cases : (a b : Bool) → T (a || b) → T a ⊎ T b
 either-cases true b t = inl tt
 either-cases false b t = inr t
+
+-- a test that is asked only where another passes
+pub where-true : (b x : Bool) → T b → T (elim b [ true ↦ x | false ↦ true ]) → T x
+where-true true x t h = h
+where-true false x t h = absurd t
+
+pub equal-tests : (a b : Bool) → T (Bool·beq a b) → a ≡ b
+equal-tests true true t = refl
+equal-tests true false t = absurd t
+equal-tests false true t = absurd t
+equal-tests false false t = refl
 
 -- a test passes or its negation does
 pub passes-or-not : (b : Bool) → T b ⊎ T (not b)

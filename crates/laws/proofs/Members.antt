@@ -1,11 +1,15 @@
 -- Whether a number stands in a list: at its head, further on, in one of two lists. Whether two lists are the same.
+-- Lists backwards.
 -- Assumes nothing.
 use mathlib.Core.Bool.{Bool, true, false, _&&_}
-use mathlib.Core.List.{List, [], _∷_, _++_}
+use mathlib.Core.List.{List, [], _∷_, _++_, reverseAux}
 use mathlib.Core.Logic.{_⊎_, inl, inr, ⊎-elim}
-use mathlib.Core.Path.{_≡_, refl, ap₂, subst⁻¹}
-use Prim.Native.Nat.{ℕ}
+use mathlib.Core.Path.{_≡_, refl, sym, ap, ap₂, _∙_, subst⁻¹}
+use Prim.Native.Nat.{ℕ, zero, suc, _+_, _-_, _<_}
+use native.Mathlib.Nat.{zero-add, suc-add, add-suc, le-of-suc-le-suc, not-suc-le-zero}
+use native.Mathlib.Omega.{arith}
 use lib.Dec.{T, eqb, eqb→eq, eqb-refl}
+use lib.ListN.{length, getD}
 use Rattle.laws.specs.Lists.{among}
 use Rattle.laws.proofs.Bools.{both-left, both-right}
 
@@ -61,3 +65,18 @@ sameBy-equal f h [] (y ∷ ys) t = absurd t
 sameBy-equal f h (x ∷ xs) [] t = absurd t
 sameBy-equal {A} f h (x ∷ xs) (y ∷ ys) t =
     ap₂ {C = List A} (λ a zs. a ∷ zs) (h x y (both-left (f x y) (sameBy f xs ys) t)) (sameBy-equal f h xs ys (both-right (f x y) (sameBy f xs ys) t))
+
+-- a list backwards: past the reversed part, and at the place that an element comes to
+pub getD-past-reversed {ℓ} : {A : Type ℓ} (l r : List A) (m : ℕ) (d : A) → getD (reverseAux l r) (length l + m) d ≡ getD r m d
+getD-past-reversed [] r m d = ap (λ (i : ℕ). getD r i d) (zero-add m)
+getD-past-reversed (x ∷ l) r m d =
+    ap (λ (i : ℕ). getD (reverseAux l (x ∷ r)) i d) (suc-add (length l) m ∙ sym (add-suc (length l) m)) ∙ getD-past-reversed l (x ∷ r) (suc m) d
+
+pub getD-reversed {ℓ} : {A : Type ℓ} (l r : List A) (n : ℕ) (d : A) → n < length l → getD (reverseAux l r) (length l - suc n) d ≡ getD l n d
+getD-reversed [] r n d h = absurd (not-suc-le-zero h)
+getD-reversed (x ∷ l) r zero d h =
+    let i : suc (length l) - 1 ≡ length l + 0 = omega arith in
+    ap (λ (j : ℕ). getD (reverseAux l (x ∷ r)) j d) i ∙ getD-past-reversed l (x ∷ r) 0 d
+getD-reversed (x ∷ l) r (suc n) d h =
+    let i : suc (length l) - suc (suc n) ≡ length l - suc n = omega arith in
+    ap (λ (j : ℕ). getD (reverseAux l (x ∷ r)) j d) i ∙ getD-reversed l (x ∷ r) n d (le-of-suc-le-suc h)

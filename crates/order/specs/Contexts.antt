@@ -1,7 +1,9 @@
 -- The seven contexts (document 01, "The seven contexts").
 -- Assumes nothing.
+use mathlib.Core.Bool.{Bool, _&&_}
 use mathlib.Core.List.{List, [], _∷_, map}
 use Prim.Native.Nat.{ℕ}
+use lib.Dec.{leb}
 use lib.ListN.{getD}
 use Rattle.order.specs.Grammar.{Shape, never, only, _▸_, any, plus, maybe}
 
@@ -74,3 +76,7 @@ message body = H ▸ body ▸ L
 -- the grammar of a context, by its number: a number that is no context derives nothing
 unfoldable pub grammar : ℕ → Shape
 grammar c = getD (never ∷ map message bodies) c never
+
+-- "a context number 1 to 7 in the order listed above"
+unfoldable pub isContext : ℕ → Bool
+isContext c = leb 1 c && leb c 7

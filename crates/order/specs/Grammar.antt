@@ -14,6 +14,7 @@ pub data Shape : Type 0 where
   any : Shape → Shape
   plus : Shape → Shape
   maybe : Shape → Shape
+  deriving Discrete as Shape-discrete
 
 -- the derivations of a shape
 abbrev pub Tree : Shape → Type 0

@@ -1,4 +1,9 @@
 pub mod Grammar
 pub mod Contexts
 pub mod Place
+pub mod Misplaced
+pub mod Followers
+pub mod Watcher
 pub mod Owners
+pub mod Levels
+pub mod Owning

@@ -45,6 +45,20 @@ unfoldable pub rowsEmpty : List (List Shape) → Bool
 rowsEmpty [] = false
 rowsEmpty (row ∷ rows) = rowEmpties row || rowsEmpty rows
 
+-- what is left of the alternatives once kinds have been told, one after the other
+unfoldable pub rowsAfter : List (List Shape) → List ℕ → List (List Shape)
+rowsAfter rows [] = rows
+rowsAfter rows (k ∷ w) = rowsAfter (rowsTold k rows) w
+
+-- whether there is an alternative
+unfoldable pub someLeft : List (List Shape) → Bool
+someLeft [] = false
+someLeft (row ∷ rows) = true
+
+-- a shape as the one alternative
+abbrev pub start : Shape → List (List Shape)
+start r = (r ∷ []) ∷ []
+
 -- the place, counted from `at`, of the first kind that may not stand there, or one past the end where more must follow;
 -- 0 where the order is whole
 unfoldable pub placeFrom : ℕ → List (List Shape) → List ℕ → ℕ
@@ -53,4 +67,4 @@ placeFrom at rows (k ∷ w) = elim (rowsTold k rows) [ [] ↦ at | row ∷ more 
 
 -- "kind not allowed there, or no L at the end": "first such segment, or segments + 1"; 0 where it is neither
 unfoldable pub misplaced : ℕ → List ℕ → ℕ
-misplaced c kinds = placeFrom 1 ((grammar c ∷ []) ∷ []) kinds
+misplaced c kinds = placeFrom 1 (start (grammar c)) kinds

@@ -1,1 +1,5 @@
-// The order of a message's segments: the grammar of the seven contexts, levels and owners.
+// The order of a message's segments: the follower table of the seven contexts, the order watcher, levels and owners.
+pub mod followers;
+pub mod levels;
+pub mod owners;
+pub mod watcher;

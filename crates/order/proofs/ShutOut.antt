@@ -1,0 +1,82 @@
+-- What the contracts rule out: a watcher that says yes always, or no always, or that changes on a no; numbers that are no kinds, and
+-- kinds after L; an owner that is a C.
+-- Assumes nothing.
+use mathlib.Core.Bool.{Bool, true, false, not, and-false, true≢false, false≢true}
+use mathlib.Core.Logic.{_⊎_, ⊎-elim}
+use mathlib.Core.Path.{_≡_, refl, sym, ap, _∙_}
+use Prim.Native.Nat.{ℕ, suc, _≤_}
+use native.Mathlib.Omega.{arith}
+use lib.Dec.{T, leb, ltb, eqb, ltb→lt, nltb→le}
+use borrow.Author.Tests.{eqb-true, eqb-false, ne-eqb, not-true}
+use Rattle.laws.specs.Tables.{below, everyFrom}
+use Rattle.laws.proofs.Bools.{T-true, true-T, not-T-false, passes-or-not}
+use Rattle.order.specs.Contexts.{isContext}
+use Rattle.order.specs.Followers.{follows}
+use Rattle.order.specs.Watcher.{begun, allowsC, allowsNext, allows, tellBy, tellOf}
+use Rattle.order.specs.declared.watcher.Watcher.{Watcher}
+use Rattle.order.specs.declared.watcher.Told.{Told}
+use Rattle.order.proofs.Seven.{all-seven₂, states}
+use Rattle.order.proofs.States.{kind-left}
+use Rattle.order.proofs.Allowing.{no-context-no, allows-C, allows-other, first-is-H, kind-below, kind-above}
+use Rattle.order.proofs.Watched.{says, stays}
+
+-- what meets the contract of `tell`
+module _ (f : Watcher → ℕ → Told) (meets : (w : Watcher) (k : ℕ) → f w k ≡ tellOf w k) where
+  pub yes-always : ((w : Watcher) (k : ℕ) → f w k .yes ≡ true) → ⊥
+  unfolding tellOf tellBy allows isContext
+  yes-always h = true≢false (sym (h (begun 0) 1) ∙ ap (λ (r : Told). r .yes) (meets (begun 0) 1))
+
+  pub no-always : ((w : Watcher) (k : ℕ) → f w k .yes ≡ false) → ⊥
+  unfolding tellOf tellBy allows allowsNext isContext
+  no-always h = false≢true (sym (h (begun 1) 1) ∙ ap (λ (r : Told). r .yes) (meets (begun 1) 1))
+
+  pub changes-on-a-no : (w : Watcher) (k : ℕ) → f w k .yes ≡ false → f w k .watcher ≡ w
+  changes-on-a-no w k e =
+      ap (λ (r : Told). r .watcher) (meets w k) ∙ stays w k (ap (λ (r : Told). r .yes) (sym (meets w k)) ∙ e)
+
+-- numbers that are no kinds: 0, and 13 on
+
+no-kind-next : (c x k : ℕ) → (k ≡ 0) ⊎ (13 ≤ k) → (b : Bool) → eqb x 0 ≡ b → allowsNext follows c x k ≡ false
+no-kind-next c x k h true e =
+    first-is-H follows c x k (eqb-true x 0 e) ∙ ne-eqb k 1 (λ q. ⊎-elim (λ z. let n : ⊥ = omega arith in n) (λ l. let n : ⊥ = omega arith in n) h)
+no-kind-next c x k h false e =
+    ⊎-elim (λ z. kind-below follows c x k (eqb-false x 0 e) (omega arith)) (λ l. kind-above follows c x k (eqb-false x 0 e) (omega arith)) h
+
+-- where a watcher of a context says no, a watcher says no
+no-by : (w : Watcher) (k : ℕ) → (isContext (w .context) ≡ true → allows follows (w .context) (w .last) k ≡ false) → tellOf w k .yes ≡ false
+no-by w k h = says w k ∙ by (isContext (w .context)) refl
+  where
+    by : (b : Bool) → isContext (w .context) ≡ b → allows follows (w .context) (w .last) k ≡ false
+    by true e = h e
+    by false e = no-context-no follows (w .context) (w .last) k e
+
+pub no-kind-no : (w : Watcher) (k : ℕ) → (k ≡ 0) ⊎ (13 ≤ k) → tellOf w k .yes ≡ false
+no-kind-no w k h =
+    no-by w k
+    (λ e. allows-other follows (w .context) (w .last) k e (λ q. ⊎-elim (λ z. let n : ⊥ = omega arith in n) (λ l. let n : ⊥ = omega arith in n) h)
+    ∙ no-kind-next (w .context) (w .last) k h (eqb (w .last) 0) refl)
+
+-- after L
+
+none-after-L : T (below 7 (λ i. below 13 (λ k. not (follows (suc i) 11 k))))
+unfolding follows states everyFrom
+none-after-L = tt
+
+no-follower : (c : ℕ) → T (isContext c) → (k : ℕ) → follows c 11 k ≡ false
+unfolding follows
+no-follower c t k =
+    ⊎-elim
+    (λ h. not-true (follows c 11 k) (T-true (not (follows c 11 k))
+    (all-seven₂ 13 (λ n j. not (follows n 11 j)) none-after-L c t k (ltb→lt k 13 h))))
+    (λ h. not-T-false (follows c 11 k) (λ s. let l = kind-left c t 11 k (omega arith) s in let g = nltb→le k 13 h in let n : ⊥ = omega arith in n))
+    (passes-or-not (ltb k 13))
+
+L-next : (c : ℕ) → isContext c ≡ true → (k : ℕ) (b : Bool) → eqb k 12 ≡ b → allows follows c 11 k ≡ false
+unfolding allowsC allowsNext
+L-next c t k true e = allows-C follows c 11 k t (eqb-true k 12 e)
+L-next c t k false e =
+    allows-other follows c 11 k t (eqb-false k 12 e)
+    ∙ (rw (no-follower c (true-T (isContext c) t) k, and-false (leb k 11), and-false (leb 1 k)))
+
+pub after-L-no : (c k : ℕ) → tellOf (record { context = c; last = 11 }) k .yes ≡ false
+after-L-no c k = no-by (record { context = c; last = 11 }) k (λ e. L-next c e k (eqb k 12) refl)

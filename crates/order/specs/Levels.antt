@@ -1,0 +1,22 @@
+-- Levels as one table of numbers (document 01, "The seven contexts"), for any levels of contexts and kinds.
+-- Assumes nothing.
+use mathlib.Core.Bool.{true, false, _&&_}
+use mathlib.Core.List.{List}
+use Prim.Native.Nat.{ℕ, _+_, _*_, _-_, _/_, _%_}
+use lib.Dec.{leb}
+use lib.ListN.{getD}
+use Rattle.laws.specs.Tables.{values}
+use Rattle.order.specs.Contexts.{isContext}
+use Rattle.order.specs.Owners.{level}
+
+-- the level of a kind in a context by a table: contexts count from 1 and have twelve numbers each, by the kind
+unfoldable pub levelIn : List ℕ → ℕ → ℕ → ℕ
+levelIn table c k = elim (isContext c && leb k 11) [ true ↦ getD table ((c - 1) * 12 + k) 0 | false ↦ 0 ]
+
+-- the table of some levels
+unfoldable pub flat : (ℕ → ℕ → ℕ) → List ℕ
+flat lv = values (λ i. lv (i / 12 + 1) (i % 12)) 0 84
+
+-- the table of document 01's levels
+unfoldable pub levelTable : List ℕ
+levelTable = flat level

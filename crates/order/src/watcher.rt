@@ -1,0 +1,118 @@
+// The order watcher: "begun with a context number 1 to 7 in the order listed above (field 7.7), told one kind number at a time, it
+// hands itself back with yes or no."
+ghost use mathlib.Core.Path.{_≡_};
+ghost use Prim.Native.Nat.{_≤_};
+ghost use Rattle.order.specs.Watcher.{begun, InTable, listed, allowsC, allowsNext, allows, tookKind, tellBy, tellOf};
+
+pub struct Watcher {
+    pub context: u8,
+    // the last kind that it said yes to, C aside; 0 before there is one
+    pub last: u8,
+}
+
+// The watcher after it was told a kind, and whether it said yes.
+pub struct Told {
+    pub watcher: Watcher,
+    pub yes: bool,
+}
+
+impl Watcher {
+    // A watcher that was told nothing yet. With a number that is no context it says no to all.
+    pub fn begin(context: u8) -> Watcher
+        ensures { λ r. ⌜ r ≡ begun context ⌝ }
+    {
+        Watcher { context, last: 0 }
+    }
+
+    // Yes where the kind may come next; a refused kind changes nothing.
+    pub fn tell(self, kind: u8) -> Told
+        ensures { λ r. ⌜ r ≡ tellOf self kind ⌝ }
+    {
+        let followers = crate::followers::table();
+        self.tell_by(&followers, kind)
+    }
+
+    // The same by a table that the caller binds once: who tells many kinds does not build the table for each.
+    pub fn tell_by(self, followers: &[u8; 847], kind: u8) -> Told
+        ensures { λ r. ⌜ r ≡ tellBy (listed (now (followers .entry))) self kind ⌝ }
+    {
+        let context = self.context;
+        let last = self.last;
+        if may_come(followers, context, last, kind) {
+            let watcher = self.after(kind);
+            return Told { watcher, yes: true };
+        }
+        Told {
+            watcher: self,
+            yes: false,
+        }
+    }
+
+    // The watcher once it said yes to a kind: C changes nothing in it.
+    fn after(self, kind: u8) -> Watcher
+        ensures { λ r. ⌜ r ≡ tookKind self kind ⌝ }
+    {
+        if kind == 12 {
+            return self;
+        }
+        Watcher {
+            context: self.context,
+            last: kind,
+        }
+    }
+}
+
+// Whether a kind may come next in a context after the last kind, C aside, or after nothing where that is 0.
+fn may_come(followers: &[u8; 847], context: u8, last: u8, kind: u8) -> bool
+    ensures { λ r. ⌜ r ≡ allows (listed (now (followers .entry))) context last kind ⌝ }
+{
+    if context < 1 {
+        return false;
+    }
+    if 7 < context {
+        return false;
+    }
+    if kind == 12 {
+        return may_have_c(last);
+    }
+    may_be_next(followers, context, last, kind)
+}
+
+// The same of a kind that is no C, in a context.
+fn may_be_next(followers: &[u8; 847], context: u8, last: u8, kind: u8) -> bool
+    requires { ⌜ (1 ≤ context) × (context ≤ 7) ⌝ }
+    ensures { λ r. ⌜ r ≡ allowsNext (listed (now (followers .entry))) context last kind ⌝ }
+{
+    if last == 0 {
+        return kind == 1;
+    }
+    if 11 < last {
+        return false;
+    }
+    if kind < 1 {
+        return false;
+    }
+    if 11 < kind {
+        return false;
+    }
+    is_listed(followers, context, last, kind)
+}
+
+// Whether C may stand after the last kind: after all but L.
+fn may_have_c(last: u8) -> bool
+    ensures { λ r. ⌜ r ≡ allowsC last ⌝ }
+{
+    if last < 1 {
+        return false;
+    }
+    last <= 10
+}
+
+// Whether the table's entry for three numbers that are within it is 1.
+fn is_listed(followers: &[u8; 847], context: u8, last: u8, kind: u8) -> bool
+    requires { ⌜ InTable context last kind ⌝ }
+    ensures { λ r. ⌜ r ≡ listed (now (followers .entry)) context last kind ⌝ }
+{
+    let entry = (context as usize - 1) * 121 + (last as usize - 1) * 11 + (kind as usize - 1);
+    followers[entry] == 1
+}
