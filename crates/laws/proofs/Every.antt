@@ -1,8 +1,9 @@
 -- What holds of every element: of the first and of the rest, of two lists in a row, of what is left of a list, of what is made of one.
 -- Assumes nothing.
 use mathlib.Core.List.{List, [], _∷_, _++_, map}
-use Prim.Native.Nat.{ℕ, zero, suc}
-use lib.ListN.{drop}
+use Prim.Native.Nat.{ℕ, zero, suc, _<_}
+use native.Mathlib.Omega.{arith}
+use lib.ListN.{length, drop, getD}
 use Rattle.laws.specs.Every.{All, none, also}
 
 module _ {ℓ ℓ′} {A : Type ℓ} {P : A → Type ℓ′} where
@@ -20,6 +21,16 @@ module _ {ℓ ℓ′} {A : Type ℓ} {P : A → Type ℓ′} where
   all-drop zero w = w
   all-drop (suc n) none = none
   all-drop (suc n) (also h w) = all-drop n w
+
+  -- at each place, and from each place
+  pub all-at : {s : List A} (i : ℕ) (d : A) → All P s → i < length s → P (getD s i d)
+  all-at i d none h = absurd (omega arith)
+  all-at zero d (also w ws) h = w
+  all-at (suc i) d (also w ws) h = all-at i d ws (omega arith)
+
+  pub all-of : (s : List A) (d : A) → ((i : ℕ) → i < length s → P (getD s i d)) → All P s
+  all-of [] d h = none
+  all-of (a ∷ s) d h = also (h 0 (omega arith)) (all-of s d (λ i less. h (suc i) (omega arith)))
 
   pub all-map {κ κ′} : {B : Type κ} {Q : B → Type κ′} (f : A → B) → ((a : A) → P a → Q (f a)) → {s : List A} → All P s → All Q (map f s)
   all-map f h none = none

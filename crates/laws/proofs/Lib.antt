@@ -9,3 +9,5 @@ pub mod Each
 pub mod Parts
 pub mod Sums
 pub mod Tables
+pub mod Stores
+pub mod Bytes

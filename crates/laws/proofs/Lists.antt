@@ -209,3 +209,33 @@ first-among b n (a ∷ s) h =
     (λ (y : eqb b a ≡ true). omega (arith, first-hit (eqb b) n a s y))
     (λ (f : eqb b a ≡ false). omega (arith, first-miss (eqb b) n a s f, first-among b (suc n) s (rw (f, among) at h)))
     (either (eqb b a))
+
+-- what is found lies from n on
+module _ {ℓ} {A : Type ℓ} (p : A → Bool) where
+  pub first-least : (n : ℕ) (s : List A) → (firstFrom p n s ≡ 0 → ⊥) → n ≤ firstFrom p n s
+  unfolding firstFrom
+  first-least n [] h = absurd (h refl)
+  first-least n (a ∷ s) h = go (tested (p a)) (first-least (suc n) s)
+    where
+      go : Tested (p a) → ((firstFrom p (suc n) s ≡ 0 → ⊥) → suc n ≤ firstFrom p (suc n) s) → n ≤ firstFrom p n (a ∷ s)
+      go (passed e) ih = let here = first-hit p n a s e in omega arith
+      go (failed e) ih = let later = first-miss p n a s e in omega (arith, ih (λ z. h (later ∙ z)))
+
+-- a number that is first nowhere, counted from 1 on, does not stand in the list, and one that is first somewhere does
+pub not-first-among : (b n : ℕ) (s : List ℕ) → firstFrom (eqb b) (suc n) s ≡ 0 → among s b ≡ false
+unfolding among firstFrom
+not-first-among b n [] e = refl
+not-first-among b n (a ∷ s) e = go (tested (eqb b a)) (not-first-among b (suc n) s)
+  where
+    go : Tested (eqb b a) → (firstFrom (eqb b) (suc (suc n)) s ≡ 0 → among s b ≡ false) → among (a ∷ s) b ≡ false
+    go (passed h) ih = let z : suc n ≡ 0 = sym (first-hit (eqb b) (suc n) a s h) ∙ e in absurd (omega arith)
+    go (failed h) ih = among-miss a s b h ∙ ih (sym (first-miss (eqb b) (suc n) a s h) ∙ e)
+
+pub found-among : (b n : ℕ) (s : List ℕ) → (firstFrom (eqb b) n s ≡ 0 → ⊥) → among s b ≡ true
+unfolding among firstFrom
+found-among b n [] e = absurd (e refl)
+found-among b n (a ∷ s) e = go (tested (eqb b a)) (found-among b (suc n) s)
+  where
+    go : Tested (eqb b a) → ((firstFrom (eqb b) (suc n) s ≡ 0 → ⊥) → among s b ≡ true) → among (a ∷ s) b ≡ true
+    go (passed h) ih = among-hit a s b h
+    go (failed h) ih = among-miss a s b h ∙ ih (λ z. e (first-miss (eqb b) n a s h ∙ z))

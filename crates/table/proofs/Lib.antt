@@ -9,3 +9,4 @@ pub mod Sound
 pub mod SoundTest
 pub mod SoundTables
 pub mod Examples
+pub mod Closing

@@ -1,18 +1,18 @@
 -- Places: a separator raises a number, and `between` finds the separator again.
 -- Assumes nothing.
 use mathlib.Core.Bool.{true, false}
-use mathlib.Core.List.{List, [], _∷_}
+use mathlib.Core.List.{List, [], _∷_, _++_}
 use mathlib.Core.Path.{_≡_, refl, sym, ap, _∙_}
-use Prim.Native.Nat.{ℕ, suc, _≤_, suc-le-suc}
+use Prim.Native.Nat.{ℕ, zero, suc, _+_, _≤_, suc-le-suc}
 use native.Mathlib.Nat.{le-trans}
 use native.Mathlib.Omega.{arith}
 use lib.Dec.{eqb}
-use lib.ListN.{length}
+use lib.ListN.{length, take, drop, getD}
 use borrow.Author.Tests.{eqb-true, eq-eqb, ne-eqb}
-use Rattle.laws.specs.Lists.{among}
+use Rattle.laws.specs.Lists.{among, firstFrom}
 use Rattle.laws.specs.Every.{All, none, also}
 use Rattle.laws.proofs.Tests.{Tested, passed, failed, tested}
-use Rattle.laws.proofs.Lists.{among-miss}
+use Rattle.laws.proofs.Lists.{among-miss, first-hit, first-miss, first-least}
 use Rattle.table.specs.Back.{between}
 use Rattle.table.specs.Flat.{ones, raised}
 use Rattle.table.proofs.Flat.{raised-here, raised-later}
@@ -84,3 +84,29 @@ raised-within (p ∷ ps) b {k} (also {a = n} {s = place} h w) = go (tested (eqb 
     go : Tested (eqb b p) → Within (suc k) (raised ps b place) → Within (suc k) (raised (p ∷ ps) b (n ∷ place))
     go (passed e) ih = rw (raised-here p ps b n place e) (also (suc-le-suc h) (ones-within ps (suc k) (omega arith)))
     go (failed e) ih = rw (raised-later p ps b n place e) (also (le-trans h (omega arith)) ih)
+
+-- the place that the k-th separator, counted from 0, leads to: its number is one more, the coarser stay, the finer are 1
+abbrev pub raisedAt : List ℕ → ℕ → List ℕ → List ℕ
+raisedAt ps k place = take k place ++ (suc (getD place k 0) ∷ ones (drop (suc k) ps))
+
+pub raised-first : (ps : List ℕ) (b n k : ℕ) (place : List ℕ) → length place ≡ length ps → firstFrom (eqb b) (suc n) ps ≡ suc (n + k)
+    → raised ps b place ≡ raisedAt ps k place
+unfolding firstFrom
+raised-first [] b n k place fits e = let z : 0 ≡ suc (n + k) = e in absurd (omega arith)
+raised-first (p ∷ ps) b n k [] fits e = absurd (omega arith)
+raised-first (p ∷ ps) b n zero (m ∷ place) fits e = go (tested (eqb b p))
+  where
+    go : Tested (eqb b p) → raised (p ∷ ps) b (m ∷ place) ≡ suc m ∷ ones ps
+    go (passed h) = raised-here p ps b m place h
+    go (failed h) =
+        let later : firstFrom (eqb b) (suc (suc n)) ps ≡ suc (n + 0) = sym (first-miss (eqb b) (suc n) p ps h) ∙ e in
+        let least : suc (suc n) ≤ firstFrom (eqb b) (suc (suc n)) ps = first-least (eqb b) (suc (suc n)) ps (λ z. omega arith) in
+        absurd (omega arith)
+raised-first (p ∷ ps) b n (suc k) (m ∷ place) fits e = go (tested (eqb b p)) (raised-first ps b (suc n) k place (omega arith))
+  where
+    go : Tested (eqb b p) → (firstFrom (eqb b) (suc (suc n)) ps ≡ suc (suc n + k) → raised ps b place ≡ raisedAt ps k place)
+        → raised (p ∷ ps) b (m ∷ place) ≡ m ∷ raisedAt ps k place
+    go (passed h) ih = let here : suc n ≡ suc (n + suc k) = sym (first-hit (eqb b) (suc n) p ps h) ∙ e in absurd (omega arith)
+    go (failed h) ih =
+        raised-later p ps b m place h
+        ∙ ap {B = List ℕ} (λ r. m ∷ r) (ih (sym (first-miss (eqb b) (suc n) p ps h) ∙ e ∙ omega arith))

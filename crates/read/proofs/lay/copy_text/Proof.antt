@@ -1,0 +1,95 @@
+-- `read::lay::copy_text` meets its contract: what is left to copy gives the whole.
+-- Assumes nothing.
+use mathlib.Core.Path.{refl}
+use Prim.Native.Nat.{_-_}
+use native.Mathlib.Omega.{arith}
+use lib.ListN.{length}
+use borrow.Author.Needs.{needs}
+use Rattle.read.proofs.Copying.{Copying, copying-begins, copying-left, copying-more, copying-done}
+use Rattle.read.proofs.lay.copy_text.Statement.{statement}
+use Rattle.read.proofs.lay.copy_text.Tie as tie
+
+abbrev Inv-loop : tie.InvT-loop
+Inv-loop class message from text₀ out i₀ o₀ b₀ text i o b = Copying class message from text₀ out text i o b
+
+abbrev μ-loop : tie.MeasureT-loop
+μ-loop class message from text₀ out i₀ o₀ b₀ text i o b = length message - i
+
+shared-slice-read-b : tie.Need-shared-slice-read-b Inv-loop μ-loop
+shared-slice-read-b c = omega arith
+
+loop-holds : tie.Need-loop-holds Inv-loop μ-loop
+loop-holds c =
+    let at-pre = c .before .before .before .pre in
+    copying-begins (at-pre .0) (at-pre .1) refl
+
+wide-requires : tie.Need-wide-requires Inv-loop μ-loop
+wide-requires c κs = search needs
+
+element-copy-out-if1 : tie.Need-element-copy-out-if1 Inv-loop μ-loop
+element-copy-out-if1 c = omega arith
+
+slice-write-text : tie.Need-slice-write-text Inv-loop μ-loop
+slice-write-text c =
+    let at-loop = c .before .before .before .loop in
+    let at-wide = c .before .before .wide in
+    let at-if1 = c .if1 in
+    let one = copying-left (at-loop .inv) (at-wide .result) (at-wide .ensures .0) (at-if1 .taken) in omega arith
+
+add-o : tie.Need-add-o Inv-loop μ-loop
+add-o c =
+    let at-loop = c .before .before .before .loop in
+    let at-wide = c .before .before .wide in
+    let at-if1 = c .if1 in
+    let one = copying-left (at-loop .inv) (at-wide .result) (at-wide .ensures .0) (at-if1 .taken) in omega arith
+
+add-i : tie.Need-add-i Inv-loop μ-loop
+add-i c = omega arith
+
+shared-slice-read-b-2 : tie.Need-shared-slice-read-b-2 Inv-loop μ-loop
+shared-slice-read-b-2 c =
+    let at-loop = c .before .before .before .before .loop in
+    let at-wide = c .before .before .before .wide in
+    let at-if1 = c .before .if1 in
+    let one = copying-left (at-loop .inv) (at-wide .result) (at-wide .ensures .0) (at-if1 .taken) in omega arith
+
+loop-less : tie.Need-loop-less Inv-loop μ-loop
+loop-less c = omega arith
+
+loop-again : tie.Need-loop-again Inv-loop μ-loop
+loop-again c =
+    let at-loop = c .before .before .before .before .loop in
+    let at-wide = c .before .before .before .wide in
+    let at-if1 = c .before .if1 in
+    copying-more (at-loop .inv) (at-wide .result) (at-wide .ensures .0) (at-if1 .taken)
+
+same-length : tie.Need-same-length Inv-loop μ-loop
+same-length c =
+    let at-loop = c .before .before .before .loop in
+    at-loop .inv .same
+
+returns : tie.Need-returns Inv-loop μ-loop
+returns c =
+    let at-loop = c .before .before .before .loop in
+    let at-wide = c .before .before .wide in
+    let at-if1 = c .if1 in
+    copying-done (at-loop .inv) (at-wide .result) (at-wide .ensures .0) (at-if1 .left)
+
+pub copy-text-spec : {M : Type 1} → statement M
+copy-text-spec =
+    tie.close
+    (tie.spec
+    Inv-loop
+    μ-loop
+    shared-slice-read-b
+    loop-holds
+    wide-requires
+    element-copy-out-if1
+    slice-write-text
+    add-o
+    add-i
+    shared-slice-read-b-2
+    loop-less
+    loop-again
+    same-length
+    returns)

@@ -1,0 +1,89 @@
+-- `read::scan::scan` meets its contract. The loop's invariant: what is left from `i` on gives the whole (`Scanning`).
+-- Assumes nothing.
+use Prim.Native.Nat.{_-_}
+use native.Mathlib.Omega.{arith}
+use borrow.Author.Needs.{needs}
+use Rattle.read.proofs.ScanLaws.{Scanning, scan-begins, scan-stops, scan-marks, scan-passes, scan-ends}
+use Rattle.read.proofs.scan.scan.Statement.{statement}
+use Rattle.read.proofs.scan.scan.Tie as tie
+
+abbrev Inv-loop : tie.InvT-loop
+Inv-loop class message from stop separators₀ i₀ separators i = Scanning class message from stop i separators
+
+abbrev μ-loop : tie.MeasureT-loop
+μ-loop class message from stop separators₀ i₀ separators i = stop - i
+
+loop-holds : tie.Need-loop-holds Inv-loop μ-loop
+loop-holds c = scan-begins (omega arith)
+
+shared-slice-read-wide : tie.Need-shared-slice-read-wide Inv-loop μ-loop
+shared-slice-read-wide c = omega arith
+
+wide-requires : tie.Need-wide-requires Inv-loop μ-loop
+wide-requires c κs = search needs
+
+element-copy-out-sort : tie.Need-element-copy-out-sort Inv-loop μ-loop
+element-copy-out-sort c = search needs
+
+returns : tie.Need-returns Inv-loop μ-loop
+returns c =
+    let at-loop = c .before .before .before .before .before .loop in
+    let at-wide = c .before .before .wide in
+    let at-if1 = c .if1 in
+    let scanned = scan-stops (at-loop .inv) (omega arith) (omega arith) (at-wide .ensures .0) (at-if1 .taken) in
+    (scanned .end, scanned .marked)
+
+add-i : tie.Need-add-i Inv-loop μ-loop
+add-i c = omega arith
+
+add-separators : tie.Need-add-separators Inv-loop μ-loop
+add-separators c =
+    let at-loop = c .before .before .before .before .before .before .loop in
+    omega (arith, at-loop .inv .few)
+
+loop-less : tie.Need-loop-less Inv-loop μ-loop
+loop-less c = omega arith
+
+loop-again : tie.Need-loop-again Inv-loop μ-loop
+loop-again c =
+    let at-loop = c .before .before .before .before .before .before .loop in
+    let at-wide = c .before .before .before .wide in
+    let at-if1 = c .before .if1 in
+    let at-if2 = c .if2 in
+    scan-marks (at-loop .inv) (omega arith) (omega arith) (at-wide .ensures .0) (at-if1 .left) (at-if2 .taken)
+
+loop-less-2 : tie.Need-loop-less-2 Inv-loop μ-loop
+loop-less-2 c = omega arith
+
+loop-again-2 : tie.Need-loop-again-2 Inv-loop μ-loop
+loop-again-2 c =
+    let at-loop = c .before .before .before .before .before .before .loop in
+    let at-wide = c .before .before .before .wide in
+    let at-if1 = c .before .if1 in
+    let at-if2 = c .if2 in
+    scan-passes (at-loop .inv) (omega arith) (omega arith) (at-wide .ensures .0) (at-if1 .left) (at-if2 .left)
+
+returns-2 : tie.Need-returns-2 Inv-loop μ-loop
+returns-2 c =
+    let at-loop = c .before .loop in
+    let scanned = scan-ends (at-loop .inv) (omega arith) in
+    (scanned .end, scanned .marked)
+
+pub scan-spec : {M : Type 1} → statement M
+scan-spec =
+    tie.close
+    (tie.spec
+    Inv-loop
+    μ-loop
+    loop-holds
+    shared-slice-read-wide
+    wide-requires
+    element-copy-out-sort
+    returns
+    add-i
+    add-separators
+    loop-less
+    loop-again
+    loop-less-2
+    loop-again-2
+    returns-2)

@@ -1,0 +1,119 @@
+-- What the second pass holds: its state, the text area and the leaf rows, once one pass over the glued text has come to a point.
+-- Assumes nothing.
+use mathlib.Core.Bool.{true, false}
+use mathlib.Core.List.{List, [], _∷_, _++_}
+use mathlib.Core.Path.{_≡_}
+use Prim.Native.Nat.{ℕ, _+_, _*_, _-_, _≤_, _<_}
+use lib.Dec.{eqb}
+use lib.ListN.{length, take, drop}
+use lib.Seq.{sets}
+use Rattle.laws.specs.Every.{All}
+use Rattle.form.specs.declared.separators.Separators.{Separators}
+use Rattle.form.specs.Header.{splitting}
+use Rattle.line.specs.Lines.{CR}
+use Rattle.table.specs.Leaves.{Leaf}
+use Rattle.table.specs.Flat.{Pass, steps}
+use Rattle.table.specs.Rows.{leafRowsFrom, textOf}
+use Rattle.read.specs.declared.lay.Laying.{Laying}
+use Rattle.read.specs.declared.lay.Laid.{Laid}
+use Rattle.read.specs.Classes.{classTable}
+use Rattle.read.specs.Scan.{run, marks}
+
+-- the five numbers of the place of the leaf begun
+unfoldable pub placeOf : Laying → List ℕ
+placeOf l = l .segment ∷ l .field ∷ l .repetition ∷ l .subfield ∷ l .subsubfield ∷ []
+
+-- the row of the leaf begun
+unfoldable pub rowOf : Laying → List ℕ
+rowOf l = placeOf l ++ (l .begin ∷ (l .out - l .begin) ∷ [])
+
+-- the state once the leaf begun is closed, where the next one stands at these numbers of the same segment
+abbrev pub closedTo : Laying → (field repetition subfield subsubfield : ℕ) → Laying
+closedTo l field repetition subfield subsubfield =
+    record {
+      row = l .row + 1;
+      segment = l .segment;
+      field = field;
+      repetition = repetition;
+      subfield = subfield;
+      subsubfield = subsubfield;
+      begin = l .out;
+      out = l .out;
+    }
+
+-- the state once the leaf begun is closed by a separator of a sort
+unfoldable pub nextLeaf : Laying → ℕ → Laying
+nextLeaf l sort =
+    elim (eqb sort 4) [
+      | true ↦ closedTo l (l .field) (l .repetition) (l .subfield) (l .subsubfield + 1)
+      | false ↦
+          elim (eqb sort 3) [
+            | true ↦ closedTo l (l .field) (l .repetition) (l .subfield + 1) 1
+            | false ↦
+                elim (eqb sort 2) [
+                  | true ↦ closedTo l (l .field) (l .repetition + 1) 1 1
+                  | false ↦ closedTo l (l .field + 1) 1 1 1
+                ]
+          ]
+    ]
+
+-- the state once the leaf begun is closed by the end of its segment
+unfoldable pub nextSegment : Laying → Laying
+nextSegment l =
+    record {
+      row = l .row + 1;
+      segment = l .segment + 1;
+      field = 1;
+      repetition = 1;
+      subfield = 1;
+      subsubfield = 1;
+      begin = l .out;
+      out = l .out;
+    }
+
+-- no number of a place is more than one past the leaves closed, so that all of them are small where the leaves are
+pub record Counted (l : Laying) : Type 0 where
+  pub segments : l .segment ≤ l .row + 1
+  pub fields : l .field ≤ l .row + 1
+  pub repetitions : l .repetition ≤ l .row + 1
+  pub subfields : l .subfield ≤ l .row + 1
+  pub subsubfields : l .subsubfield ≤ l .row + 1
+  pub begins : l .begin ≤ l .out
+
+-- the state, the text area and the leaf rows hold what one pass has made, over what the two buffers held before
+pub record Held (text₀ leaves₀ : List ℕ) (pass : Pass) (l : Laying) (text leaves : List ℕ) : Type 0 where
+  pub place : pass .place ≡ placeOf l
+  pub closed : l .row ≡ length (pass .closed)
+  pub begins : l .begin ≡ length (textOf (pass .closed))
+  pub ends : l .out ≡ l .begin + length (pass .text)
+  pub texts : text ≡ sets text₀ 0 (textOf (pass .closed) ++ pass .text)
+  pub rows : leaves ≡ sets leaves₀ 0 (leafRowsFrom 0 (pass .closed))
+  pub placed : All (λ (leaf : Leaf). length (leaf .place) ≡ 5) (pass .closed)
+
+-- what laying one line asks: the byte that ends it lies ahead, and the buffers have room for its text and the leaves that it closes
+pub record Lays (class message : List ℕ) (from : ℕ) (l : Laying) (text leaves : List ℕ) : Type 0 where
+  pub ahead : from + run class (drop from message) < length message
+  pub room : l .out + run class (drop from message) ≤ length text
+  pub short : l .out + run class (drop from message) < 65536
+  pub rows : (l .row + marks class (drop from message)) * 7 ≤ length leaves
+  pub few : l .row + marks class (drop from message) < 65535
+  pub counted : Counted l
+
+-- what it gives: the line's end, and the pass gone on over its bytes
+pub record LaidBy
+    (class message : List ℕ) (from : ℕ) (l : Laying) (text leaves : List ℕ) (r : Laid) (text′ leaves′ : List ℕ)
+    : Type 0 where
+  pub ends : r .end ≡ from + run class (drop from message)
+  pub row : r .laying .row ≡ l .row + marks class (drop from message)
+  pub segment : r .laying .segment ≡ l .segment
+  pub out : r .laying .out ≤ l .out + run class (drop from message)
+  pub counted : Counted (r .laying)
+  pub text-length : length text′ ≡ length text
+  pub leaves-length : length leaves′ ≡ length leaves
+  pub held :
+      (ps : Separators) (text₀ leaves₀ : List ℕ) (pass : Pass)
+      → class ≡ classTable ps
+      → Held text₀ leaves₀ pass l text leaves
+      → Held text₀ leaves₀
+      (steps (CR ∷ splitting ps) pass (take (run class (drop from message)) (drop from message)))
+      (r .laying) text′ leaves′

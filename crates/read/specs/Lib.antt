@@ -1,0 +1,4 @@
+pub mod Classes
+pub mod Letters
+pub mod Scan
+pub mod Laying

@@ -1,0 +1,137 @@
+// The second pass over one line: its text goes into the text area, and each leaf that a separator closes gets its row.
+use crate::class::wide;
+ghost use mathlib.Core.Path.{_≡_};
+ghost use Prim.Native.Nat.{_+_, _*_, _≤_, _<_};
+ghost use lib.ListN.{length, take, drop};
+ghost use lib.Seq.{sets};
+ghost use Rattle.read.specs.Scan.{plain};
+ghost use Rattle.read.specs.Laying.{rowOf, nextLeaf, nextSegment, Counted, Lays, LaidBy};
+
+// How far the pass has come: leaves closed, the place of the leaf begun, and where its text begins and ends so far.
+pub struct Laying {
+    pub row: usize,
+    pub segment: usize,
+    pub field: usize,
+    pub repetition: usize,
+    pub subfield: usize,
+    pub subsubfield: usize,
+    pub begin: usize,
+    pub out: usize,
+}
+
+// How far it has come, and where the line ends.
+pub struct Laid {
+    pub laying: Laying,
+    pub end: usize,
+}
+
+impl Laying {
+    // The leaf begun is closed: the next one stands one segment on, its other numbers are 1.
+    pub(crate) fn next_segment(self) -> Laying
+        requires { ⌜ (self .row < 65535) × Counted self ⌝ }
+        ensures { λ r. ⌜ r ≡ nextSegment self ⌝ }
+    {
+        Laying {
+            row: self.row + 1,
+            segment: self.segment + 1,
+            field: 1,
+            repetition: 1,
+            subfield: 1,
+            subsubfield: 1,
+            begin: self.out,
+            out: self.out,
+        }
+    }
+
+    // The leaf begun is closed by a separator of a sort: the next one stands one such part on, its finer numbers are 1.
+    pub(crate) fn next_leaf(self, sort: u8) -> Laying
+        requires { ⌜ (self .row < 65535) × Counted self ⌝ }
+        ensures { λ r. ⌜ r ≡ nextLeaf self sort ⌝ }
+    {
+        let mut next = self;
+        next.row = self.row + 1;
+        next.begin = self.out;
+        if sort == 4 {
+            next.subsubfield = self.subsubfield + 1;
+            return next;
+        }
+        next.subsubfield = 1;
+        if sort == 3 {
+            next.subfield = self.subfield + 1;
+            return next;
+        }
+        next.subfield = 1;
+        if sort == 2 {
+            next.repetition = self.repetition + 1;
+            return next;
+        }
+        next.repetition = 1;
+        next.field = self.field + 1;
+        next
+    }
+}
+
+// Copies text from `from` on into the text area, up to the first byte that is none, and answers where that lies.
+// One lies ahead, so the loop tests no bound.
+fn copy_text(class: &[u8; 256], message: &[u8], from: usize, text: &mut [u8], out: usize) -> usize
+    requires { ⌜ (from + plain (now class) (drop from (now message)) < length (now message))
+        × (out + plain (now class) (drop from (now message)) ≤ length (now text)) ⌝ }
+    ensures { λ r. ⌜ (r ≡ from + plain (now (class .entry)) (drop from (now (message .entry))))
+        × (now (text .exit) ≡ sets (now (text .entry)) out (take (plain (now (class .entry)) (drop from (now (message .entry)))) (drop from (now (message .entry))))) ⌝ }
+{
+    let mut i = from;
+    let mut o = out;
+    let mut b = message[i];
+    while class[wide(b)] == 0 {
+        text[o] = b;
+        o += 1;
+        i += 1;
+        b = message[i];
+    }
+    i
+}
+
+// The row of the leaf begun, which is closed here.
+pub(crate) fn put_leaf(laying: Laying, leaves: &mut [u16])
+    requires { ⌜ (laying .row * 7 + 7 ≤ length (now leaves)) × (laying .row < 65535) × (laying .out < 65536) × Counted laying ⌝ }
+    ensures { λ _. ⌜ now (leaves .exit) ≡ sets (now (leaves .entry)) (laying .row * 7) (rowOf laying) ⌝ }
+{
+    let at = laying.row * 7;
+    leaves[at] = laying.segment as u16;
+    leaves[at + 1] = laying.field as u16;
+    leaves[at + 2] = laying.repetition as u16;
+    leaves[at + 3] = laying.subfield as u16;
+    leaves[at + 4] = laying.subsubfield as u16;
+    leaves[at + 5] = laying.begin as u16;
+    leaves[at + 6] = (laying.out - laying.begin) as u16;
+}
+
+// The pass over a line from `from` on, up to its CR.
+pub(crate) fn lay_line(
+    class: &[u8; 256],
+    message: &[u8],
+    from: usize,
+    laying: Laying,
+    text: &mut [u8],
+    leaves: &mut [u16],
+) -> Laid
+    requires { ⌜ Lays (now class) (now message) from laying (now text) (now leaves) ⌝ }
+    ensures { λ r. ⌜ LaidBy (now (class .entry)) (now (message .entry)) from laying (now (text .entry)) (now (leaves .entry)) r (now (text .exit)) (now (leaves .exit)) ⌝ }
+{
+    let mut now = laying;
+    let mut i = from;
+    loop {
+        let stop = copy_text(class, message, i, text, now.out);
+        now.out = now.out + (stop - i);
+        let sort = class[wide(message[stop])];
+        if sort == 5 {
+            return Laid {
+                laying: now,
+                end: stop,
+            };
+        }
+        put_leaf(now, leaves);
+        now = now.next_leaf(sort);
+        i = stop + 1;
+    }
+}

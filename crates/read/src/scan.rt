@@ -1,0 +1,32 @@
+// One line of the survey: where it ends and how many splitting separators it has, each byte looked at once.
+use crate::class::wide;
+ghost use mathlib.Core.Path.{_≡_};
+ghost use Prim.Native.Nat.{_+_, _-_, _≤_};
+ghost use lib.ListN.{length, take, drop};
+ghost use Rattle.read.specs.Scan.{run, marks};
+
+pub struct Scanned {
+    pub end: usize,
+    pub separators: usize,
+}
+
+// From `from` on up to the first byte below 32, and at most up to `stop`.
+pub(crate) fn scan(class: &[u8; 256], message: &[u8], from: usize, stop: usize) -> Scanned
+    requires { ⌜ (from ≤ stop) × (stop ≤ length (now message)) ⌝ }
+    ensures { λ r. ⌜ (r .end ≡ from + run (now (class .entry)) (take (stop - from) (drop from (now (message .entry)))))
+        × (r .separators ≡ marks (now (class .entry)) (take (stop - from) (drop from (now (message .entry))))) ⌝ }
+{
+    let mut separators = 0;
+    let mut i = from;
+    while i < stop {
+        let sort = class[wide(message[i])];
+        if sort == 5 {
+            return Scanned { end: i, separators };
+        }
+        i += 1;
+        if sort > 0 {
+            separators += 1;
+        }
+    }
+    Scanned { end: i, separators }
+}
