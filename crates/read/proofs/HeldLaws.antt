@@ -44,7 +44,7 @@ outTo l out =
       out = out;
     }
 
--- the leaf leafBegun is closed: one row more, and the next leaf begins where the text ends
+-- the leaf begun is closed: one row more, and the next leaf begins where the text ends
 pub record Closes (l next : Laying) : Type 0 where
   pub row : next .row ≡ l .row + 1
   pub begin : next .begin ≡ l .out
@@ -100,7 +100,7 @@ unfolding textOf leafRowsFrom
 held-begins text leaves place l at row begin out =
     record { place = at; closed = row; begins = begin; ends = omega arith; texts = refl; rows = refl; placed = none }
 
--- the leaf leafBegun, and the pass once it is closed, where the next one stands at a place
+-- the leaf begun, and the pass once it is closed, where the next one stands at a place
 abbrev pub leafBegun : Pass → Leaf
 leafBegun pass = leaf (pass .place) (pass .text)
 
@@ -148,7 +148,7 @@ module _ {text₀ leaves₀ : List ℕ} {pass : Pass} {l : Laying} {text leaves 
       ap {B = List ℕ} (λ p. p ++ (l .begin ∷ (l .out - l .begin) ∷ [])) (sym (h .place))
       ∙ ap₂ (λ (m n : ℕ). pass .place ++ (m ∷ n ∷ [])) (omega arith) (omega arith)
 
-  -- the leaf leafBegun is closed, and its row goes behind the rows
+  -- the leaf begun is closed, and its row goes behind the rows
   pub held-put : {next : Laying} → Closes l next
       → Held text₀ leaves₀ (closing pass (placeOf next)) next text (sets leaves (l .row * 7) (rowOf l))
   held-put k =
