@@ -3,7 +3,7 @@
 use mathlib.Core.Bool.{Bool, true, false, _&&_, and-false}
 use mathlib.Core.Path.{_≡_, _∙_}
 use Prim.Native.Nat.{ℕ, _≤_, _<_}
-use lib.Dec.{leb, eqb}
+use lib.Dec.{leb, ltb, eqb}
 use borrow.Author.Tests.{le-leb, lt-leb, eq-eqb, ne-eqb}
 use Rattle.order.specs.Contexts.{isContext}
 use Rattle.order.specs.Watcher.{InTable, allowsC, allowsNext, allows, tookKind, tellBy}
@@ -14,7 +14,7 @@ pub no-C-first : (x : ℕ) → x < 1 → allowsC x ≡ false
 unfolding allowsC
 no-C-first x h = rw (lt-leb 1 x h, allowsC)
 
-pub C-after : (x : ℕ) → 1 ≤ x → allowsC x ≡ leb x 10
+pub C-after : (x : ℕ) → 1 ≤ x → allowsC x ≡ ltb x 11
 unfolding allowsC
 C-after x h = rw (le-leb 1 x h, allowsC)
 

@@ -20,6 +20,7 @@ use Rattle.order.specs.Place.{rowsTold, rowEmpties, rowsEmpty, someLeft,
 use Rattle.order.specs.Followers.{leftAt, follows}
 use Rattle.order.specs.Watcher.{begun, tellOf}
 use Rattle.order.specs.declared.watcher.Watcher.{Watcher}
+use Rattle.order.specs.declared.watcher.Told.{Told}
 use Rattle.order.proofs.Seven.{all-seven₂, states}
 use Rattle.order.proofs.States.{lastAfter, next-state, next-last}
 use Rattle.order.proofs.Misplaced.{place-end, place-here, place-behind, bad-context}
@@ -107,7 +108,8 @@ place-by-watcher c ks = by (isContext c) refl
     by true e = in-context c (true-T (isContext c) e) ks
     by false e = bad-place c e ks ∙ sym (bad-context c (λ h. subst T e h) ks)
 
--- the turns of a loop over the kinds ks: the watcher w has said yes to the first i of them
+-- the turns of a loop over the kinds ks: the watcher w has said yes to the first i of them, and r is what it says of the next, be it
+-- told by the grammar or by the table
 
 pub record Checked (c : ℕ) (ks : List ℕ) (i : ℕ) (w : Watcher) : Type 0 where
   pub so-far : placeBy (i + 1) w (drop i ks) ≡ misplaced c ks
@@ -119,15 +121,17 @@ module _ {c : ℕ} {ks : List ℕ} {i : ℕ} {w : Watcher} (h : Checked c ks i w
   turn : i < length ks → placeBy (i + 1) w (getD ks i 0 ∷ drop (i + 1) ks) ≡ misplaced c ks
   turn l = ap (placeBy (i + 1) w) (sym (drop-cons ks i 0 l ∙ ap (λ (n : ℕ). getD ks i 0 ∷ drop n ks) (sym (add-one i)))) ∙ h .so-far
 
-  pub check-yes : i < length ks → tellOf w (getD ks i 0) .yes ≡ true → Checked c ks (i + 1) (tellOf w (getD ks i 0) .watcher)
-  check-yes l e =
-      record {
-        so-far = ap (λ (n : ℕ). placeBy n (tellOf w (getD ks i 0) .watcher) (drop (i + 1) ks)) (add-one (i + 1))
-            ∙ sym (place-yes (i + 1) w (getD ks i 0) (drop (i + 1) ks) e) ∙ turn l;
-      }
+  module _ (l : i < length ks) {r : Told} (e : r ≡ tellOf w (getD ks i 0)) where
+    pub check-yes : r .yes ≡ true → Checked c ks (i + 1) (r .watcher)
+    check-yes y =
+        record {
+          so-far = ap (λ (n : ℕ). placeBy n (r .watcher) (drop (i + 1) ks)) (add-one (i + 1))
+              ∙ ap (λ (x : Told). placeBy (suc (i + 1)) (x .watcher) (drop (i + 1) ks)) e
+              ∙ sym (place-yes (i + 1) w (getD ks i 0) (drop (i + 1) ks) (ap (λ (x : Told). x .yes) (sym e) ∙ y)) ∙ turn l;
+        }
 
-  pub check-no : i < length ks → tellOf w (getD ks i 0) .yes ≡ false → misplaced c ks ≡ i + 1
-  check-no l e = sym (sym (place-no (i + 1) w (getD ks i 0) (drop (i + 1) ks) e) ∙ turn l)
+    pub check-no : r .yes ≡ false → misplaced c ks ≡ i + 1
+    check-no y = sym (sym (place-no (i + 1) w (getD ks i 0) (drop (i + 1) ks) (ap (λ (x : Told). x .yes) (sym e) ∙ y)) ∙ turn l)
 
   pub check-whole : length ks ≤ i → w .last ≡ 11 → misplaced c ks ≡ 0
   check-whole l e = sym (sym (place-whole (i + 1) w e) ∙ ap (placeBy (i + 1) w) (sym (drop-of-length-le ks l)) ∙ h .so-far)

@@ -83,6 +83,9 @@ level-in c k = by (isContext c) refl (leb k 11) refl
     by false e true f = no-level (flat level) c k e ∙ sym (no-context-level c k e)
     by false e false f = no-level (flat level) c k e ∙ sym (no-context-level c k e)
 
+pub level-in-this : (table : List ℕ) → table ≡ levelTable → (c k : ℕ) → levelIn table c k ≡ level c k
+level-in-this table e c k = ap (λ (l : List ℕ). levelIn l c k) e ∙ level-in c k
+
 -- no level is over 7
 
 low : T (below 7 (λ i. below 12 (λ k. ltb (level (suc i) k) 8)))

@@ -2,7 +2,7 @@
 -- Assumes nothing.
 use mathlib.Core.Bool.{Bool, true, false, not, _&&_, and-true}
 use mathlib.Core.List.{List, [], _∷_, reverse, reverseAux, reverse-append}
-use mathlib.Core.Path.{_≡_, refl, sym, ap, ap₂, _∙_, subst₂}
+use mathlib.Core.Path.{_≡_, refl, sym, ap, ap₂, _∙_, subst⁻¹, subst₂}
 use Prim.Native.Nat.{ℕ, zero, suc, _+_, _≤_, _<_}
 use native.Mathlib.Nat.{le-of-suc-le-suc, not-suc-le-zero, le-of-lt}
 use native.Mathlib.Numerals.{add-one}
@@ -12,7 +12,7 @@ use lib.Dec.{ltb, eqb}
 use lib.ListN.{length, getD, take, getD-replicate, length-reverse}
 use lib.Seq.{length-take-le, take-suc}
 use Rattle.order.specs.Owners.{nearest, isC, owner, ownersAfter, owners}
-use Rattle.order.specs.Owning.{noRows, placeOf, added, owned}
+use Rattle.order.specs.Owning.{noRows, placeOf, added, Owned, owned}
 use Rattle.order.proofs.Nearest.{place-C, place-level, length-added, added-below, added-above}
 
 -- the nearest row that passes a test
@@ -154,3 +154,11 @@ module _ (lv : ℕ → ℕ) (few : (j : ℕ) → lv j < 8) {ks : List ℕ} {i : 
       record {
         known = subst₂ (λ (b : List ℕ) (m : ℕ). Known lv b (after m)) (sym (kinds-before ks i h)) n (known-next lv few (r .known) (getD ks i 0));
       }
+
+  -- one turn, by what `owner_of` hands back: the owner, and what is known of one row more
+  pub row-read : {after : List ℕ} {row l o : ℕ} → row ≡ i + 1 → l ≡ lv (getD ks i 0) → Owned near after row (getD ks i 0) l o
+      → (o ≡ getD (owners lv ks) i 0) × RowsKnown lv ks (i + 1) after
+  row-read e f w = (
+    w .owner ∙ ap (λ (m : ℕ). getD near (placeOf (getD ks i 0) m) 0) f ∙ row-owner,
+    subst⁻¹ (RowsKnown lv ks (i + 1)) (w .known ∙ ap₂ (λ (m n : ℕ). added near (placeOf (getD ks i 0) m) n) f e) row-next,
+  )

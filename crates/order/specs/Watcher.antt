@@ -3,7 +3,7 @@
 use mathlib.Core.Bool.{Bool, true, false, _&&_}
 use mathlib.Core.List.{List, [], _∷_}
 use Prim.Native.Nat.{ℕ, _+_, _*_, _-_, _≤_}
-use lib.Dec.{leb, eqb}
+use lib.Dec.{leb, ltb, eqb}
 use lib.ListN.{getD}
 use Rattle.order.specs.Contexts.{isContext}
 use Rattle.order.specs.Followers.{follows}
@@ -29,7 +29,7 @@ pub record InTable (c x k : ℕ) : Type 0 where
 
 -- whether C may stand after the last kind: "after each segment that is neither C nor L"
 unfoldable pub allowsC : ℕ → Bool
-allowsC x = leb 1 x && leb x 10
+allowsC x = leb 1 x && ltb x 11
 
 -- whether a kind that is no C may come after the last one: H comes first, and then what may follow
 unfoldable pub allowsNext : (ℕ → ℕ → ℕ → Bool) → ℕ → ℕ → ℕ → Bool

@@ -2,6 +2,11 @@
 ghost use mathlib.Core.Path.{_≡_};
 ghost use Rattle.order.specs.Followers.{followers};
 
+// How many entries a kind that stands has, and a context.
+pub const PER_KIND: usize = 11;
+
+pub const PER_CONTEXT: usize = 121;
+
 // 1 where a kind may come next and 0 where it may not: at (context - 1) * 121 + (kind that stands - 1) * 11 + (kind that comes - 1).
 pub const FOLLOWERS: [u8; 847] = [
     0,

@@ -1,8 +1,13 @@
 // The levels of kinds: "H and L 1, P 2, ERR 2; OBR 3, OBX 4 in ORM and ORU; .."
+use form::context::Context;
+use form::kind::Kind;
 ghost use mathlib.Core.Path.{_≡_};
 ghost use Rattle.order.specs.Levels.{levelTable, levelIn};
 
-// Document 01's levels: at (context - 1) * 12 + kind, for the kinds 1 to 11; 0 where a context has no such kind.
+// How many entries a context has.
+pub const PER_CONTEXT: usize = 12;
+
+// Document 01's levels: at (context - 1) * PER_CONTEXT + kind, for the kinds 1 to 11; 0 where a context has no such kind.
 pub const LEVELS: [u8; 84] = [
     0,
     1,
@@ -104,12 +109,12 @@ pub fn level_of(levels: &[u8; 84], context: u8, kind: u8) -> u8
     if context < 1 {
         return 0;
     }
-    if 7 < context {
+    if Context::FAC < context {
         return 0;
     }
-    if 11 < kind {
+    if Kind::L < kind {
         return 0;
     }
-    let entry = (context as usize - 1) * 12 + kind as usize;
+    let entry = (context as usize - 1) * PER_CONTEXT + kind as usize;
     levels[entry]
 }

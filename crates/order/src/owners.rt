@@ -1,25 +1,31 @@
 // Owners, row by row as rows are read: "The owner of a segment is the nearest earlier one, C aside, with a smaller level; H and L have
 // 0. The owner of a C is the nearest earlier segment that is no C."
+use form::kind::Kind;
 ghost use mathlib.Core.Path.{_≡_};
 ghost use Prim.Native.Nat.{_≤_};
 ghost use Rattle.order.specs.Owning.{placeOf, noRows, Owned};
 
+// What is known of the rows so far has a place for each level, and one above all levels.
+pub const PLACES: usize = 9;
+
+const ABOVE: usize = 8;
+
 // What is known before any row: at place l stands the row of the nearest segment, C aside, with a level below l, or 0. Place 8 is
 // above all levels.
-pub fn no_rows() -> [u16; 9]
+pub fn no_rows() -> [u16; PLACES]
     ensures { λ r. ⌜ r ≡ noRows ⌝ }
 {
-    [0u16; 9]
+    [0u16; PLACES]
 }
 
 // The owner of the next row, by what is known of the rows before it, which the row is then added to. A level over 8 counts as 8.
-pub fn owner_of(nearest: &mut [u16; 9], row: u16, kind: u8, level: u8) -> u16
+pub fn owner_of(nearest: &mut [u16; PLACES], row: u16, kind: u8, level: u8) -> u16
     ensures { λ r. ⌜ Owned (now (nearest .entry)) (now (nearest .exit)) row kind level r ⌝ }
 {
     let place = place_of(kind, level);
     let owner = nearest[place];
     let mut above = place + 1;
-    while above < 9 {
+    while above < PLACES {
         nearest[above] = row;
         above += 1;
     }
@@ -30,11 +36,12 @@ pub fn owner_of(nearest: &mut [u16; 9], row: u16, kind: u8, level: u8) -> u16
 fn place_of(kind: u8, level: u8) -> usize
     ensures { λ r. ⌜ (r ≡ placeOf kind level) × (r ≤ 8) ⌝ }
 {
-    if kind == 12 {
-        return 8;
+    if kind == Kind::C {
+        return ABOVE;
     }
-    if level < 8 {
-        return level as usize;
+    let place = level as usize;
+    if place < ABOVE {
+        return place;
     }
-    8
+    ABOVE
 }

@@ -1,8 +1,12 @@
 // The order watcher: "begun with a context number 1 to 7 in the order listed above (field 7.7), told one kind number at a time, it
 // hands itself back with yes or no."
+use form::context::Context;
+use form::kind::Kind;
 ghost use mathlib.Core.Path.{_≡_};
 ghost use Prim.Native.Nat.{_≤_};
 ghost use Rattle.order.specs.Watcher.{begun, InTable, listed, allowsC, allowsNext, allows, tookKind, tellBy, tellOf};
+use crate::followers::PER_CONTEXT;
+use crate::followers::PER_KIND;
 
 pub struct Watcher {
     pub context: u8,
@@ -52,7 +56,7 @@ impl Watcher {
     fn after(self, kind: u8) -> Watcher
         ensures { λ r. ⌜ r ≡ tookKind self kind ⌝ }
     {
-        if kind == 12 {
+        if kind == Kind::C {
             return self;
         }
         Watcher {
@@ -69,10 +73,10 @@ fn may_come(followers: &[u8; 847], context: u8, last: u8, kind: u8) -> bool
     if context < 1 {
         return false;
     }
-    if 7 < context {
+    if Context::FAC < context {
         return false;
     }
-    if kind == 12 {
+    if kind == Kind::C {
         return may_have_c(last);
     }
     may_be_next(followers, context, last, kind)
@@ -84,15 +88,15 @@ fn may_be_next(followers: &[u8; 847], context: u8, last: u8, kind: u8) -> bool
     ensures { λ r. ⌜ r ≡ allowsNext (listed (now (followers .entry))) context last kind ⌝ }
 {
     if last == 0 {
-        return kind == 1;
+        return kind == Kind::H;
     }
-    if 11 < last {
+    if Kind::L < last {
         return false;
     }
     if kind < 1 {
         return false;
     }
-    if 11 < kind {
+    if Kind::L < kind {
         return false;
     }
     is_listed(followers, context, last, kind)
@@ -105,7 +109,7 @@ fn may_have_c(last: u8) -> bool
     if last < 1 {
         return false;
     }
-    last <= 10
+    last < Kind::L
 }
 
 // Whether the table's entry for three numbers that are within it is 1.
@@ -113,6 +117,8 @@ fn is_listed(followers: &[u8; 847], context: u8, last: u8, kind: u8) -> bool
     requires { ⌜ InTable context last kind ⌝ }
     ensures { λ r. ⌜ r ≡ listed (now (followers .entry)) context last kind ⌝ }
 {
-    let entry = (context as usize - 1) * 121 + (last as usize - 1) * 11 + (kind as usize - 1);
+    let entry = (context as usize - 1) * PER_CONTEXT
+        + (last as usize - 1) * PER_KIND
+        + (kind as usize - 1);
     followers[entry] == 1
 }
