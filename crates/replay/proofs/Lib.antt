@@ -1,0 +1,2 @@
+-- The laws that the functions of `replay` cite. Assumes nothing.
+pub mod Digits
