@@ -145,6 +145,10 @@ pub kinds-capitals : every capitals kindNames ≡ true
 unfolding every capitals within kindNames bytes
 kinds-capitals = refl
 
+pub contexts-capitals : every capitals contextNames ≡ true
+unfolding every capitals within contextNames bytes
+contexts-capitals = refl
+
 -- a capital letter at each place: a kind's name holds neither a separator nor a byte below 32
 pub capital-at : (t : List ℕ) → capitals t ≡ true → (i : ℕ) → i < length t → (65 ≤ getD t i 0) × (getD t i 0 ≤ 90)
 unfolding capitals

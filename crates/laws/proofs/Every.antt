@@ -17,6 +17,14 @@ module _ {ℓ ℓ′} {A : Type ℓ} {P : A → Type ℓ′} where
   all-append none v = v
   all-append (also h w) v = also h (all-append w v)
 
+  pub all-left : (s t : List A) → All P (s ++ t) → All P s
+  all-left [] t w = none
+  all-left (a ∷ s) t (also h w) = also h (all-left s t w)
+
+  pub all-right : (s t : List A) → All P (s ++ t) → All P t
+  all-right [] t w = w
+  all-right (a ∷ s) t (also h w) = all-right s t w
+
   pub all-drop : (n : ℕ) {s : List A} → All P s → All P (drop n s)
   all-drop zero w = w
   all-drop (suc n) none = none

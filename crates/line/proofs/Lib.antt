@@ -8,3 +8,4 @@ pub mod Finding
 pub mod Handing
 pub mod Going
 pub mod Written
+pub mod FirstLine

@@ -10,3 +10,11 @@ pub mod SoundTest
 pub mod SoundTables
 pub mod Examples
 pub mod Closing
+pub mod Accepting
+pub mod HeaderBytes
+pub mod Filing
+pub mod BySegment
+pub mod FieldNames
+pub mod SegmentBytes
+pub mod LeafTexts
+pub mod RowTests

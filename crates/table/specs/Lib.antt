@@ -6,3 +6,5 @@ pub mod Reading
 pub mod Back
 pub mod Sound
 pub mod Examples
+pub mod BySegment
+pub mod RowTests

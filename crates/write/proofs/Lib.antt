@@ -1,0 +1,5 @@
+pub mod SameTables
+pub mod RoundTrip
+pub mod Fewest
+pub mod Entries
+pub mod LocalTables

@@ -1,0 +1,270 @@
+-- The local conditions say exactly whether some message reads to a table (document 01, number 13): what a writer tests row by row.
+-- Assumes nothing.
+use mathlib.Core.Bool.{true, false}
+use mathlib.Core.List.{List, [], _∷_, map}
+use mathlib.Core.Logic.{_↔_}
+use mathlib.Core.Path.{_≡_, refl, sym, ap, ap₂, _∙_, subst}
+use Prim.Native.Nat.{ℕ, zero, suc, _+_, _*_, _≤_, _<_}
+use native.Mathlib.Omega.{arith}
+use lib.Dec.{ltb}
+use lib.ListN.{length, take, drop, getD}
+use borrow.Author.Tests.{le-ltb}
+use Rattle.laws.specs.Every.{All}
+use Rattle.laws.specs.Each.{Each}
+use Rattle.laws.specs.Sums.{sumOf}
+use Rattle.laws.specs.Tables.{values}
+use Rattle.laws.proofs.Each.{each-from}
+use Rattle.laws.proofs.Tables.{length-values, getD-values}
+use Rattle.laws.proofs.Tests.{never-both}
+use Rattle.form.specs.declared.limits.Limits.{Limits}
+use Rattle.form.specs.declared.separators.Separators.{Separators}
+use Rattle.form.specs.Limits.{Lawful}
+use Rattle.form.specs.Header.{allAllowed, different, five, splitting}
+use Rattle.form.proofs.HeaderRule.{AllAllowed, AllDifferent, all-allowed-facts, facts-all-allowed, different-facts, facts-different}
+use Rattle.line.specs.Lines.{CR, space}
+use Rattle.line.specs.Cutting.{cuts, unlines}
+use Rattle.line.specs.Sound.{Text}
+use Rattle.line.proofs.Fewest.{least-message}
+use Rattle.line.proofs.Written.{Worded}
+use Rattle.order.specs.Place.{misplaced}
+use Rattle.order.specs.Owners.{owners}
+use Rattle.table.specs.Leaves.{Leaf, messageLeaves}
+use Rattle.table.specs.Flat.{leaf, Without}
+use Rattle.table.specs.Filed.{headerBytes, Filed}
+use Rattle.table.specs.Rows.{Table, segmentRowSize, leafRowSize, kindsOf, contextIn, segmentRowsFrom, leafRowsFrom, textOf, allLeaves, tableOf}
+use Rattle.table.specs.Reading.{Room, accepted, short, reading}
+use Rattle.table.specs.Back.{leafAt, leavesOf, separatorsIn, segmentsOf, linesOf, written}
+use Rattle.table.specs.Sound.{Sound, soundFrom}
+use Rattle.table.specs.BySegment.{bySegment, kindAmong, contextAmong, writtenBytes}
+use Rattle.table.proofs.Accepting.{Known, Judged, Accepted, accepting}
+use Rattle.table.proofs.Back.{filed-some, separatorsIn-table}
+use Rattle.table.proofs.BySegment.{segments-found, length-messageLeaves}
+use Rattle.table.proofs.FieldNames.{kinds-among, context-among}
+use Rattle.table.proofs.Filing.{segmentsOfAccepted, accepted-header, accepted-worded, accepted-filed, all-worded}
+use Rattle.table.proofs.HeaderBytes.{header-clear}
+use Rattle.table.proofs.LeafTexts.{AllText, text-leaves}
+use Rattle.table.proofs.Rows.{leavesOf-table}
+use Rattle.table.proofs.SegmentBytes.{filed-bytes}
+use Rattle.table.proofs.SoundTables.{headed, afterHeader, filed-leaves, filed-sound, table-filed, table-leaves}
+use Rattle.table.proofs.SoundTest.{soundFrom-true, soundFrom-holds}
+use Rattle.write.specs.Local.{groupsOf, kindsAmong, Local}
+use Rattle.write.specs.Writing.{stated, ReadTo, readsBack}
+use Rattle.write.proofs.SameTables.{same-numbers, same-parts}
+use Rattle.write.proofs.RoundTrip.{written-accepted, reads-back, reads-same}
+
+-- buffers of the stated sizes are long enough
+pub stated-roomy : (L : Limits) → short L (stated L) ≡ false
+unfolding short stated
+stated-roomy L =
+    rw (
+      le-ltb (L .bytes) (L .bytes) (omega arith),
+      le-ltb (L .segments * segmentRowSize) (L .segments * segmentRowSize) (omega arith),
+      le-ltb (L .leaves * leafRowSize) (L .leaves * leafRowSize) (omega arith),
+    )
+
+-- a text of four bytes is its four bytes
+four-bytes : (s : List ℕ) → length s ≡ 4 → s ≡ getD s 0 0 ∷ getD s 1 0 ∷ getD s 2 0 ∷ getD s 3 0 ∷ []
+four-bytes [] h = absurd (omega arith)
+four-bytes (a ∷ []) h = absurd (omega arith)
+four-bytes (a ∷ b ∷ []) h = absurd (omega arith)
+four-bytes (a ∷ b ∷ c ∷ []) h = absurd (omega arith)
+four-bytes (a ∷ b ∷ c ∷ d ∷ []) h = refl
+four-bytes (a ∷ b ∷ c ∷ d ∷ e ∷ s) h = absurd (omega arith)
+
+-- sound leaves from the third on: there are three at least, and the first two stand before them
+two-first : (f : ℕ → Leaf) (n : ℕ) (ps place : List ℕ) → soundFrom ps place (drop 2 (values f 0 n)) ≡ true
+    → values f 0 n ≡ f 0 ∷ f 1 ∷ drop 2 (values f 0 n)
+unfolding values soundFrom
+two-first f zero ps place h = absurd (never-both h refl)
+two-first f (suc zero) ps place h = absurd (never-both h refl)
+two-first f (suc (suc n)) ps place h = refl
+
+-- what the segments of a table's leaves are, where these are the leaves of segments that can be filed
+module _ (t : Table) (ps : Separators) (allowed : AllAllowed ps) (ss : List (List ℕ)) (filed : Filed ps ss)
+    (leaves : allLeaves ps ss ≡ leavesOf t) where
+  same-groups : groupsOf t ≡ messageLeaves ps ss
+  unfolding groupsOf
+  same-groups = ap bySegment (sym leaves) ∙ segments-found ps ss
+
+  same-kinds : kindsAmong t ≡ kindsOf ps ss
+  unfolding kindsAmong
+  same-kinds = ap (map kindAmong) same-groups ∙ kinds-among ps allowed ss filed
+
+  same-context : contextAmong (groupsOf t) ≡ contextIn ps ss
+  same-context = ap contextAmong same-groups ∙ context-among ps allowed ss filed
+
+  same-count : length (groupsOf t) ≡ length ss
+  same-count = ap length same-groups ∙ length-messageLeaves ps ss
+
+  same-bytes : (L : Limits) → Lawful L → sumOf (writtenBytes L) (groupsOf t) ≡ length (unlines (cuts L (ps .field) ss))
+  same-bytes L lawful = ap (sumOf (writtenBytes L)) same-groups ∙ sym (filed-bytes ps L lawful ss filed)
+
+  leaf-count : t .card .leaves ≡ length (allLeaves ps ss)
+  unfolding leavesOf
+  leaf-count = sym (ap length leaves ∙ length-values (leafAt (t .leafRows) (t .text)) 0 (t .card .leaves))
+
+-- a table that meets them
+module _ {L : Limits} {levels : ℕ → ℕ → ℕ} {t : Table} (lawful : Lawful L) (w : Local L levels t) where
+  all-allowed : AllAllowed (separatorsIn t)
+  all-allowed = all-allowed-facts (separatorsIn t) (w .allowed)
+
+  leaves-headed : leavesOf t ≡ headed (separatorsIn t) (drop 2 (leavesOf t))
+  unfolding leavesOf headerBytes separatorsIn
+  leaves-headed =
+      two-first (leafAt (t .leafRows) (t .text)) (t .card .leaves) (CR ∷ splitting (separatorsIn t)) (1 ∷ 3 ∷ 1 ∷ 1 ∷ 1 ∷ []) (w .others)
+      ∙ ap₂ (λ (l m : Leaf). l ∷ m ∷ drop 2 (leavesOf t)) (w .first)
+      (ap₂ leaf (w .second) (four-bytes (leafAt (t .leafRows) (t .text) 1 .text) (w .four)))
+
+  leaves-sound : Sound (CR ∷ splitting (separatorsIn t)) (1 ∷ 3 ∷ 1 ∷ 1 ∷ 1 ∷ []) (drop 2 (leavesOf t))
+  leaves-sound = soundFrom-true (CR ∷ splitting (separatorsIn t)) (1 ∷ 3 ∷ 1 ∷ 1 ∷ 1 ∷ []) (drop 2 (leavesOf t)) (w .others)
+
+  pub local-filed : Filed (separatorsIn t) (segmentsOf t)
+  local-filed = table-filed t (header-clear (separatorsIn t) all-allowed) leaves-sound leaves-headed
+
+  pub local-leaves : allLeaves (separatorsIn t) (segmentsOf t) ≡ leavesOf t
+  local-leaves = table-leaves t (header-clear (separatorsIn t) all-allowed) leaves-sound leaves-headed
+
+  kinds-are : kindsAmong t ≡ kindsOf (separatorsIn t) (segmentsOf t)
+  kinds-are = same-kinds t (separatorsIn t) all-allowed (segmentsOf t) local-filed local-leaves
+
+  context-is : t .card .context ≡ contextIn (separatorsIn t) (segmentsOf t)
+  context-is = w .context ∙ same-context t (separatorsIn t) all-allowed (segmentsOf t) local-filed local-leaves
+
+  leaves-are : t .card .leaves ≡ length (allLeaves (separatorsIn t) (segmentsOf t))
+  leaves-are = leaf-count t (separatorsIn t) all-allowed (segmentsOf t) local-filed local-leaves
+
+  text-is : t .text ≡ textOf (allLeaves (separatorsIn t) (segmentsOf t))
+  text-is = w .text ∙ ap textOf (sym local-leaves)
+
+  -- it is the table of its segments
+  pub local-table : t ≡ tableOf levels (separatorsIn t) (segmentsOf t)
+  unfolding tableOf separatorsIn
+  local-table =
+      same-parts t (tableOf levels (separatorsIn t) (segmentsOf t))
+      (same-numbers (t .card) (tableOf levels (separatorsIn t) (segmentsOf t) .card) refl context-is
+      (w .segmentCount ∙ same-count t (separatorsIn t) all-allowed (segmentsOf t) local-filed local-leaves)
+      leaves-are
+      (w .textCount ∙ ap length text-is))
+      (w .segmentRows
+      ∙ ap₂ (λ (ks : List ℕ) (c : ℕ). segmentRowsFrom 1 ks (owners (levels c) ks) (groupsOf t)) kinds-are context-is
+      ∙ ap (segmentRowsFrom 1 (kindsOf (separatorsIn t) (segmentsOf t)) (owners (levels (contextIn (separatorsIn t) (segmentsOf t))) (kindsOf (separatorsIn t) (segmentsOf t))))
+      (same-groups t (separatorsIn t) all-allowed (segmentsOf t) local-filed local-leaves))
+      (w .leafRows ∙ ap (leafRowsFrom 0) (sym local-leaves))
+      text-is
+
+  local-judged : Judged L levels (separatorsIn t) (segmentsOf t) t
+  local-judged =
+      record {
+        few-segments =
+            omega (arith, w .segmentCount, same-count t (separatorsIn t) all-allowed (segmentsOf t) local-filed local-leaves, w .few-segments);
+        known = subst Known kinds-are (w .known);
+        context = λ e. w .named (context-is ∙ e);
+        ordered = ap₂ misplaced (sym context-is) (sym kinds-are) ∙ w .ordered;
+        few-leaves = omega (arith, leaves-are, w .few-leaves);
+        table = local-table;
+      }
+
+  local-worded : Each Worded (segmentsOf t)
+  local-worded =
+      all-worded (separatorsIn t) (segmentsOf t) (subst Known kinds-are (w .known))
+      (text-leaves (separatorsIn t) all-allowed (segmentsOf t) local-filed .1 (subst AllText text-is (w .bytes)))
+
+  pub local-accepted : Accepted L levels (stated L) (written L t) t
+  unfolding written linesOf separatorsIn
+  local-accepted =
+      written-accepted {ps = separatorsIn t} {segments = segmentsOf t} lawful all-allowed (different-facts (separatorsIn t) (w .distinct)) local-filed local-worded local-judged
+      (stated-roomy L)
+      (omega (arith, same-bytes t (separatorsIn t) all-allowed (segmentsOf t) local-filed local-leaves L lawful, w .few-bytes))
+
+-- the table of segments that can be filed and were accepted meets them
+module _ (L : Limits) (lawful : Lawful L) (levels : ℕ → ℕ → ℕ) (ps : Separators) (allowed : AllAllowed ps) (unlike : AllDifferent ps) where
+  -- its first two leaves, and those from the third on
+  module _ (h : List ℕ) (ss : List (List ℕ)) (filed : Filed ps (h ∷ ss)) where
+    abbrev table : Table
+    table = tableOf levels ps (h ∷ ss)
+
+    table-headed : leavesOf table ≡ headed ps (afterHeader ps h ss filed)
+    table-headed = leavesOf-table levels ps (h ∷ ss) ∙ filed-leaves ps h ss filed
+
+    leaf-at : (i : ℕ) → i < 2 → leafAt (table .leafRows) (table .text) i ≡ getD (headed ps (afterHeader ps h ss filed)) i (leaf [] [])
+    unfolding leavesOf tableOf
+    leaf-at i less =
+        sym (getD-values (leafAt (table .leafRows) (table .text)) 0 (table .card .leaves) i (leaf [] []) many ∙ ap (leafAt (table .leafRows) (table .text)) (omega arith))
+        ∙ ap (λ (ls : List Leaf). getD ls i (leaf [] [])) table-headed
+      where
+        many : i < table .card .leaves
+        many = rw (filed-leaves ps h ss filed) (omega arith)
+
+    table-others : soundFrom (CR ∷ splitting (separatorsIn table)) (1 ∷ 3 ∷ 1 ∷ 1 ∷ 1 ∷ []) (drop 2 (leavesOf table)) ≡ true
+    unfolding splitting
+    table-others =
+        ap₂ (λ (q : Separators) (ls : List Leaf). soundFrom (CR ∷ splitting q) (1 ∷ 3 ∷ 1 ∷ 1 ∷ 1 ∷ []) (drop 2 ls))
+        (separatorsIn-table levels ps (h ∷ ss) filed) table-headed
+        ∙ soundFrom-holds (CR ∷ splitting ps) refl (filed-sound ps h ss filed)
+
+    pub filed-local : Each Worded (h ∷ ss) → Judged L levels ps (h ∷ ss) table
+        → length (unlines (cuts L (ps .field) (h ∷ ss))) ≤ L .bytes → Local L levels table
+    unfolding headerBytes tableOf
+    filed-local worded judged fits =
+        let separators = separatorsIn-table levels ps (h ∷ ss) filed in
+        let leaves : allLeaves ps (h ∷ ss) ≡ leavesOf table = sym (leavesOf-table levels ps (h ∷ ss)) in
+        let kinds = same-kinds table ps allowed (h ∷ ss) filed leaves in
+        let groups = same-groups table ps allowed (h ∷ ss) filed leaves in
+        let named = same-context table ps allowed (h ∷ ss) filed leaves in
+        record {
+          allowed = ap (λ (q : Separators). allAllowed (five q)) separators ∙ facts-all-allowed ps allowed;
+          distinct = ap (λ (q : Separators). different (five q)) separators ∙ facts-different ps unlike;
+          first = leaf-at 0 (omega arith);
+          second = ap (λ (l : Leaf). l .place) (leaf-at 1 (omega arith));
+          four = ap (λ (l : Leaf). length (l .text)) (leaf-at 1 (omega arith));
+          others = table-others;
+          leafRows = ap (leafRowsFrom 0) leaves;
+          text = ap textOf leaves;
+          bytes =
+              text-leaves ps allowed (h ∷ ss) filed .0
+              (each-from Worded Text (h ∷ ss) worded (λ s v. v .1));
+          known = subst Known (sym kinds) (judged .known);
+          context = sym named;
+          named = judged .context;
+          ordered = ap (misplaced (contextIn ps (h ∷ ss))) kinds ∙ judged .ordered;
+          segmentRows =
+              ap₂ (λ (ks : List ℕ) (gs : List (List Leaf)). segmentRowsFrom 1 ks (owners (levels (contextIn ps (h ∷ ss))) ks) gs)
+              (sym kinds) (sym groups);
+          segmentCount = sym (same-count table ps allowed (h ∷ ss) filed leaves);
+          textCount = refl;
+          few-segments = judged .few-segments;
+          few-leaves = judged .few-leaves;
+          few-bytes = omega (arith, same-bytes table ps allowed (h ∷ ss) filed leaves L lawful, fits);
+        }
+
+  pub segments-local : (segments : List (List ℕ)) → Filed ps segments → Each Worded segments
+      → Judged L levels ps segments (tableOf levels ps segments) → length (unlines (cuts L (ps .field) segments)) ≤ L .bytes
+      → Local L levels (tableOf levels ps segments)
+  segments-local [] filed worded judged fits = absurd (filed-some ps filed)
+  segments-local (h ∷ ss) filed worded judged fits = filed-local h ss filed worded judged fits
+
+module _ {L : Limits} {levels : ℕ → ℕ → ℕ} {room : Room} {m : List ℕ} {t : Table} (lawful : Lawful L) (w : Accepted L levels room m t) where
+  pub accepted-local : Local L levels t
+  accepted-local =
+      subst (Local L levels) (sym (w .segments .table))
+      (segments-local L lawful levels (w .separators) (accepted-header lawful w .allowed) (accepted-header lawful w .different) (segmentsOfAccepted lawful w)
+      (accepted-filed lawful w) (accepted-worded lawful w)
+      (subst (Judged L levels (w .separators) (segmentsOfAccepted lawful w)) (w .segments .table) (w .segments))
+      (omega (arith, shorter, w .fits)))
+    where
+      shorter : length (unlines (cuts L (w .separators .field) (segmentsOfAccepted lawful w))) ≤ length m
+      shorter = least-message L lawful (w .separators .field) (segmentsOfAccepted lawful w) m refl
+
+-- so the table test says exactly whether they hold
+module _ (L : Limits) (lawful : Lawful L) (levels : ℕ → ℕ → ℕ) (t : Table) where
+  pub reads-back-local : (readsBack L levels t ≡ true) ↔ Local L levels t
+  reads-back-local = (
+    λ h. accepted-local lawful (accepting L levels (stated L) (written L t) t .0 (reads-same L lawful levels t h)),
+    λ w. reads-back L lawful levels t .1 (written L t, accepting L levels (stated L) (written L t) t .1 (local-accepted lawful w)),
+  )
+
+  pub read-local : ReadTo L levels t ↔ Local L levels t
+  read-local = (
+    λ r. accepted-local lawful (accepting L levels (stated L) (r .0) t .0 (r .1)),
+    λ w. reads-back L lawful levels t .0 (reads-back-local .1 w),
+  )
