@@ -3,7 +3,7 @@
 use mathlib.Core.List.{List, [], _∷_, _++_, map}
 use Prim.Native.Nat.{ℕ, zero, suc, _<_}
 use native.Mathlib.Omega.{arith}
-use lib.ListN.{length, drop, getD}
+use lib.ListN.{length, take, drop, getD}
 use Rattle.laws.specs.Every.{All, none, also}
 
 module _ {ℓ ℓ′} {A : Type ℓ} {P : A → Type ℓ′} where
@@ -29,6 +29,11 @@ module _ {ℓ ℓ′} {A : Type ℓ} {P : A → Type ℓ′} where
   all-drop zero w = w
   all-drop (suc n) none = none
   all-drop (suc n) (also h w) = all-drop n w
+
+  pub all-take : (n : ℕ) {s : List A} → All P s → All P (take n s)
+  all-take zero w = none
+  all-take (suc n) none = none
+  all-take (suc n) (also h w) = also h (all-take n w)
 
   -- at each place, and from each place
   pub all-at : {s : List A} (i : ℕ) (d : A) → All P s → i < length s → P (getD s i d)

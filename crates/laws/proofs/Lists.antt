@@ -10,7 +10,7 @@ use native.Mathlib.Omega.{arith}
 use lib.Dec.{eqb}
 use lib.ListN.{length, getD}
 use borrow.Author.Tests.{eqb-true, eq-eqb, ne-eqb}
-use Rattle.laws.specs.Lists.{same, among, count, numbered, firstFrom}
+use Rattle.laws.specs.Lists.{same, among, count, numbered, firstFrom, firstOf}
 use Rattle.laws.proofs.Tests.{Tested, passed, failed, tested, either, never-both, and-first, and-second, and-both}
 
 module _ {ℓ ℓ′} {A : Type ℓ} {B : Type ℓ′} (f : A → B) where
@@ -239,3 +239,42 @@ found-among b n (a ∷ s) e = go (tested (eqb b a)) (found-among b (suc n) s)
     go : Tested (eqb b a) → ((firstFrom (eqb b) (suc n) s ≡ 0 → ⊥) → among s b ≡ true) → among (a ∷ s) b ≡ true
     go (passed h) ih = among-hit a s b h
     go (failed h) ih = among-miss a s b h ∙ ih (λ z. e (first-miss (eqb b) n a s h ∙ z))
+
+-- `firstOf`: an earlier place stays, and else this one counts
+module _ (earlier : ℕ) (holds : Bool) (place : ℕ) where
+  pub firstOf-earlier : (earlier ≡ 0 → ⊥) → firstOf earlier holds place ≡ earlier
+  unfolding firstOf
+  firstOf-earlier h = rw (ne-eqb earlier 0 h, firstOf)
+
+  pub firstOf-here : earlier ≡ 0 → firstOf earlier holds place ≡ elim holds [ true ↦ place | false ↦ 0 ]
+  unfolding firstOf
+  firstOf-here h = rw (eq-eqb earlier 0 h, firstOf)
+
+-- with one more element, the first that passes is an earlier one or this
+module _ {ℓ} {A : Type ℓ} (p : A → Bool) where
+  pub first-append : (n : ℕ) (s : List A) (a : A)
+      → firstFrom p (suc n) (s ++ a ∷ []) ≡ firstOf (firstFrom p (suc n) s) (p a) (suc n + length s)
+  unfolding firstFrom firstOf
+  first-append n [] a = ap (firstOf 0 (p a)) (sym (add-zero (suc n)))
+  first-append n (b ∷ s) a = go (tested (p b)) (first-append (suc n) s a)
+    where
+      go : Tested (p b) → firstFrom p (suc (suc n)) (s ++ a ∷ []) ≡ firstOf (firstFrom p (suc (suc n)) s) (p a) (suc (suc n) + length s)
+          → firstFrom p (suc n) (b ∷ (s ++ a ∷ [])) ≡ firstOf (firstFrom p (suc n) (b ∷ s)) (p a) (suc n + suc (length s))
+      go (passed e) ih =
+          let here : firstFrom p (suc n) (b ∷ s) ≡ suc n = first-hit p (suc n) b s e in
+          first-hit p (suc n) b (s ++ a ∷ []) e ∙ sym here
+          ∙ sym (firstOf-earlier (firstFrom p (suc n) (b ∷ s)) (p a) (suc n + suc (length s)) (λ z. omega arith))
+      go (failed e) ih =
+          let place : suc (suc n) + length s ≡ suc n + suc (length s) = omega arith in
+          first-miss p (suc n) b (s ++ a ∷ []) e ∙ ih
+          ∙ ap₂ (λ (f k : ℕ). firstOf f (p a) k) (sym (first-miss p (suc n) b s e)) place
+
+  -- no more pass than there are
+  pub count-within : (s : List A) → count p s ≤ length s
+  unfolding count
+  count-within [] = zero-le
+  count-within (a ∷ s) = go (tested (p a)) (count-within s)
+    where
+      go : Tested (p a) → count p s ≤ length s → count p (a ∷ s) ≤ suc (length s)
+      go (passed h) ih = omega (arith, count-pass p a s h)
+      go (failed h) ih = omega (arith, count-fail p a s h)

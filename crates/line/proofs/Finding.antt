@@ -6,14 +6,16 @@ use mathlib.Core.List.{List, [], _∷_}
 use Prim.Native.Nat.{ℕ, suc, _+_, _-_, _≤_, _<_, min}
 use native.Mathlib.Omega.{arith}
 use native.Mathlib.Numerals.{add-one}
+use lib.Dec.{eqb}
 use lib.ListN.{length, getD, take, drop, length-drop, drop-of-length-le}
 use lib.Seq.{getD-drop, drop-drop}
-use borrow.Author.Tests.{lt-ltb, le-ltb, le-leb, lt-leb, ne-eqb}
+use borrow.Author.Tests.{lt-ltb, le-ltb, le-leb, lt-leb, eq-eqb, ne-eqb}
 use Rattle.laws.proofs.Cases.{less-or-not, equal-or-not}
+use Rattle.laws.proofs.Tests.{and-fails-second}
 use Rattle.laws.proofs.Parts.{left-cons}
 use Rattle.form.specs.Numbers.{controlByte, longLine, openLine}
 use Rattle.line.specs.Lines.{CR, space}
-use Rattle.line.specs.Finding.{textRun, lowRun, textEnded, foundFrom, partOf, nextOf}
+use Rattle.line.specs.Finding.{textRun, lowRun, textEnded, endedLine, foundFrom, partOf, nextOf}
 use Rattle.line.specs.declared.finder.Found.{Found}
 use Rattle.line.specs.declared.finder.Found.the-variants.{Line, End, Fault}
 use Rattle.line.proofs.Runs.{textRun-nil, textRun-more, textRun-length, textRun-inside, textRun-after}
@@ -51,6 +53,60 @@ module _ (most at : ℕ) where
   unfolding foundFrom
   foundFrom-long [] some long = absurd (omega (arith, textRun-nil))
   foundFrom-long (b ∷ s) some long = rw (le-ltb b space (textRun-inside (b ∷ s) 0 some), lt-leb (textRun (b ∷ s)) most long, foundFrom)
+
+-- what ends a line's text at the place i: the message's end, a byte of text, its CR, and any other byte below 32
+module _ (m : List ℕ) (at i : ℕ) where
+  pub ended-open : length m ≤ i → endedLine m at i ≡ Fault openLine i
+  unfolding endedLine
+  ended-open k = rw (le-leb (length m) i k, endedLine)
+
+  pub ended-long : i < length m → space ≤ getD m i 0 → endedLine m at i ≡ Fault longLine i
+  unfolding endedLine
+  ended-long k t = rw (lt-leb (length m) i k, le-leb space (getD m i 0) t, endedLine)
+
+  pub ended-line : i < length m → getD m i 0 ≡ CR → at < i → endedLine m at i ≡ Line i (i + 1 + lowRun (drop (i + 1) m))
+  unfolding endedLine
+  ended-line k c l =
+      rw (lt-leb (length m) i k, lt-leb space (getD m i 0) (omega arith), eq-eqb (getD m i 0) CR c, lt-ltb at i l, endedLine)
+
+  pub ended-first : i < length m → getD m i 0 < space → i ≤ at → endedLine m at i ≡ Fault controlByte i
+  unfolding endedLine
+  ended-first k l g =
+      rw (lt-leb (length m) i k, lt-leb space (getD m i 0) l, and-fails-second (eqb (getD m i 0) CR) (le-ltb at i g), endedLine)
+
+  pub ended-control : i < length m → getD m i 0 < space → (getD m i 0 ≡ CR → ⊥) → endedLine m at i ≡ Fault controlByte i
+  unfolding endedLine
+  ended-control k l c =
+      rw (lt-leb (length m) i k, lt-leb space (getD m i 0) l, ne-eqb (getD m i 0) CR c, endedLine)
+
+-- where a line ends whose text goes up to i, and that a fault has a number
+abbrev pub EndedAt : ℕ → Found → Type 0
+EndedAt i (Line e n) = e ≡ i
+EndedAt i End = ⊥
+EndedAt i (Fault k p) = k ≡ 0 → ⊥
+
+pub ended-at : (m : List ℕ) (at i : ℕ) → EndedAt i (endedLine m at i)
+ended-at m at i = ⊎-elim within past (less-or-not i (length m))
+  where
+    other : i < length m → getD m i 0 < space → (getD m i 0 ≡ CR → ⊥) → EndedAt i (endedLine m at i)
+    other k l c = subst⁻¹ (EndedAt i) (ended-control m at i k l c) (λ z. omega arith)
+
+    cr : i < length m → getD m i 0 < space → getD m i 0 ≡ CR → EndedAt i (endedLine m at i)
+    cr k l c =
+        ⊎-elim
+        (λ (g : at < i). subst⁻¹ (EndedAt i) (ended-line m at i k c g) refl)
+        (λ (g : i ≤ at). subst⁻¹ (EndedAt i) (ended-first m at i k l g) (λ z. omega arith))
+        (less-or-not at i)
+
+    within : i < length m → EndedAt i (endedLine m at i)
+    within k =
+        ⊎-elim
+        (λ (l : getD m i 0 < space). ⊎-elim (cr k l) (other k l) (equal-or-not (getD m i 0) CR))
+        (λ (t : space ≤ getD m i 0). subst⁻¹ (EndedAt i) (ended-long m at i k t) (λ z. omega arith))
+        (less-or-not (getD m i 0) space)
+
+    past : length m ≤ i → EndedAt i (endedLine m at i)
+    past k = subst⁻¹ (EndedAt i) (ended-open m at i k) (λ z. omega arith)
 
 -- what the finder reads at the place i where the text that begins at `at` ends, or where a line may have no further byte
 module _ (most : ℕ) (m : List ℕ) (at : ℕ) where
@@ -125,6 +181,30 @@ module _ (most : ℕ) (m : List ℕ) (at : ℕ) where
         ∙ textEnded-other i (getD m i 0) (drop (i + 1) m) c)
         (λ (g : i ≤ at). found-first k l g)
         (less-or-not at i)
+
+    -- so what is found is a line whose text goes up to i, by what stands there
+    pub found-ended : foundFrom most at (drop at m) ≡ endedLine m at i
+    found-ended = ⊎-elim within past (less-or-not i (length m))
+      where
+        other : i < length m → getD m i 0 < space → (getD m i 0 ≡ CR → ⊥) → foundFrom most at (drop at m) ≡ endedLine m at i
+        other k l c = found-control k l c ∙ sym (ended-control m at i k l c)
+
+        cr : i < length m → getD m i 0 < space → getD m i 0 ≡ CR → foundFrom most at (drop at m) ≡ endedLine m at i
+        cr k l c =
+            ⊎-elim
+            (λ (g : at < i). found-line k c g ∙ sym (ended-line m at i k c g))
+            (λ (g : i ≤ at). found-first k l g ∙ sym (ended-first m at i k l g))
+            (less-or-not at i)
+
+        within : i < length m → foundFrom most at (drop at m) ≡ endedLine m at i
+        within k =
+            ⊎-elim
+            (λ (l : getD m i 0 < space). ⊎-elim (cr k l) (other k l) (equal-or-not (getD m i 0) CR))
+            (λ (t : space ≤ getD m i 0). found-long k t ∙ sym (ended-long m at i k t))
+            (less-or-not (getD m i 0) space)
+
+        past : length m ≤ i → foundFrom most at (drop at m) ≡ endedLine m at i
+        past k = found-open k ∙ sym (ended-open m at i k)
 
 -- An answer is one of these ways. What holds of each holds of what is found.
 module _ (P : Found → Type 0) where

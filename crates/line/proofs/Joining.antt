@@ -3,7 +3,7 @@
 use mathlib.Core.Bool.{true, false}
 use mathlib.Core.Path.{_≡_, refl, ap, _∙_}
 use mathlib.Core.List.{List, [], _∷_, _++_, append-assoc}
-use Prim.Native.Nat.{ℕ, suc, _≤_}
+use Prim.Native.Nat.{ℕ, zero, suc, _≤_}
 use native.Mathlib.Omega.{arith}
 use lib.ListN.{length, take, drop}
 use borrow.Author.Tests.{eq-eqb}
@@ -29,6 +29,14 @@ module _ (f : ℕ) where
   addendum-take k [] = refl
   addendum-take k (a ∷ []) = refl
   addendum-take k (a ∷ b ∷ l) = refl
+
+  -- no front of a list that does not begin as one is an addendum
+  pub addendum-front : (k : ℕ) (l : List ℕ) → addendum f l ≡ false → addendum f (take k l) ≡ false
+  unfolding addendum
+  addendum-front zero l h = refl
+  addendum-front (suc k) [] h = refl
+  addendum-front (suc zero) (a ∷ l) h = refl
+  addendum-front (suc (suc k)) (a ∷ l) h = addendum-take k (a ∷ l) ∙ h
 
   pub carried-addendum : (l : List ℕ) (ls : List (List ℕ)) → addendum f l ≡ true → carried f (l ∷ ls) ≡ drop 2 l ++ carried f ls
   unfolding carried

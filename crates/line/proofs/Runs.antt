@@ -3,10 +3,10 @@
 use mathlib.Core.Path.{_≡_, refl, sym, ap, _∙_}
 use mathlib.Core.Logic.{⊎-elim}
 use mathlib.Core.List.{List, [], _∷_}
-use Prim.Native.Nat.{ℕ, zero, suc, _+_, _≤_, _<_}
+use Prim.Native.Nat.{ℕ, zero, suc, _+_, _≤_, _<_, min}
 use native.Mathlib.Nat.{not-suc-le-zero}
 use native.Mathlib.Omega.{arith}
-use lib.ListN.{length, getD, drop, length-drop, drop-of-length-le}
+use lib.ListN.{length, getD, take, drop, length-drop, drop-of-length-le}
 use lib.Seq.{getD-drop}
 use borrow.Author.Tests.{lt-ltb, le-ltb}
 use Rattle.laws.proofs.Cases.{less-or-not}
@@ -101,3 +101,31 @@ textRun-next s b r e =
     let first : getD s (textRun s) 0 ≡ b
     = ap (λ (k : ℕ). getD s k 0) (omega arith) ∙ sym (getD-drop (textRun s) s 0 0) ∙ ap (λ (l : List ℕ). getD l 0 0) e in
     omega (arith, textRun-after s long)
+
+-- the run of a list's front is the list's own as far as it goes
+pub textRun-take : (k : ℕ) (s : List ℕ) → textRun (take k s) ≡ min k (textRun s)
+textRun-take zero s = omega (arith, textRun-nil)
+textRun-take (suc k) [] = omega (arith, textRun-nil)
+textRun-take (suc k) (b ∷ s) =
+    ⊎-elim
+    (λ (l : b < space). omega (arith, textRun-stop b s l, textRun-stop b (take k s) l))
+    (λ (t : space ≤ b). omega (arith, textRun-more b s t, textRun-more b (take k s) t, textRun-take k s))
+    (less-or-not b space)
+
+-- past some of its bytes, what is left of a run
+pub textRun-past : (k : ℕ) (s : List ℕ) → k ≤ textRun s → textRun s ≡ k + textRun (drop k s)
+textRun-past zero s h = omega arith
+textRun-past (suc k) [] h = absurd (omega (arith, textRun-nil))
+textRun-past (suc k) (b ∷ s) h =
+    ⊎-elim
+    (λ (l : b < space). absurd (omega (arith, textRun-stop b s l)))
+    (λ (t : space ≤ b). omega (arith, textRun-more b s t, textRun-past k s (omega (arith, textRun-more b s t))))
+    (less-or-not b space)
+
+-- a list all of whose first k bytes are text begins with a run of k
+pub textRun-reaches : (k : ℕ) (s : List ℕ) → k ≤ length s → ((i : ℕ) → i < k → space ≤ getD s i 0) → k ≤ textRun s
+textRun-reaches zero s h t = omega arith
+textRun-reaches (suc k) [] h t = absurd (omega arith)
+textRun-reaches (suc k) (b ∷ s) h t =
+    omega
+    (arith, textRun-more b s (t 0 (omega arith)), textRun-reaches k s (omega arith) (λ i l. t (suc i) (omega arith)))

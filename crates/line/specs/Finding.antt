@@ -1,10 +1,10 @@
 -- Finding the line that begins at a place of a message (document 01, "Line walk" under "Looking and watching").
 -- Assumes nothing.
-use mathlib.Core.Bool.{true, false}
+use mathlib.Core.Bool.{true, false, _&&_}
 use mathlib.Core.List.{List, [], _∷_}
 use Prim.Native.Nat.{ℕ, suc, _+_, _-_}
 use lib.Dec.{leb, ltb, eqb}
-use lib.ListN.{take, drop}
+use lib.ListN.{length, getD, take, drop}
 use Rattle.form.specs.declared.limits.Limits.{Limits}
 use Rattle.form.specs.Numbers.{controlByte, longLine, openLine}
 use Rattle.line.specs.Lines.{Lines, end, fault, line, CR, space, walkFrom}
@@ -36,6 +36,22 @@ foundFrom most at (b ∷ s) =
           elim (leb (textRun (b ∷ s)) most) [
             | true ↦ textEnded (at + textRun (b ∷ s)) (drop (textRun (b ∷ s)) (b ∷ s))
             | false ↦ Fault longLine (at + most)
+          ]
+    ]
+
+-- what a line is that begins at `at` and whose text goes up to `stop`, by what stands there
+unfoldable pub endedLine : List ℕ → ℕ → ℕ → Found
+endedLine message at stop =
+    elim (leb (length message) stop) [
+      | true ↦ Fault openLine stop
+      | false ↦
+          elim (leb space (getD message stop 0)) [
+            | true ↦ Fault longLine stop
+            | false ↦
+                elim (eqb (getD message stop 0) CR && ltb at stop) [
+                  | true ↦ Line stop (stop + 1 + lowRun (drop (stop + 1) message))
+                  | false ↦ Fault controlByte stop
+                ]
           ]
     ]
 

@@ -5,7 +5,7 @@ ghost use mathlib.Core.Path.{_≡_};
 ghost use Prim.Native.Nat.{_+_, _-_, _≤_, min};
 ghost use lib.ListN.{length, drop};
 ghost use Rattle.form.specs.Limits.{form};
-ghost use Rattle.line.specs.Finding.{textRun, lowRun, foundFrom, foundAt, nextOf, partOf};
+ghost use Rattle.line.specs.Finding.{textRun, lowRun, endedLine, foundFrom, foundAt, nextOf, partOf};
 
 // CR ends a line.
 const CR: u8 = 13;
@@ -38,7 +38,13 @@ fn find_line(line: usize, message: &[u8], at: usize) -> Found
         return Found::End;
     }
     let stop = text_stop(line, at, message.len());
-    let end = text_end(message, at, stop);
+    ended_line(message, at, text_end(message, at, stop))
+}
+
+// What a line is that begins at `at` and whose text goes up to `end`, by what stands there. For any two places of any message.
+pub fn ended_line(message: &[u8], at: usize, end: usize) -> Found
+    ensures { λ r. ⌜ r ≡ endedLine (now (message .entry)) at end ⌝ }
+{
     if message.len() <= end {
         return Found::Fault {
             number: Number::OPEN_LINE,
@@ -66,11 +72,14 @@ fn find_line(line: usize, message: &[u8], at: usize) -> Found
     }
 }
 
-// The last place where the CR of a line that begins at `at` may stand, or the message's end where that comes first.
-fn text_stop(line: usize, at: usize, end: usize) -> usize
-    requires { ⌜ at ≤ end ⌝ }
+// The last place where the CR of a line that begins at `at` may stand, or the message's end where that comes first; `at` itself from
+// the message's end on.
+pub fn text_stop(line: usize, at: usize, end: usize) -> usize
     ensures { λ r. ⌜ r ≡ at + min line (end - at) ⌝ }
 {
+    if end <= at {
+        return at;
+    }
     if line < end - at { at + line } else { end }
 }
 
@@ -90,7 +99,7 @@ fn text_end(message: &[u8], from: usize, stop: usize) -> usize
 }
 
 // Where the bytes below 32 end that begin at `from`.
-fn low_end(message: &[u8], from: usize) -> usize
+pub fn low_end(message: &[u8], from: usize) -> usize
     ensures { λ r. ⌜ r ≡ from + lowRun (drop from (now (message .entry))) ⌝ }
 {
     let mut i = from;

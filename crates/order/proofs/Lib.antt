@@ -17,3 +17,4 @@ pub mod TopLevel
 pub mod OnlyOne
 pub mod NoC
 pub mod ShutOut
+pub mod Refusing

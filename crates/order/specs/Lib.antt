@@ -7,3 +7,4 @@ pub mod Watcher
 pub mod Owners
 pub mod Levels
 pub mod Owning
+pub mod Refusing

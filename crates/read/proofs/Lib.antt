@@ -6,3 +6,6 @@ pub mod Copying
 pub mod ClassLaws
 pub mod HeldLaws
 pub mod LineLaying
+pub mod StartLaws
+pub mod SeenLaws
+pub mod UnderwayLaws

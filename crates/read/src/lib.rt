@@ -4,3 +4,5 @@ mod class;
 mod lay;
 mod letters;
 mod scan;
+mod start;
+mod survey;

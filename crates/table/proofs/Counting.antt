@@ -1,18 +1,19 @@
 -- Counting leaves: one more than there are separators (document 01, "Segments, leaves and the table").
 -- Assumes nothing.
 use mathlib.Core.List.{List, [], _∷_, _++_, append-nil}
-use mathlib.Core.Path.{_≡_, refl, sym, ap, _∙_}
+use mathlib.Core.Path.{_≡_, refl, sym, ap, ap₂, _∙_}
 use Prim.Native.Nat.{ℕ, suc, _+_, _≤_}
 use native.Mathlib.Omega.{arith}
 use lib.ListN.{length, drop, length-map, length-append}
-use Rattle.laws.specs.Lists.{among, count}
+use Rattle.laws.specs.Lists.{among, count, concat}
+use Rattle.laws.specs.Sums.{sumOf}
 use Rattle.laws.specs.Every.{All}
 use Rattle.laws.proofs.Tests.{Tested, passed, failed, tested}
 use Rattle.laws.proofs.Lists.{count-pass, count-fail}
 use Rattle.form.specs.declared.separators.Separators.{Separators}
 use Rattle.form.specs.Header.{splitting}
 use Rattle.line.specs.Lines.{CR}
-use Rattle.table.specs.Leaves.{Leaf, leaves, segmentLeaves, headerLeaves}
+use Rattle.table.specs.Leaves.{Leaf, leaves, segmentLeaves, headerLeaves, leavesFrom, messageLeaves}
 use Rattle.table.specs.Rows.{textOf, allLeaves}
 use Rattle.table.specs.Flat.{leaf, ones, raised, flat, under, Without, glued}
 use Rattle.table.proofs.Flat.{flat-separator, flat-text, leaves-flat, header-flat, message-flat}
@@ -51,6 +52,24 @@ length-headerLeaves ps h =
   where
     rest : List Leaf
     rest = flat (splitting ps) (3 ∷ 1 ∷ 1 ∷ 1 ∷ []) [] (drop 7 h)
+
+-- the other segments: for each one leaf more than separators
+pub length-leavesFrom : (ps : Separators) (n : ℕ) (ss : List (List ℕ))
+    → length (concat (leavesFrom ps n ss)) ≡ sumOf (λ (s : List ℕ). suc (count (among (splitting ps)) s)) ss
+unfolding leavesFrom concat sumOf
+length-leavesFrom ps n [] = refl
+length-leavesFrom ps n (s ∷ ss) =
+    length-append (segmentLeaves ps n s) (concat (leavesFrom ps (suc n) ss))
+    ∙ ap₂ (λ (x y : ℕ). x + y) (length-segmentLeaves ps n s) (length-leavesFrom ps (suc n) ss)
+
+-- a message, segment by segment
+pub length-allSegments : (ps : Separators) (h : List ℕ) (ss : List (List ℕ))
+    → length (allLeaves ps (h ∷ ss))
+    ≡ 3 + count (among (splitting ps)) (drop 7 h) + sumOf (λ (s : List ℕ). suc (count (among (splitting ps)) s)) ss
+unfolding allLeaves messageLeaves concat
+length-allSegments ps h ss =
+    length-append (headerLeaves ps h) (concat (leavesFrom ps 2 ss))
+    ∙ ap₂ (λ (x y : ℕ). x + y) (length-headerLeaves ps h) (length-leavesFrom ps 2 ss)
 
 -- a message: the same of the glued segments, CR being one more separator
 pub length-allLeaves : (ps : Separators) (h : List ℕ) (ss : List (List ℕ)) → 7 ≤ length h → All (Without CR) (h ∷ ss)

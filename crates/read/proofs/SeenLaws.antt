@@ -1,0 +1,315 @@
+-- What a survey knows: how it begins, what a text joined to the open segment adds, what closing the open segment judges, and what is known
+-- in the end.
+-- Assumes nothing.
+use mathlib.Core.Bool.{Bool, not}
+use mathlib.Core.List.{List, [], _∷_, _++_}
+use mathlib.Core.Logic.{⊎-elim}
+use mathlib.Core.Path.{_≡_, refl, sym, ap, ap₂, _∙_}
+use Prim.Native.Nat.{ℕ, suc, _+_, _-_, _≤_}
+use native.Mathlib.Omega.{arith}
+use lib.Dec.{eqb}
+use lib.ListN.{length, getD, drop, length-append, length-map}
+use lib.Seq.{drop-append-le}
+use borrow.Author.Tests.{eq-eqb, ne-eqb}
+use Rattle.laws.specs.Lists.{same, among, count, firstFrom, firstOf}
+use Rattle.laws.specs.Texts.{bytes}
+use Rattle.laws.specs.Sums.{sumOf}
+use Rattle.laws.proofs.Cases.{equal-or-not}
+use Rattle.laws.proofs.Lists.{map-append, count-append, first-append}
+use Rattle.laws.proofs.Sums.{sumOf-nil, sumOf-cons, sumOf-append}
+use Rattle.form.specs.declared.separators.Separators.{Separators}
+use Rattle.form.specs.Header.{splitting}
+use Rattle.form.specs.Names.{contextNames, kindNames, numberAmong, contextOf}
+use Rattle.order.specs.Followers.{followers}
+use Rattle.order.specs.Watcher.{begun, listed, tellBy, tellOf, watched}
+use Rattle.order.specs.Refusing.{firstNo}
+use Rattle.order.specs.Place.{misplaced}
+use Rattle.order.specs.declared.watcher.Watcher.{Watcher}
+use Rattle.order.specs.declared.watcher.Told.{Told}
+use Rattle.order.proofs.Watching.{by-this-table}
+use Rattle.order.proofs.Watched.{same-context}
+use Rattle.order.proofs.Checking.{place-by-watcher}
+use Rattle.order.proofs.Refusing.{watched-append, no-append, placeTold, place-told}
+use Rattle.table.specs.Leaves.{split, kindOfSegment, contextOfHeader}
+use Rattle.table.specs.Filed.{headerBytes}
+use Rattle.table.specs.Rows.{kindsOf, contextIn, allLeaves}
+use Rattle.table.specs.Reading.{firstUnknown}
+use Rattle.table.proofs.Counting.{length-allSegments}
+use Rattle.read.specs.declared.letters.Letters.{Letters}
+use Rattle.read.specs.declared.survey.Survey.{Survey}
+use Rattle.read.specs.Letters.{fresh, withBytes}
+use Rattle.read.specs.Seeing.{nothingSeen, contextWith, withText, kindSeen, contextSeen, watching, toldNow, closed, nextSegment}
+use Rattle.read.specs.Surveying.{placeSeen, Known}
+use Rattle.read.specs.Underway.{Seen}
+use Rattle.read.proofs.LetterLaws.{numberGathered, first-letter, byte-separator, byte-letter, bytes-none, bytes-more, bytes-settled, bytes-append, segment-kind, header-context}
+
+-- the context's letters, and the watcher: only the first segment matters
+module _ (s : Survey) where
+  pub context-first : (f : ℕ) (t : List ℕ) → s .segments ≡ 1 → contextWith f s t ≡ withBytes f (s .context) t
+  unfolding contextWith
+  context-first f t h = rw (eq-eqb (s .segments) 1 h, contextWith)
+
+  pub context-later : (f : ℕ) (t : List ℕ) → (s .segments ≡ 1 → ⊥) → contextWith f s t ≡ s .context
+  unfolding contextWith
+  context-later f t h = rw (ne-eqb (s .segments) 1 h, contextWith)
+
+  pub watching-first : s .segments ≡ 1 → watching s ≡ begun (contextSeen s)
+  unfolding watching
+  watching-first h = rw (eq-eqb (s .segments) 1 h, watching)
+
+  pub watching-later : (s .segments ≡ 1 → ⊥) → watching s ≡ s .watcher
+  unfolding watching
+  watching-later h = rw (ne-eqb (s .segments) 1 h, watching)
+
+-- the struct that a step makes, from what its calls answer
+module _ (s : Survey) (f : ℕ) (t : List ℕ) (n : ℕ) where
+  abbrev textStruct : Letters → Letters → Survey
+  textStruct kind context =
+      record {
+        segments = s .segments;
+        separators = s .separators + n;
+        unknown = s .unknown;
+        misplaced = s .misplaced;
+        watcher = s .watcher;
+        kind = kind;
+        context = context;
+      }
+
+  pub text-first : {kind context : Letters} → s .segments ≡ 1 → kind ≡ withBytes f (s .kind) t → context ≡ withBytes f (s .context) t
+      → textStruct kind context ≡ withText f s t n
+  text-first h k x = ap₂ textStruct k (x ∙ sym (context-first s f t h))
+
+  pub text-later : {kind : Letters} → (s .segments ≡ 1 → ⊥) → kind ≡ withBytes f (s .kind) t → textStruct kind (s .context) ≡ withText f s t n
+  text-later h k = ap₂ textStruct k (sym (context-later s f t h))
+
+module _ (s : Survey) (may : ℕ → ℕ → ℕ → Bool) where
+  abbrev closedStruct : ℕ → ℕ → Watcher → Survey
+  closedStruct unknown misplaced watcher =
+      record {
+        segments = s .segments;
+        separators = s .separators;
+        unknown = unknown;
+        misplaced = misplaced;
+        watcher = watcher;
+        kind = s .kind;
+        context = s .context;
+      }
+
+  pub closed-as : {kind : ℕ} {watcher : Watcher} {told : Told} {unknown misplaced : ℕ}
+      → kind ≡ kindSeen s → watcher ≡ watching s → told ≡ tellBy may watcher kind
+      → unknown ≡ firstOf (s .unknown) (eqb kind 0) (s .segments) → misplaced ≡ firstOf (s .misplaced) (not (told .yes)) (s .segments)
+      → closedStruct unknown misplaced (told .watcher) ≡ closed may s
+  unfolding toldNow
+  closed-as {told = told} {unknown = unknown} k v x u p =
+      ap (λ (b : ℕ). closedStruct unknown b (told .watcher)) p
+      ∙ ap₂ (λ (a : ℕ) (y : Told). closedStruct a (firstOf (s .misplaced) (not (y .yes)) (s .segments)) (y .watcher))
+      (u ∙ ap (λ (j : ℕ). firstOf (s .unknown) (eqb j 0) (s .segments)) k) (x ∙ ap₂ (tellBy may) v k)
+
+-- leaves: a text joined to the last segment brings one for each separator, one more segment brings one
+module _ (ps : Separators) where
+  abbrev marked : List ℕ → ℕ
+  marked s = count (among (splitting ps)) s
+
+  abbrev leafSum : List (List ℕ) → ℕ
+  leafSum ss = sumOf (λ (s : List ℕ). suc (marked s)) ss
+
+  abbrev leafCount : List (List ℕ) → ℕ
+  leafCount segments = length (allLeaves ps segments)
+
+  leafSum-last : (ss : List (List ℕ)) (s : List ℕ) → leafSum (ss ++ s ∷ []) ≡ leafSum ss + suc (marked s)
+  leafSum-last ss s =
+      sumOf-append (λ (t : List ℕ). suc (marked t)) ss (s ∷ [])
+      ∙ ap (λ (n : ℕ). leafSum ss + n)
+      (sumOf-cons (λ (t : List ℕ). suc (marked t)) s [] ∙ ap (λ (n : ℕ). suc (marked s) + n) (sumOf-nil (λ (t : List ℕ). suc (marked t))) ∙ omega arith)
+
+  leaves-text : (done : List (List ℕ)) (last t : List ℕ) → 7 ≤ length (getD (done ++ last ∷ []) 0 [])
+      → leafCount (done ++ (last ++ t) ∷ []) ≡ leafCount (done ++ last ∷ []) + marked t
+  leaves-text [] last t long =
+      let more : marked (drop 7 (last ++ t)) ≡ marked (drop 7 last) + marked t
+      = ap marked (drop-append-le 7 last t long) ∙ count-append (among (splitting ps)) (drop 7 last) t in
+      omega (arith, length-allSegments ps (last ++ t) [], length-allSegments ps last [])
+  leaves-text (h ∷ ds) last t long =
+      omega (
+        arith,
+        length-allSegments ps h (ds ++ (last ++ t) ∷ []),
+        length-allSegments ps h (ds ++ last ∷ []),
+        leafSum-last ds (last ++ t),
+        leafSum-last ds last,
+        count-append (among (splitting ps)) last t,
+      )
+
+  leaves-next : (done : List (List ℕ)) (last : List ℕ) → leafCount ((done ++ last ∷ []) ++ [] ∷ []) ≡ leafCount (done ++ last ∷ []) + 1
+  unfolding count
+  leaves-next [] last =
+      omega (arith, length-allSegments ps last ([] ∷ []), length-allSegments ps last [], leafSum-last [] [])
+  leaves-next (h ∷ ds) last =
+      omega
+      (arith, length-allSegments ps h ((ds ++ last ∷ []) ++ [] ∷ []), length-allSegments ps h (ds ++ last ∷ []), leafSum-last (ds ++ last ∷ []) [])
+
+-- a text joined to the open segment
+module _ (ps : Separators) (s : Survey) (t : List ℕ) (n : ℕ) (all : n ≡ count (among (splitting ps)) t) where
+  pub seen-text : (done : List (List ℕ)) (last : List ℕ) → Seen ps done last s → Seen ps done (last ++ t) (withText (ps .field) s t n)
+  seen-text [] last w =
+      record {
+        count = w .count;
+        leaves = omega (arith, w .leaves, leaves-text ps [] last t (w .header));
+        judged = record { unknown = w .judged .unknown; misplaced = w .judged .misplaced; watcher = w .judged .watcher };
+        kind = ap (λ (l : Letters). withBytes (ps .field) l t) (w .kind) ∙ sym (bytes-append (ps .field) (fresh 1) last t);
+        context =
+            context-first s (ps .field) t (w .count)
+            ∙ ap (λ (l : Letters). withBytes (ps .field) l t) (w .context)
+            ∙ sym (bytes-append (ps .field) (fresh 5) (drop 7 last) t)
+            ∙ ap (withBytes (ps .field) (fresh 5)) (sym (drop-append-le 7 last t (w .header)));
+        header = omega (arith, length-append last t, w .header);
+      }
+  seen-text (h ∷ ds) last w =
+      record {
+        count = w .count;
+        leaves = omega (arith, w .leaves, leaves-text ps (h ∷ ds) last t (w .header));
+        judged = record { unknown = w .judged .unknown; misplaced = w .judged .misplaced; watcher = w .judged .watcher };
+        kind = ap (λ (l : Letters). withBytes (ps .field) l t) (w .kind) ∙ sym (bytes-append (ps .field) (fresh 1) last t);
+        context = context-later s (ps .field) t (λ e. omega (arith, w .count)) ∙ w .context;
+        header = w .header;
+      }
+
+-- the first segment, whatever follows
+first-stays : (done : List (List ℕ)) (last : List ℕ) (more : List (List ℕ)) → getD ((done ++ last ∷ []) ++ more) 0 [] ≡ getD (done ++ last ∷ []) 0 []
+first-stays [] last more = refl
+first-stays (h ∷ ds) last more = refl
+
+-- closing the open segment
+module _ (ps : Separators) (s : Survey) (table : List ℕ) (is : table ≡ followers) where
+  abbrev segmentsOf : List (List ℕ) → List ℕ → List (List ℕ)
+  segmentsOf done last = done ++ last ∷ []
+
+  abbrev watcherOf : List (List ℕ) → List ℕ → Watcher
+  watcherOf done last = begun (contextIn ps (segmentsOf done last))
+
+  kinds-last : (done : List (List ℕ)) (last : List ℕ) → kindsOf ps (segmentsOf done last) ≡ kindsOf ps done ++ kindOfSegment ps last ∷ []
+  unfolding kindsOf
+  kinds-last done last = map-append (kindOfSegment ps) done (last ∷ [])
+
+  length-kinds : (ss : List (List ℕ)) → length (kindsOf ps ss) ≡ length ss
+  unfolding kindsOf
+  length-kinds ss = length-map ss (kindOfSegment ps)
+
+  kind-seen : (done : List (List ℕ)) (last : List ℕ) → Seen ps done last s → kindSeen s ≡ kindOfSegment ps last
+  kind-seen done last w = ap (numberGathered kindNames) (w .kind) ∙ segment-kind ps last
+
+  -- what has been told to the watcher that the message's context begins
+  watching-seen : (done : List (List ℕ)) (last : List ℕ) → Seen ps done last s → watching s ≡ watched (watcherOf done last) (kindsOf ps done)
+  unfolding kindsOf watched contextIn
+  watching-seen [] last w =
+      watching-first s (w .count) ∙ ap begun (ap (numberGathered contextNames) (w .context) ∙ header-context ps last)
+  watching-seen (h ∷ ds) last w = watching-later s (λ e. omega (arith, w .count)) ∙ w .judged .watcher
+
+  misplaced-seen : (done : List (List ℕ)) (last : List ℕ) → Seen ps done last s → s .misplaced ≡ firstNo 1 (watcherOf done last) (kindsOf ps done)
+  unfolding kindsOf firstNo contextIn
+  misplaced-seen [] last w = w .judged .misplaced
+  misplaced-seen (h ∷ ds) last w = w .judged .misplaced
+
+  module _ (done : List (List ℕ)) (last : List ℕ) (w : Seen ps done last s) where
+    told-seen : toldNow (listed table) s ≡ tellOf (watched (watcherOf done last) (kindsOf ps done)) (kindOfSegment ps last)
+    unfolding toldNow
+    told-seen = by-this-table table is (watching s) (kindSeen s) ∙ ap₂ tellOf (watching-seen done last w) (kind-seen done last w)
+
+    place-here : suc 0 + length (kindsOf ps done) ≡ s .segments
+    place-here = omega (arith, length-kinds done, w .count)
+
+    zero-test : (k : ℕ) → eqb k 0 ≡ eqb 0 k
+    zero-test k =
+        ⊎-elim
+        (λ (e : k ≡ 0). eq-eqb k 0 e ∙ sym (eq-eqb 0 k (sym e)))
+        (λ (e : k ≡ 0 → ⊥). ne-eqb k 0 e ∙ sym (ne-eqb 0 k (λ q. e (sym q))))
+        (equal-or-not k 0)
+
+    unknown-closed : closed (listed table) s .unknown ≡ firstUnknown (kindsOf ps (segmentsOf done last))
+    unfolding firstUnknown
+    unknown-closed =
+        ap₂ (λ (a : ℕ) (b : Bool). firstOf a b (s .segments)) (w .judged .unknown) (zero-test (kindSeen s) ∙ ap (eqb 0) (kind-seen done last w))
+        ∙ ap (firstOf (firstUnknown (kindsOf ps done)) (eqb 0 (kindOfSegment ps last))) (sym place-here)
+        ∙ sym (first-append (eqb 0) 0 (kindsOf ps done) (kindOfSegment ps last))
+        ∙ ap (firstFrom (eqb 0) 1) (sym (kinds-last done last))
+
+    misplaced-closed : closed (listed table) s .misplaced ≡ firstNo 1 (watcherOf done last) (kindsOf ps (segmentsOf done last))
+    misplaced-closed =
+        ap₂ (λ (a : ℕ) (b : Bool). firstOf a (not b) (s .segments)) (misplaced-seen done last w) (ap (λ (x : Told). x .yes) told-seen)
+        ∙ ap
+        (firstOf (firstNo 1 (watcherOf done last) (kindsOf ps done))
+        (not (tellOf (watched (watcherOf done last) (kindsOf ps done)) (kindOfSegment ps last) .yes)))
+        (sym place-here)
+        ∙ sym (no-append 0 (watcherOf done last) (kindsOf ps done) (kindOfSegment ps last))
+        ∙ ap (firstNo 1 (watcherOf done last)) (sym (kinds-last done last))
+
+    watcher-closed : closed (listed table) s .watcher ≡ watched (watcherOf done last) (kindsOf ps (segmentsOf done last))
+    watcher-closed =
+        ap (λ (x : Told). x .watcher) told-seen
+        ∙ sym (watched-append (watcherOf done last) (kindsOf ps done) (kindOfSegment ps last))
+        ∙ ap (watched (watcherOf done last)) (sym (kinds-last done last))
+
+    -- the open segment closed and the next begun
+    pub seen-next : Seen ps (segmentsOf done last) [] (nextSegment (listed table) s)
+    seen-next =
+        record {
+          count = omega (arith, w .count, length-append done (last ∷ []));
+          leaves = omega (arith, w .leaves, leaves-next ps done last);
+          judged = record { unknown = unknown-closed; misplaced = misplaced-closed; watcher = watcher-closed };
+          kind = sym (bytes-none (ps .field) (fresh 1));
+          context = w .context ∙ ap (λ (h : List ℕ). withBytes (ps .field) (fresh 5) (drop 7 h)) (sym (first-stays done last ([] ∷ [])));
+          header = rw (first-stays done last ([] ∷ [])) (w .header);
+        }
+
+    place-closed : placeSeen (closed (listed table) s) ≡ misplaced (contextIn ps (segmentsOf done last)) (kindsOf ps (segmentsOf done last))
+    unfolding placeSeen placeTold
+    place-closed =
+        let past : s .segments + 1 ≡ suc 0 + length (kindsOf ps (segmentsOf done last))
+        = omega (arith, w .count, length-kinds (segmentsOf done last), length-append done (last ∷ [])) in
+        ap₂ (λ (a : ℕ) (v : Watcher). placeTold a (v .last) (s .segments + 1)) misplaced-closed watcher-closed
+        ∙ ap
+        (placeTold (firstNo 1 (watcherOf done last) (kindsOf ps (segmentsOf done last)))
+        (watched (watcherOf done last) (kindsOf ps (segmentsOf done last)) .last))
+        past
+        ∙ sym (place-told 0 (watcherOf done last) (kindsOf ps (segmentsOf done last)))
+        ∙ place-by-watcher (contextIn ps (segmentsOf done last)) (kindsOf ps (segmentsOf done last))
+
+    -- all segments closed: what tests 7 to 11 ask
+    pub seen-closed : Known ps (segmentsOf done last) (closed (listed table) s)
+    seen-closed =
+        record {
+          count = omega (arith, w .count, length-append done (last ∷ []));
+          leaves = w .leaves;
+          unknown = unknown-closed;
+          context =
+              ap (λ (v : Watcher). v .context) watcher-closed
+              ∙ same-context (watcherOf done last) (kindsOf ps (segmentsOf done last));
+          place = place-closed;
+        }
+
+-- before the first line: the header's seven bytes are the open segment
+no-context : (ps : Separators) → contextIn ps [] ≡ 0
+unfolding contextIn contextOfHeader split contextOf numberAmong contextNames firstFrom same bytes
+no-context ps = refl
+
+header-kind : (ps : Separators) → (72 ≡ ps .field → ⊥) → withBytes (ps .field) (fresh 1) (headerBytes ps) ≡ nothingSeen .kind
+unfolding headerBytes fresh
+header-kind ps other =
+    let one : Letters = record { left = 1; length = 1; first = 72; second = 0; third = 0 } in
+    let rest : List ℕ = drop 2 (headerBytes ps) in
+    bytes-more (ps .field) (fresh 1) 72 (ps .field ∷ rest)
+    ∙ ap (λ (l : Letters). withBytes (ps .field) l (ps .field ∷ rest))
+    (byte-letter (ps .field) (fresh 1) 72 (λ e. omega arith) other refl ∙ first-letter (fresh 1) 72 refl)
+    ∙ bytes-more (ps .field) one (ps .field) rest
+    ∙ ap (λ (l : Letters). withBytes (ps .field) l rest) (byte-separator (ps .field) one (ps .field) (λ e. omega arith) refl)
+    ∙ bytes-settled (ps .field) (nothingSeen .kind) rest refl
+
+pub seen-begins : (ps : Separators) → (72 ≡ ps .field → ⊥) → Seen ps [] (headerBytes ps) nothingSeen
+unfolding headerBytes count sumOf firstUnknown kindsOf firstFrom firstNo watched
+seen-begins ps other =
+    record {
+      count = refl;
+      leaves = sym (length-allSegments ps (headerBytes ps) []);
+      judged = record { unknown = refl; misplaced = refl; watcher = ap begun (sym (no-context ps)) };
+      kind = sym (header-kind ps other);
+      context = sym (bytes-none (ps .field) (fresh 5));
+      header = omega arith;
+    }

@@ -1,0 +1,83 @@
+-- What each step of the first pass makes of what is known so far.
+-- Assumes nothing.
+use mathlib.Core.Bool.{Bool, true, false, not}
+use mathlib.Core.List.{List}
+use Prim.Native.Nat.{ℕ, _+_}
+use lib.Dec.{eqb}
+use Rattle.laws.specs.Lists.{firstOf}
+use Rattle.form.specs.Names.{kindNames, contextNames, spelledAmong}
+use Rattle.order.specs.Watcher.{begun, tellBy}
+use Rattle.order.specs.declared.watcher.Watcher.{Watcher}
+use Rattle.order.specs.declared.watcher.Told.{Told}
+use Rattle.read.specs.declared.letters.Letters.{Letters}
+use Rattle.read.specs.declared.survey.Survey.{Survey}
+use Rattle.read.specs.Letters.{fresh, withBytes}
+
+-- before the first line: its seven header bytes are known, so the open segment is an H
+abbrev pub nothingSeen : Survey
+nothingSeen =
+    record {
+      segments = 1;
+      separators = 0;
+      unknown = 0;
+      misplaced = 0;
+      watcher = begun 0;
+      kind = record { left = 0; length = 1; first = 72; second = 0; third = 0 };
+      context = fresh 5;
+    }
+
+-- a text with so many separators joined to the open segment; only the first segment's goes to the context
+unfoldable pub contextWith : ℕ → Survey → List ℕ → Letters
+contextWith field s t = elim (eqb (s .segments) 1) [ true ↦ withBytes field (s .context) t | false ↦ s .context ]
+
+abbrev pub withText : ℕ → Survey → List ℕ → ℕ → Survey
+withText field s t separators =
+    record {
+      segments = s .segments;
+      separators = s .separators + separators;
+      unknown = s .unknown;
+      misplaced = s .misplaced;
+      watcher = s .watcher;
+      kind = withBytes field (s .kind) t;
+      context = contextWith field s t;
+    }
+
+-- the kind of the open segment, and the context that the first segment names, by the letters gathered
+abbrev pub kindSeen : Survey → ℕ
+kindSeen s = spelledAmong kindNames (s .kind .length) (s .kind .first) (s .kind .second) (s .kind .third)
+
+abbrev pub contextSeen : Survey → ℕ
+contextSeen s = spelledAmong contextNames (s .context .length) (s .context .first) (s .context .second) (s .context .third)
+
+-- the watcher that is told the open segment's kind: the first segment's field 7.7 begins it
+unfoldable pub watching : Survey → Watcher
+watching s = elim (eqb (s .segments) 1) [ true ↦ begun (contextSeen s) | false ↦ s .watcher ]
+
+-- the open segment closed: its kind judged and the watcher told; `may` says which kinds may follow which
+unfoldable pub toldNow : (ℕ → ℕ → ℕ → Bool) → Survey → Told
+toldNow may s = tellBy may (watching s) (kindSeen s)
+
+abbrev pub closed : (ℕ → ℕ → ℕ → Bool) → Survey → Survey
+closed may s =
+    record {
+      segments = s .segments;
+      separators = s .separators;
+      unknown = firstOf (s .unknown) (eqb (kindSeen s) 0) (s .segments);
+      misplaced = firstOf (s .misplaced) (not (toldNow may s .yes)) (s .segments);
+      watcher = toldNow may s .watcher;
+      kind = s .kind;
+      context = s .context;
+    }
+
+-- and the next one begun
+abbrev pub nextSegment : (ℕ → ℕ → ℕ → Bool) → Survey → Survey
+nextSegment may s =
+    record {
+      segments = s .segments + 1;
+      separators = s .separators;
+      unknown = closed may s .unknown;
+      misplaced = closed may s .misplaced;
+      watcher = closed may s .watcher;
+      kind = fresh 1;
+      context = s .context;
+    }

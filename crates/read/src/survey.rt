@@ -1,0 +1,261 @@
+// The first pass: every line is judged, segments and leaves are counted, kinds, context and order are looked at. Nothing is written.
+use crate::letters::Letters;
+use crate::letters::gather;
+use crate::scan::scan;
+use crate::start::text_from;
+use form::context::Context;
+use form::kind::Kind;
+use form::limits::Limits;
+use form::separators::Separators;
+use line::finder::Found;
+use line::finder::ended_line;
+use line::finder::text_stop;
+use order::watcher::Watcher;
+ghost use mathlib.Core.Path.{_≡_};
+ghost use Prim.Native.Nat.{_+_, _-_, _≤_, _<_};
+ghost use lib.ListN.{length, take, drop};
+ghost use Rattle.laws.specs.Lists.{firstOf};
+ghost use Rattle.order.specs.Watcher.{listed};
+ghost use Rattle.read.specs.Classes.{classTable};
+ghost use Rattle.read.specs.Seeing.{nothingSeen, withText, watching, closed, nextSegment};
+ghost use Rattle.read.specs.Underway.{Underway, LineBegun, StepOf};
+ghost use Rattle.read.specs.Surveying.{Ready, SurveyOf};
+
+// What is known once some lines have been seen. The last segment begun is open: lines may still carry it on.
+pub struct Survey {
+    // segments begun
+    pub segments: usize,
+    // splitting separators, those of the seven header bytes aside
+    pub separators: usize,
+    // the first closed segment of unknown kind, or 0
+    pub unknown: usize,
+    // the first closed segment whose kind may not stand there, or 0
+    pub misplaced: usize,
+    // told the kinds of the closed segments
+    pub watcher: Watcher,
+    // the kind of the open segment, and field 7.7 of the first one, as far as they have come
+    pub kind: Letters,
+    pub context: Letters,
+}
+
+// What one line comes to: the survey with its text and where the next line begins, or a fault.
+pub enum Step {
+    On { seen: Survey, at: usize },
+    Fault { number: u8, place: usize },
+}
+
+// What all lines come to.
+pub enum Surveyed {
+    Whole(Survey),
+    Fault { number: u8, place: usize },
+}
+
+impl Survey {
+    // Before the first line is seen: its seven header bytes are known, so the open segment is an H.
+    fn begin() -> Survey
+        ensures { λ r. ⌜ r ≡ nothingSeen ⌝ }
+    {
+        Survey {
+            segments: 1,
+            separators: 0,
+            unknown: 0,
+            misplaced: 0,
+            watcher: Watcher::begin(0),
+            kind: Letters {
+                left: 0,
+                length: 1,
+                first: b'H',
+                second: 0,
+                third: 0,
+            },
+            context: Letters::fresh(5),
+        }
+    }
+
+    // The text of a line, from `from` up to `end` and with so many separators, joined to the open segment.
+    fn with_text(
+        self,
+        field: u8,
+        message: &[u8],
+        from: usize,
+        end: usize,
+        separators: usize,
+    ) -> Survey
+        requires { ⌜ (from ≤ end) × (end ≤ length (now message)) × (self .separators + separators ≤ end) ⌝ }
+        ensures { λ r. ⌜ r ≡ withText field self (take (end - from) (drop from (now (message .entry)))) separators ⌝ }
+    {
+        let kind = self.kind;
+        let mut next = self;
+        next.separators = self.separators + separators;
+        next.kind = gather(kind, field, message, from, end);
+        if self.segments == 1 {
+            let context = self.context;
+            next.context = gather(context, field, message, from, end);
+            return next;
+        }
+        next
+    }
+
+    // The open segment is closed: its kind is judged and the watcher told.
+    fn closed(self, followers: &[u8; 847]) -> Survey
+        ensures { λ r. ⌜ r ≡ closed (listed (now (followers .entry))) self ⌝ }
+    {
+        let letters = self.kind;
+        let kind = Kind::spelled(letters.length, letters.first, letters.second, letters.third);
+        let watcher = self.watching();
+        let told = watcher.tell_by(followers, kind);
+        let after = told.watcher;
+        let mut next = self;
+        next.watcher = after;
+        next.unknown = first_of(self.unknown, kind == 0, self.segments);
+        next.misplaced = first_of(self.misplaced, !told.yes, self.segments);
+        next
+    }
+
+    // The watcher, which the first segment's field 7.7 begins.
+    fn watching(self) -> Watcher
+        ensures { λ r. ⌜ r ≡ watching self ⌝ }
+    {
+        if self.segments == 1 {
+            let letters = self.context;
+            return Watcher::begin(Context::spelled(
+                letters.length,
+                letters.first,
+                letters.second,
+                letters.third,
+            ));
+        }
+        self.watcher
+    }
+
+    // The open segment is closed and the next one begun.
+    fn next_segment(self, followers: &[u8; 847]) -> Survey
+        requires { ⌜ self .segments + 1 < 18446744073709551616 ⌝ }
+        ensures { λ r. ⌜ r ≡ nextSegment (listed (now (followers .entry))) self ⌝ }
+    {
+        let mut next = self.closed(followers);
+        next.segments = self.segments + 1;
+        next.kind = Letters::fresh(1);
+        next
+    }
+}
+
+// The first place at which a test held, 0 standing for none: the earlier one, or this place where the test holds here.
+fn first_of(earlier: usize, holds: bool, place: usize) -> usize
+    ensures { λ r. ⌜ r ≡ firstOf earlier holds place ⌝ }
+{
+    if earlier != 0 {
+        return earlier;
+    }
+    if holds { place } else { 0 }
+}
+
+// One line that begins at `at`, whose text is joined from `from` on.
+fn see_line(
+    class: &[u8; 256],
+    limits: Limits,
+    separators: Separators,
+    message: &[u8],
+    at: usize,
+    from: usize,
+    seen: Survey,
+) -> Step
+    requires { ⌜ (1 ≤ limits .line) × (now class ≡ classTable separators) × LineBegun limits separators (now message) at from seen ⌝ }
+    ensures { λ r. ⌜ StepOf limits separators (now (message .entry)) at r ⌝ }
+{
+    let stop = text_stop(limits.line, at, message.len());
+    let scanned = scan(class, message, from, stop);
+    match ended_line(message, at, scanned.end) {
+        Found::Line { end, next } => Step::On {
+            seen: seen.with_text(separators.field, message, from, end, scanned.separators),
+            at: next,
+        },
+        Found::End => Step::On { seen, at },
+        Found::Fault { number, place } => Step::Fault { number, place },
+    }
+}
+
+// The next line after some: an addendum carries the open segment on, any other line begins a segment.
+fn next_line(
+    class: &[u8; 256],
+    followers: &[u8; 847],
+    limits: Limits,
+    separators: Separators,
+    message: &[u8],
+    at: usize,
+    seen: Survey,
+) -> Step
+    requires { ⌜ Ready limits separators (now class) (now followers) (now message) × (at < length (now message)) × Underway limits separators (now message) at seen ⌝ }
+    ensures { λ r. ⌜ StepOf limits separators (now (message .entry)) at r ⌝ }
+{
+    let from = text_from(message, at, separators.field);
+    if from == at {
+        return see_line(
+            class,
+            limits,
+            separators,
+            message,
+            at,
+            from,
+            seen.next_segment(followers),
+        );
+    }
+    see_line(class, limits, separators, message, at, from, seen)
+}
+
+// All lines from `first` on.
+fn survey_rest(
+    class: &[u8; 256],
+    followers: &[u8; 847],
+    limits: Limits,
+    separators: Separators,
+    message: &[u8],
+    first: usize,
+    begun: Survey,
+) -> Surveyed
+    requires { ⌜ Ready limits separators (now class) (now followers) (now message) × Underway limits separators (now message) first begun ⌝ }
+    ensures { λ r. ⌜ SurveyOf limits separators (now (message .entry)) r ⌝ }
+{
+    let mut seen = begun;
+    let mut at = first;
+    while at < message.len() {
+        match next_line(class, followers, limits, separators, message, at, seen) {
+            Step::On {
+                seen: more,
+                at: next,
+            } => {
+                seen = more;
+                at = next;
+            }
+            Step::Fault { number, place } => {
+                return Surveyed::Fault { number, place };
+            }
+        }
+    }
+    Surveyed::Whole(seen.closed(followers))
+}
+
+// All lines of a message whose header is sound.
+pub(crate) fn survey_message(
+    class: &[u8; 256],
+    followers: &[u8; 847],
+    limits: Limits,
+    separators: Separators,
+    message: &[u8],
+) -> Surveyed
+    requires { ⌜ Ready limits separators (now class) (now followers) (now message) ⌝ }
+    ensures { λ r. ⌜ SurveyOf limits separators (now (message .entry)) r ⌝ }
+{
+    match see_line(class, limits, separators, message, 0, 7, Survey::begin()) {
+        Step::On { seen, at } => survey_rest(
+            class,
+            followers,
+            limits,
+            separators,
+            message,
+            at,
+            seen,
+        ),
+        Step::Fault { number, place } => Surveyed::Fault { number, place },
+    }
+}
