@@ -278,3 +278,20 @@ module _ {ℓ} {A : Type ℓ} (p : A → Bool) where
       go : Tested (p a) → count p s ≤ length s → count p (a ∷ s) ≤ suc (length s)
       go (passed h) ih = omega (arith, count-pass p a s h)
       go (failed h) ih = omega (arith, count-fail p a s h)
+
+-- one kind of element more to count
+pub count-more : (p : ℕ) (ps t : List ℕ) → count (among ps) t ≤ count (among (p ∷ ps)) t
+unfolding count
+count-more p ps [] = omega arith
+count-more p ps (b ∷ t) = go (tested (among ps b)) (tested (eqb b p)) (count-more p ps t)
+  where
+    go : Tested (among ps b) → Tested (eqb b p) → count (among ps) t ≤ count (among (p ∷ ps)) t
+        → count (among ps) (b ∷ t) ≤ count (among (p ∷ ps)) (b ∷ t)
+    go (passed h) (passed e) le =
+        omega (arith, count-pass (among ps) b t h, count-pass (among (p ∷ ps)) b t (among-hit p ps b e))
+    go (failed h) (passed e) le =
+        omega (arith, count-fail (among ps) b t h, count-pass (among (p ∷ ps)) b t (among-hit p ps b e))
+    go (passed h) (failed e) le =
+        omega (arith, count-pass (among ps) b t h, count-pass (among (p ∷ ps)) b t (among-miss p ps b e ∙ h))
+    go (failed h) (failed e) le =
+        omega (arith, count-fail (among ps) b t h, count-fail (among (p ∷ ps)) b t (among-miss p ps b e ∙ h))

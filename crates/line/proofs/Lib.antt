@@ -9,3 +9,4 @@ pub mod Handing
 pub mod Going
 pub mod Written
 pub mod FirstLine
+pub mod Standing

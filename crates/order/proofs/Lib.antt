@@ -18,3 +18,4 @@ pub mod OnlyOne
 pub mod NoC
 pub mod ShutOut
 pub mod Refusing
+pub mod Coming

@@ -30,3 +30,8 @@ pub record Owned (nearest after : List ℕ) (row k l r : ℕ) : Type 0 where
 unfoldable pub owned : (ℕ → ℕ) → List ℕ → ℕ → List ℕ → List ℕ
 owned lv nearest row [] = []
 owned lv nearest row (k ∷ ks) = getD nearest (placeOf k (lv k)) 0 ∷ owned lv (added nearest (placeOf k (lv k)) row) (suc row) ks
+
+-- what is known once kinds in a row have come, the first of them at a row
+unfoldable pub knownAfter : (ℕ → ℕ) → List ℕ → ℕ → List ℕ → List ℕ
+knownAfter lv nearest row [] = nearest
+knownAfter lv nearest row (k ∷ ks) = knownAfter lv (added nearest (placeOf k (lv k)) row) (suc row) ks

@@ -9,3 +9,8 @@ pub mod LineLaying
 pub mod StartLaws
 pub mod SeenLaws
 pub mod UnderwayLaws
+pub mod SegmentLaws
+pub mod BegunLaws
+pub mod LeftLaws
+pub mod StandLaws
+pub mod HeaderLaws

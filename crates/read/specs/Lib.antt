@@ -6,3 +6,5 @@ pub mod Starting
 pub mod Surveying
 pub mod Seeing
 pub mod Underway
+pub mod Filling
+pub mod Segments

@@ -18,3 +18,5 @@ pub mod FieldNames
 pub mod SegmentBytes
 pub mod LeafTexts
 pub mod RowTests
+pub mod Growing
+pub mod RowsGrowing

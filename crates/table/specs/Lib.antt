@@ -1,6 +1,7 @@
 pub mod Leaves
 pub mod Flat
 pub mod Filed
+pub mod OnePass
 pub mod Rows
 pub mod Reading
 pub mod Back

@@ -1,0 +1,179 @@
+-- Segments closed and one begun: a line is joined to it, it is closed with its row and the next begins, and the message ends.
+-- Assumes nothing.
+use mathlib.Core.List.{List, [], _∷_, _++_}
+use mathlib.Core.Path.{_≡_, sym, ap, ap₂, _∙_, subst, subst⁻¹}
+use Prim.Native.Nat.{ℕ, _+_, _*_, _-_, _≤_}
+use native.Mathlib.Omega.{arith}
+use lib.ListN.{length, getD, length-append}
+use lib.Seq.{sets}
+use Rattle.laws.proofs.Stores.{sets-behind}
+use Rattle.form.specs.declared.separators.Separators.{Separators}
+use Rattle.form.specs.Header.{splitting}
+use Rattle.line.specs.Lines.{CR}
+use Rattle.order.specs.Levels.{levelIn}
+use Rattle.order.specs.Owning.{noRows, placeOf, added, owned, knownAfter}
+use Rattle.order.proofs.Coming.{length-owned, owned-last, known-last}
+use Rattle.table.specs.Leaves.{Leaf, kindOfSegment, messageLeaves}
+use Rattle.table.specs.Rows.{segmentRowsFrom, kindsOf, allLeaves}
+use Rattle.table.specs.Flat.{leaf, Without, Pass, step, ended}
+use Rattle.table.specs.OnePass.{passOver}
+use Rattle.table.proofs.Counting.{length-segmentLeaves, length-headerLeaves}
+use Rattle.table.proofs.Growing.{filed-joined, filed-next, pass-joined, pass-next, pass-ended}
+use Rattle.table.proofs.RowsGrowing.{leavesBehind, messageLeaves-last, allLeaves-last, kindsOf-last, length-kinds, length-messageLeaves, length-segmentRows, segmentRows-last}
+use Rattle.read.specs.declared.letters.Letters.{Letters}
+use Rattle.read.specs.declared.fill.Filling.{Filling}
+use Rattle.read.specs.declared.fill.Line.{Line}
+use Rattle.read.specs.Classes.{classTable}
+use Rattle.read.specs.Letters.{fresh, withBytes}
+use Rattle.read.specs.Laying.{nextSegment, Held}
+use Rattle.read.specs.Segments.{segmentRow, kindSpelled, ClosedBy, begunAfter, lineText, LineFilled, closedRows, Begun}
+use Rattle.read.proofs.LetterLaws.{bytes-none, bytes-append, segment-kind}
+use Rattle.read.proofs.HeldLaws.{Ends, segment-closes, held-segment, held-ended}
+
+-- each segment has a leaf
+pub leaves-some : (ps : Separators) (closed : List (List ℕ)) (s : List ℕ) → 1 ≤ length (leavesBehind ps closed s)
+unfolding leavesBehind
+leaves-some ps [] s = omega (arith, length-headerLeaves ps s)
+leaves-some ps (h ∷ ss) s = omega (arith, length-segmentLeaves ps (2 + length ss) s)
+
+-- the rows of closed segments: four numbers each, and one row more behind them
+module _ (lv : ℕ → ℕ) (ps : Separators) where
+  pub length-closedRows : (closed : List (List ℕ)) → length (closedRows lv ps closed) ≡ length closed * 4
+  unfolding closedRows
+  length-closedRows closed =
+      length-segmentRows 1 (kindsOf ps closed) (owned lv noRows 1 (kindsOf ps closed)) (messageLeaves ps closed)
+      (length-owned lv noRows 1 (kindsOf ps closed))
+      (length-messageLeaves ps closed ∙ sym (length-kinds ps closed))
+      ∙ ap (λ (n : ℕ). n * 4) (length-kinds ps closed)
+
+  -- the owner of a kind by what is known of those before it
+  abbrev ownerBehind : List (List ℕ) → ℕ → ℕ
+  ownerBehind closed k = getD (knownAfter lv noRows 1 (kindsOf ps closed)) (placeOf k (lv k)) 0
+
+  pub closedRows-last : (closed : List (List ℕ)) (s : List ℕ)
+      → closedRows lv ps (closed ++ (s ∷ []))
+      ≡ closedRows lv ps closed
+      ++ segmentRow (kindOfSegment ps s) (ownerBehind closed (kindOfSegment ps s)) (1 + length (allLeaves ps closed)) (length (leavesBehind ps closed s))
+  unfolding closedRows allLeaves
+  closedRows-last closed s =
+      ap (λ (ks : List ℕ). segmentRowsFrom 1 ks (owned lv noRows 1 ks) (messageLeaves ps (closed ++ (s ∷ [])))) (kindsOf-last ps closed s)
+      ∙ ap₂ (λ (os : List ℕ) (ls : List (List Leaf)). segmentRowsFrom 1 (kindsOf ps closed ++ (kindOfSegment ps s ∷ [])) os ls)
+      (owned-last lv noRows 1 (kindsOf ps closed) (kindOfSegment ps s)) (messageLeaves-last ps closed s)
+      ∙ segmentRows-last 1 (kindsOf ps closed) (owned lv noRows 1 (kindsOf ps closed)) (messageLeaves ps closed)
+      (kindOfSegment ps s) (ownerBehind closed (kindOfSegment ps s)) (leavesBehind ps closed s)
+      (length-owned lv noRows 1 (kindsOf ps closed))
+      (length-messageLeaves ps closed ∙ sym (length-kinds ps closed))
+
+module _ {lv : ℕ → ℕ} {ps : Separators} {text₀ segments₀ leaves₀ : List ℕ} {closed : List (List ℕ)} {begun : List ℕ}
+    {f : Filling} {nearest text segments leaves : List ℕ}
+    (b : Begun lv ps text₀ segments₀ leaves₀ closed begun f nearest text segments leaves) where
+  abbrev so-far : List (List ℕ)
+  so-far = closed ++ (begun ∷ [])
+
+  -- how many leaves there are, the one begun among them
+  pub begun-leaves : f .laying .row + 1 ≡ length (allLeaves ps so-far)
+  unfolding ended
+  begun-leaves =
+      omega (
+        arith,
+        b .held .closed,
+        length-append (passOver ps so-far .closed) (leaf (passOver ps so-far .place) (passOver ps so-far .text) ∷ []),
+        ap length (pass-ended ps so-far (b .filed)),
+      )
+
+  -- and how many of them are the segment's own
+  pub begun-own : f .laying .row + 1 ≡ length (allLeaves ps closed) + length (leavesBehind ps closed begun)
+  begun-own =
+      omega (
+        arith,
+        begun-leaves,
+        ap length (allLeaves-last ps closed begun),
+        length-append (allLeaves ps closed) (leavesBehind ps closed begun),
+      )
+
+  pub begun-kind : kindSpelled (f .kind) ≡ kindOfSegment ps begun
+  begun-kind = ap kindSpelled (b .kind) ∙ segment-kind ps begun
+
+  -- a line is joined
+  pub begun-joined : {class message : List ℕ} {from : ℕ} {r : Line} {text′ leaves′ : List ℕ} → class ≡ classTable ps
+      → Without CR (lineText class message from) → LineFilled class (ps .field) message from f text leaves r text′ leaves′
+      → Begun lv ps text₀ segments₀ leaves₀ closed (begun ++ lineText class message from) (r .filling) nearest text′ segments leaves′
+  begun-joined {class} {message} {from} {r} {text′} {leaves′} is clear filled =
+      let t : List ℕ = lineText class message from in
+      record {
+        filed = filed-joined ps closed begun t (b .filed) clear;
+        held =
+            subst⁻¹ (λ (p : Pass). Held text₀ leaves₀ p (r .filling .laying) text′ leaves′) (pass-joined ps closed begun t (b .filed))
+            (filled .laid .held ps text₀ leaves₀ (passOver ps so-far) is (b .held));
+        counted = filled .laid .counted;
+        number = filled .laid .segment ∙ b .number;
+        first = filled .first ∙ b .first;
+        kind =
+            filled .kind
+            ∙ ap (λ (k : Letters). withBytes (ps .field) k t) (b .kind)
+            ∙ sym (bytes-append (ps .field) (fresh 1) begun t);
+        rows = b .rows;
+        known = b .known;
+      }
+
+  -- the segment is closed: its row comes behind the rows
+  module _ {levels : List ℕ} {context : ℕ} {nearest′ segments′ leaves′ : List ℕ} (by : (k : ℕ) → lv k ≡ levelIn levels context k)
+      (w : ClosedBy f levels context nearest segments leaves nearest′ segments′ leaves′) where
+    abbrev k : ℕ
+    k = kindSpelled (f .kind)
+
+    place-by : placeOf k (levelIn levels context k) ≡ placeOf (kindOfSegment ps begun) (lv (kindOfSegment ps begun))
+    place-by = ap (placeOf k) (sym (by k)) ∙ ap (λ (j : ℕ). placeOf j (lv j)) begun-kind
+
+    owner-by : w .owner ≡ ownerBehind lv ps closed (kindOfSegment ps begun)
+    owner-by = w .owns .owner ∙ ap₂ (λ (n : List ℕ) (p : ℕ). getD n p 0) (b .known) place-by
+
+    pub closed-rows : segments′ ≡ sets segments₀ 0 (closedRows lv ps so-far)
+    closed-rows =
+        let count : f .laying .row + 2 - f .first ≡ length (leavesBehind ps closed begun) = omega (arith, begun-own, b .first) in
+        let place : (f .laying .segment - 1) * 4 ≡ length (closedRows lv ps closed)
+        = omega (arith, length-closedRows lv ps closed, b .number) in
+        w .row
+        ∙ ap₂ (λ (s r : List ℕ). sets s ((f .laying .segment - 1) * 4) r) (b .rows)
+        (ap₂ (λ (x o : ℕ). segmentRow x o (f .first) (f .laying .row + 2 - f .first)) begun-kind owner-by
+        ∙ ap₂ (λ (n m : ℕ). segmentRow (kindOfSegment ps begun) (ownerBehind lv ps closed (kindOfSegment ps begun)) n m) (b .first) count)
+        ∙ sets-behind segments₀ (closedRows lv ps closed)
+        (segmentRow (kindOfSegment ps begun) (ownerBehind lv ps closed (kindOfSegment ps begun)) (1 + length (allLeaves ps closed))
+        (length (leavesBehind ps closed begun)))
+        ((f .laying .segment - 1) * 4) place
+        ∙ ap (sets segments₀ 0) (sym (closedRows-last lv ps closed begun))
+
+    -- and it is known itself
+    closed-known : nearest′ ≡ knownAfter lv noRows 1 (kindsOf ps so-far)
+    closed-known =
+        let row : f .laying .segment ≡ 1 + length (kindsOf ps closed) = omega (arith, b .number, length-kinds ps closed) in
+        w .owns .known
+        ∙ ap₂ (λ (n : List ℕ) (p : ℕ). added n p (f .laying .segment)) (b .known) place-by
+        ∙ ap (added (knownAfter lv noRows 1 (kindsOf ps closed)) (placeOf (kindOfSegment ps begun) (lv (kindOfSegment ps begun)))) row
+        ∙ sym (known-last lv noRows 1 (kindsOf ps closed) (kindOfSegment ps begun))
+        ∙ ap (knownAfter lv noRows 1) (sym (kindsOf-last ps closed begun))
+
+    -- the next segment begins
+    pub begun-next : Begun lv ps text₀ segments₀ leaves₀ so-far [] (begunAfter f) nearest′ text segments′ leaves′
+    unfolding nextSegment
+    begun-next =
+        record {
+          filed = filed-next ps closed begun (b .filed);
+          held =
+              subst⁻¹ (λ (p : Pass). Held text₀ leaves₀ p (nextSegment (f .laying)) text leaves′) (pass-next ps closed begun (b .filed))
+              (subst⁻¹ (λ (v : List ℕ). Held text₀ leaves₀ (step (CR ∷ splitting ps) (passOver ps so-far) CR) (nextSegment (f .laying)) text v)
+              (w .leafRow) (held-segment (b .held) ps));
+          counted = segment-closes (f .laying) .counted (b .counted);
+          number = omega (arith, b .number, length-append closed (begun ∷ []));
+          first = omega (arith, begun-leaves);
+          kind = sym (bytes-none (ps .field) (fresh 1));
+          rows = closed-rows;
+          known = closed-known;
+        }
+
+    -- the message ends
+    pub begun-ends : Ends text₀ leaves₀ (allLeaves ps so-far) (f .laying .row + 1) (f .laying .out) text leaves′
+    begun-ends =
+        subst (λ (ls : List Leaf). Ends text₀ leaves₀ ls (f .laying .row + 1) (f .laying .out) text leaves′) (pass-ended ps so-far (b .filed))
+        (subst⁻¹ (λ (v : List ℕ). Ends text₀ leaves₀ (ended (passOver ps so-far)) (f .laying .row + 1) (f .laying .out) text v) (w .leafRow)
+        (held-ended (b .held)))

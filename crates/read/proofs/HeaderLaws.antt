@@ -1,0 +1,166 @@
+-- The header: a message that begins with it begins its first line and its first segment so, and the first two leaves are laid.
+-- Assumes nothing.
+use mathlib.Core.Bool.{false}
+use mathlib.Core.List.{List, [], _∷_, _++_}
+use mathlib.Core.Path.{_≡_, refl, sym, ap, ap₂, _∙_, subst}
+use Prim.Native.Nat.{ℕ, _+_, _≤_, _<_}
+use native.Mathlib.Omega.{arith}
+use lib.ListN.{length, getD, take, drop, take-append-drop}
+use borrow.Author.Tests.{ne-eqb}
+use Rattle.laws.specs.Lists.{concat}
+use Rattle.laws.specs.Every.{none, also}
+use Rattle.form.specs.declared.limits.Limits.{Limits}
+use Rattle.form.specs.declared.separators.Separators.{Separators}
+use Rattle.form.specs.Header.{separatorsOf}
+use Rattle.form.proofs.HeaderRule.{SoundHeader, sound-header}
+use Rattle.line.specs.Lines.{CR, walk}
+use Rattle.line.specs.Joining.{addendum}
+use Rattle.line.specs.Finding.{textRun}
+use Rattle.line.proofs.Runs.{textRun-more}
+use Rattle.order.specs.Levels.{levelIn}
+use Rattle.order.specs.Owning.{noRows, knownAfter}
+use Rattle.table.specs.Leaves.{messageLeaves}
+use Rattle.table.specs.Rows.{segmentRowsFrom, kindsOf, contextIn, allLeaves}
+use Rattle.table.specs.Flat.{gluedTo, glued, steps}
+use Rattle.table.specs.Filed.{headerBytes, Filed}
+use Rattle.table.specs.OnePass.{passOver}
+use Rattle.table.proofs.Growing.{count-leaves}
+use Rattle.read.specs.declared.letters.Letters.{Letters}
+use Rattle.read.specs.declared.fill.Filling.{Filling}
+use Rattle.read.specs.declared.fill.Line.{Line}
+use Rattle.read.specs.Scan.{run}
+use Rattle.read.specs.Letters.{fresh, withLetter, withByte, withBytes}
+use Rattle.read.specs.Laying.{Lays}
+use Rattle.read.specs.Filling.{segmentsIn, Fillable}
+use Rattle.read.specs.Segments.{HeaderPut, lineText, lineAfter, LineFilled, closedRows, Begun, Left, Came, LevelsBelow, Surveyed, Stands}
+use Rattle.read.proofs.ScanLaws.{Bytes}
+use Rattle.read.proofs.LetterLaws.{byte-separator, byte-letter, bytes-settled}
+use Rattle.read.proofs.LeftLaws.{no-addendum, line-within, left-begins, leaves-line}
+use Rattle.read.proofs.StandLaws.{readable, line-lays, line-on}
+
+-- the first seven bytes are the header's
+seven-bytes : (ps : Separators) (m : List ℕ) → 7 ≤ length m → getD m 0 0 ≡ 72 → ps ≡ separatorsOf m → getD m 6 0 ≡ ps .field
+    → take 7 m ≡ headerBytes ps
+unfolding headerBytes separatorsOf
+seven-bytes ps [] long h e again = absurd (omega arith)
+seven-bytes ps (a ∷ []) long h e again = absurd (omega arith)
+seven-bytes ps (a ∷ b ∷ []) long h e again = absurd (omega arith)
+seven-bytes ps (a ∷ b ∷ c ∷ []) long h e again = absurd (omega arith)
+seven-bytes ps (a ∷ b ∷ c ∷ d ∷ []) long h e again = absurd (omega arith)
+seven-bytes ps (a ∷ b ∷ c ∷ d ∷ i ∷ []) long h e again = absurd (omega arith)
+seven-bytes ps (a ∷ b ∷ c ∷ d ∷ i ∷ j ∷ []) long h e again = absurd (omega arith)
+seven-bytes ps (a ∷ b ∷ c ∷ d ∷ i ∷ j ∷ k ∷ r) long h e again =
+    ap₂ (λ (x y : ℕ). x ∷ b ∷ c ∷ d ∷ i ∷ j ∷ y ∷ []) h again
+    ∙ ap (λ (q : Separators). 72 ∷ q .field ∷ q .subfield ∷ q .repeater ∷ q .escape ∷ q .subsubfield ∷ ps .field ∷ []) (sym e)
+
+module _ {m : List ℕ} {ps : Separators} (s : SoundHeader m ps) where
+  pub header-bytes : take 7 m ≡ headerBytes ps
+  header-bytes = seven-bytes ps m (s .long) (s .letter) (s .separators) (s .again)
+
+  -- all seven are text
+  pub header-run : 7 ≤ textRun m
+  unfolding headerBytes
+  header-run =
+      let whole : headerBytes ps ++ drop 7 m ≡ m = ap (λ (t : List ℕ). t ++ drop 7 m) (sym header-bytes) ∙ take-append-drop 7 m in
+      let r : List ℕ = drop 7 m in
+      let a = s .allowed in
+      subst (λ (t : List ℕ). 7 ≤ textRun t) whole
+      (omega (
+        arith,
+        textRun-more 72 (ps .field ∷ ps .subfield ∷ ps .repeater ∷ ps .escape ∷ ps .subsubfield ∷ ps .field ∷ r) (omega arith),
+        textRun-more (ps .field) (ps .subfield ∷ ps .repeater ∷ ps .escape ∷ ps .subsubfield ∷ ps .field ∷ r) (omega (arith, a .field .low)),
+        textRun-more (ps .subfield) (ps .repeater ∷ ps .escape ∷ ps .subsubfield ∷ ps .field ∷ r) (omega (arith, a .subfield .low)),
+        textRun-more (ps .repeater) (ps .escape ∷ ps .subsubfield ∷ ps .field ∷ r) (omega (arith, a .repeater .low)),
+        textRun-more (ps .escape) (ps .subsubfield ∷ ps .field ∷ r) (omega (arith, a .escape .low)),
+        textRun-more (ps .subsubfield) (ps .field ∷ r) (omega (arith, a .subsubfield .low)),
+        textRun-more (ps .field) r (omega (arith, a .field .low)),
+      ))
+
+  pub header-first : addendum (ps .field) m ≡ false
+  header-first = no-addendum (ps .field) m (λ e. let h = s .letter in omega arith)
+
+  -- so they can be filed
+  header-filed : Filed ps (headerBytes ps ∷ [])
+  unfolding headerBytes
+  header-filed =
+      let a = s .allowed in
+      record {
+        header = refl;
+        lines =
+            also
+            (also (ne-eqb 72 CR (λ e. omega arith))
+            (also (ne-eqb (ps .field) CR (λ e. omega (arith, a .field .low)))
+            (also (ne-eqb (ps .subfield) CR (λ e. omega (arith, a .subfield .low)))
+            (also (ne-eqb (ps .repeater) CR (λ e. omega (arith, a .repeater .low)))
+            (also (ne-eqb (ps .escape) CR (λ e. omega (arith, a .escape .low)))
+            (also (ne-eqb (ps .subsubfield) CR (λ e. omega (arith, a .subsubfield .low)))
+            (also (ne-eqb (ps .field) CR (λ e. omega (arith, a .field .low))) none)))))))
+            none;
+      }
+
+  -- and the letters of the kind are gathered
+  header-letters : withBytes (ps .field) (fresh 1) (headerBytes ps) ≡ record { left = 0; length = 1; first = 72; second = 0; third = 0 }
+  unfolding headerBytes withBytes withLetter fresh
+  header-letters =
+      let rest : List ℕ = ps .subfield ∷ ps .repeater ∷ ps .escape ∷ ps .subsubfield ∷ ps .field ∷ [] in
+      let letter : Letters = record { left = 1; length = 1; first = 72; second = 0; third = 0 } in
+      let settled : Letters = record { left = 0; length = 1; first = 72; second = 0; third = 0 } in
+      ap (λ (l : Letters). withBytes (ps .field) (withByte (ps .field) l (ps .field)) rest)
+      (byte-letter (ps .field) (fresh 1) 72 (λ z. omega arith) (λ z. s .allowed .field .noCapital (omega arith) (omega arith)) refl)
+      ∙ ap (λ (l : Letters). withBytes (ps .field) l rest) (byte-separator (ps .field) letter (ps .field) (λ z. omega arith) refl)
+      ∙ bytes-settled (ps .field) settled rest refl
+
+-- what the second pass starts with
+pub surveyed : (levels : List ℕ) {L : Limits} {ps : Separators} {class m text segments leaves : List ℕ} {context : ℕ}
+    → Fillable L ps class m text segments leaves → context ≡ contextIn ps (segmentsIn L ps m) → LevelsBelow levels → Bytes m
+    → Surveyed (record { limits = L; text = text; segments = segments; leaves = leaves }) class levels context ps m
+surveyed levels given named below bytes = record { given = given; named = named; below = below; bytes = bytes }
+
+module _ {c : Came} {class levels : List ℕ} {context : ℕ} {ps : Separators} {m : List ℕ} (y : Surveyed c class levels context ps m) where
+  header : SoundHeader m ps
+  header = sound-header m ps (y .given .header)
+
+  -- the first line goes on after the header
+  first-left : Left (c .limits) ps m [] (headerBytes ps ++ lineText class m 7) (lineAfter class m 7)
+  first-left =
+      subst (λ (t : List ℕ). Left (c .limits) ps m [] (t ++ lineText class m 7) (lineAfter class m 7)) (header-bytes header)
+      (left-begins (readable y) (y .given .sound) (header-run header) (omega (arith, header .long)) (header-first header))
+
+  first-within : 7 + run class (drop 7 m) < length m
+  unfolding walk
+  first-within = line-within (readable y) 0 (omega (arith, header .long)) (y .given .sound) 7 (header-run header)
+
+  -- there is room for the header's bytes and rows
+  pub header-fits : (5 ≤ length (c .text)) × (14 ≤ length (c .leaves))
+  header-fits =
+      let given = y .given in
+      let few = leaves-line (readable y) [] (headerBytes ps) (header-filed header) 7 (lineAfter class m 7) first-left in
+      let three = count-leaves ps (headerBytes ps ∷ []) (header-filed header) in
+      let long = header .long in
+      (omega (arith, given .bytes, given .textRoom), omega (arith, given .fewLeaves, given .leafRoom))
+
+  module _ {r : Filling} {nearest text leaves : List ℕ} (put : HeaderPut ps (c .text) (c .leaves) r text leaves) (rows : nearest ≡ noRows) where
+    header-begun : Begun (levelIn levels context) ps (c .text) (c .segments) (c .leaves) [] (headerBytes ps) r nearest text (c .segments) leaves
+    unfolding passOver glued gluedTo steps headerBytes allLeaves messageLeaves concat closedRows kindsOf segmentRowsFrom knownAfter
+    header-begun =
+        record {
+          filed = header-filed header;
+          held = put .held;
+          counted = put .counted;
+          number = put .number;
+          first = put .first;
+          kind = put .kind ∙ sym (header-letters header);
+          rows = refl;
+          known = rows;
+        }
+
+    behind-header : r .laying .out ≤ 7
+    behind-header = omega (arith, put .out)
+
+    -- the rest of the first line
+    pub first-lays : Lays class m 7 (r .laying) text leaves
+    first-lays = line-lays y header-begun 7 first-left first-within behind-header
+
+    pub first-stands : {l : Line} {text′ leaves′ : List ℕ} → LineFilled class (ps .field) m 7 r text leaves l text′ leaves′
+        → Stands c class levels context ps m (l .next) (l .filling) nearest text′ (c .segments) leaves′
+    first-stands filled = line-on y header-begun 7 first-left first-within behind-header filled

@@ -1,0 +1,47 @@
+-- What the second pass may count on, and what it leaves in the three buffers.
+-- Assumes nothing.
+use mathlib.Core.List.{List}
+use mathlib.Core.Path.{_≡_}
+use Prim.Native.Nat.{ℕ, _*_, _≤_, _<_}
+use lib.ListN.{length}
+use lib.Seq.{sets}
+use Rattle.form.specs.declared.limits.Limits.{Limits}
+use Rattle.form.specs.declared.separators.Separators.{Separators}
+use Rattle.form.specs.declared.separators.Header.the-variants.{Sound}
+use Rattle.form.specs.Header.{headerOf}
+use Rattle.form.specs.Limits.{Lawful}
+use Rattle.line.specs.Lines.{walk, texts, faultNumber}
+use Rattle.line.specs.Joining.{joined}
+use Rattle.order.specs.Levels.{levelIn}
+use Rattle.table.specs.Rows.{Table, contextIn, allLeaves, tableOf, segmentRowSize, leafRowSize}
+use Rattle.read.specs.Classes.{classTable}
+
+-- the joined segments of a message
+abbrev pub segmentsIn : Limits → Separators → List ℕ → List (List ℕ)
+segmentsIn L ps message = joined (ps .field) (texts (walk L message))
+
+-- what the survey has shown, and that the buffers have room; all numbers of a row fit 16 bits
+pub record Fillable (L : Limits) (ps : Separators) (class message text segments leaves : List ℕ) : Type 0 where
+  pub lawful : Lawful L
+  pub small : L .bytes < 65535
+  pub header : headerOf message ≡ Sound ps
+  pub classes : class ≡ classTable ps
+  pub sound : faultNumber (walk L message) ≡ 0
+  pub bytes : length message ≤ L .bytes
+  pub few : length (segmentsIn L ps message) ≤ L .segments
+  pub fewLeaves : length (allLeaves ps (segmentsIn L ps message)) ≤ L .leaves
+  pub leavesSmall : L .leaves < 65535
+  pub textRoom : L .bytes ≤ length text
+  pub segmentRoom : L .segments * segmentRowSize ≤ length segments
+  pub leafRoom : L .leaves * leafRowSize ≤ length leaves
+
+-- the table of a message, by a table of levels
+abbrev pub tableIn : Limits → List ℕ → Separators → List ℕ → Table
+tableIn L levels ps message = tableOf (levelIn levels) ps (segmentsIn L ps message)
+
+-- the three buffers once it is filled in: the counted entries in front, the rest as it was; and the bytes of text
+pub record Filled (t : Table) (text segments leaves text′ segments′ leaves′ : List ℕ) (bytes : ℕ) : Type 0 where
+  pub texts : text′ ≡ sets text 0 (t .text)
+  pub segmentRows : segments′ ≡ sets segments 0 (t .segmentRows)
+  pub leafRows : leaves′ ≡ sets leaves 0 (t .leafRows)
+  pub counted : bytes ≡ t .card .text

@@ -1,0 +1,175 @@
+-- What the second pass holds of whole segments: the rows of those closed, the text of the one begun, and the lines left.
+-- Assumes nothing.
+use mathlib.Core.List.{List, [], _∷_, _++_}
+use mathlib.Core.Path.{_≡_}
+use Prim.Native.Nat.{ℕ, _+_, _*_, _-_, _≤_, _<_}
+use lib.ListN.{length, take, drop}
+use lib.Seq.{sets}
+use Rattle.laws.specs.Every.{All}
+use Rattle.form.specs.declared.limits.Limits.{Limits}
+use Rattle.form.specs.declared.separators.Separators.{Separators}
+use Rattle.form.specs.Names.{kindNames, spelledAmong}
+use Rattle.line.specs.Lines.{walkFrom, texts, faultNumber}
+use Rattle.line.specs.Joining.{carried, joined}
+use Rattle.line.specs.Finding.{lowRun}
+use Rattle.order.specs.Levels.{levelIn}
+use Rattle.order.specs.Owning.{noRows, owned, knownAfter, Owned}
+use Rattle.table.specs.Leaves.{messageLeaves}
+use Rattle.table.specs.Rows.{segmentRowsFrom, kindsOf, contextIn, allLeaves}
+use Rattle.table.specs.Filed.{Filed}
+use Rattle.table.specs.OnePass.{headerPass, passOver}
+use Rattle.read.specs.declared.letters.Letters.{Letters}
+use Rattle.read.specs.declared.fill.Filling.{Filling}
+use Rattle.read.specs.declared.fill.Line.{Line}
+use Rattle.read.specs.Scan.{run}
+use Rattle.read.specs.Letters.{fresh, withBytes}
+use Rattle.read.specs.Laying.{rowOf, nextSegment, Counted, Held, LaidBy}
+use Rattle.read.specs.Filling.{segmentsIn, tableIn, Fillable, Filled}
+
+-- "kind, owner, first leaf, leaf count"
+abbrev pub segmentRow : (kind owner first count : ℕ) → List ℕ
+segmentRow kind owner first count = kind ∷ owner ∷ first ∷ count ∷ []
+
+-- the kind that gathered letters stand for
+abbrev pub kindSpelled : Letters → ℕ
+kindSpelled l = spelledAmong kindNames (l .length) (l .first) (l .second) (l .third)
+
+-- what closing the segment begun asks: room for the row of its last leaf and for its own row, whose numbers fit 16 bits
+pub record Closable (f : Filling) (segments leaves : List ℕ) : Type 0 where
+  pub leafRoom : f .laying .row * 7 + 7 ≤ length leaves
+  pub fewLeaves : f .laying .row < 65535
+  pub short : f .laying .out < 65536
+  pub counted : Counted (f .laying)
+  pub numbered : 1 ≤ f .laying .segment
+  pub segmentRoom : f .laying .segment * 4 ≤ length segments
+  pub begins : 1 ≤ f .first
+  pub some : f .first ≤ f .laying .row + 1
+
+-- what it gives: both rows, and what is known of the rows so far
+pub record ClosedBy (f : Filling) (levels : List ℕ) (context : ℕ) (nearest segments leaves nearest′ segments′ leaves′ : List ℕ) : Type 0 where
+  pub leafRow : leaves′ ≡ sets leaves (f .laying .row * 7) (rowOf (f .laying))
+  pub owner : ℕ
+  pub owns :
+      Owned nearest nearest′ (f .laying .segment) (kindSpelled (f .kind)) (levelIn levels context (kindSpelled (f .kind))) owner
+  pub row :
+      segments′
+      ≡ sets segments ((f .laying .segment - 1) * 4)
+      (segmentRow (kindSpelled (f .kind)) owner (f .first) (f .laying .row + 2 - f .first))
+
+-- the state after a segment that has been closed
+abbrev pub begunAfter : Filling → Filling
+begunAfter f = record { laying = nextSegment (f .laying); first = f .laying .row + 2; kind = fresh 1 }
+
+-- the first two leaves of the H, and the letter of its kind: of a message that begins with the bytes of these separators
+pub record HeaderPut (ps : Separators) (text leaves : List ℕ) (r : Filling) (text′ leaves′ : List ℕ) : Type 0 where
+  pub held : Held text leaves (headerPass ps) (r .laying) text′ leaves′
+  pub counted : Counted (r .laying)
+  pub number : r .laying .segment ≡ 1
+  pub out : r .laying .out ≡ 5
+  pub first : r .first ≡ 1
+  pub kind : r .kind ≡ record { left = 0; length = 1; first = 72; second = 0; third = 0 }
+
+-- the bytes of a line from `from` on
+abbrev pub lineText : List ℕ → List ℕ → ℕ → List ℕ
+lineText class message from = take (run class (drop from message)) (drop from message)
+
+-- the place after the line that has them, and after the bytes below 32 that follow
+abbrev pub lineAfter : List ℕ → List ℕ → ℕ → ℕ
+lineAfter class message from =
+    from + run class (drop from message) + 1 + lowRun (drop (from + run class (drop from message) + 1) message)
+
+-- the text of one line joined to the segment begun
+pub record LineFilled
+    (class : List ℕ) (field : ℕ) (message : List ℕ) (from : ℕ) (f : Filling) (text leaves : List ℕ) (r : Line) (text′ leaves′ : List ℕ)
+    : Type 0 where
+  pub laid :
+      LaidBy class message from (f .laying) text leaves
+      (record { laying = r .filling .laying; end = from + run class (drop from message) }) text′ leaves′
+  pub next : r .next ≡ lineAfter class message from
+  pub first : r .filling .first ≡ f .first
+  pub kind : r .filling .kind ≡ withBytes field (f .kind) (lineText class message from)
+
+-- the rows of closed segments, their owners by what is known as they come
+unfoldable pub closedRows : (ℕ → ℕ) → Separators → List (List ℕ) → List ℕ
+closedRows lv ps closed =
+    segmentRowsFrom 1 (kindsOf ps closed) (owned lv noRows 1 (kindsOf ps closed)) (messageLeaves ps closed)
+
+-- segments closed, one begun behind them, and what the state and the buffers hold of them over what the buffers held before
+pub record Begun
+    (lv : ℕ → ℕ) (ps : Separators) (text₀ segments₀ leaves₀ : List ℕ) (closed : List (List ℕ)) (begun : List ℕ)
+    (f : Filling) (nearest text segments leaves : List ℕ)
+    : Type 0 where
+  pub filed : Filed ps (closed ++ (begun ∷ []))
+  pub held : Held text₀ leaves₀ (passOver ps (closed ++ (begun ∷ []))) (f .laying) text leaves
+  pub counted : Counted (f .laying)
+  pub number : f .laying .segment ≡ length closed + 1
+  pub first : f .first ≡ 1 + length (allLeaves ps closed)
+  pub kind : f .kind ≡ withBytes (ps .field) (fresh 1) begun
+  pub rows : segments ≡ sets segments₀ 0 (closedRows lv ps closed)
+  pub known : nearest ≡ knownAfter lv noRows 1 (kindsOf ps closed)
+
+-- the lines from a place on give the rest: they end in no fault, and with the segment begun they are all segments
+pub record Left (L : Limits) (ps : Separators) (message : List ℕ) (closed : List (List ℕ)) (begun : List ℕ) (at : ℕ) : Type 0 where
+  pub sound : faultNumber (walkFrom L at (drop at message)) ≡ 0
+  pub whole :
+      segmentsIn L ps message
+      ≡ closed
+      ++ ((begun ++ carried (ps .field) (texts (walkFrom L at (drop at message))))
+      ∷ joined (ps .field) (texts (walkFrom L at (drop at message))))
+
+-- the form's limits, and the three buffers as they came
+pub record Came : Type 0 where
+  pub limits : Limits
+  pub text : List ℕ
+  pub segments : List ℕ
+  pub leaves : List ℕ
+
+-- all levels lie below the place above all levels
+abbrev pub LevelsBelow : List ℕ → Type 0
+LevelsBelow levels = (c k : ℕ) → levelIn levels c k < 8
+
+-- what is known before the second pass: what the survey has shown, the context, the levels, and that each element is a byte
+pub record Surveyed (c : Came) (class levels : List ℕ) (context : ℕ) (ps : Separators) (message : List ℕ) : Type 0 where
+  pub given : Fillable (c .limits) ps class message (c .text) (c .segments) (c .leaves)
+  pub named : context ≡ contextIn ps (segmentsIn (c .limits) ps message)
+  pub below : LevelsBelow levels
+  pub bytes : All (λ (b : ℕ). b < 256) message
+
+-- the second pass stands at the place `at`, where a line begins or the message ends
+pub record Stands
+    (c : Came) (class levels : List ℕ) (context : ℕ) (ps : Separators) (message : List ℕ) (at : ℕ) (f : Filling)
+    (nearest text segments leaves : List ℕ)
+    : Type 0 where
+  pub surveyed : Surveyed c class levels context ps message
+  pub closed : List (List ℕ)
+  pub begun : List ℕ
+  pub begins : Begun (levelIn levels context) ps (c .text) (c .segments) (c .leaves) closed begun f nearest text segments leaves
+  pub left : Left (c .limits) ps message closed begun at
+  pub behind : f .laying .out ≤ at
+  pub within : f .laying .out ≤ length message
+
+-- it stands so for some limits and some buffers as they came
+pub record GoesOn
+    (class levels : List ℕ) (context : ℕ) (ps : Separators) (message : List ℕ) (at : ℕ) (f : Filling)
+    (nearest text segments leaves : List ℕ)
+    : Type 0 where
+  pub came : Came
+  pub stands : Stands came class levels context ps message at f nearest text segments leaves
+
+-- one line on: the place lies ahead, and the pass stands there whatever it came from
+pub record OneLineOn
+    (class levels : List ℕ) (context : ℕ) (ps : Separators) (message : List ℕ) (at : ℕ) (f : Filling)
+    (nearest text segments leaves : List ℕ) (r : Line) (nearest′ text′ segments′ leaves′ : List ℕ)
+    : Type 0 where
+  pub ahead : at < r .next
+  pub stands :
+      (c : Came) → Stands c class levels context ps message at f nearest text segments leaves
+      → Stands c class levels context ps message (r .next) (r .filling) nearest′ text′ segments′ leaves′
+
+-- all lines on: the buffers hold the message's table over what they came with
+abbrev pub AllFilled :
+    (class levels : List ℕ) (context : ℕ) (ps : Separators) (message : List ℕ) (at : ℕ) (f : Filling)
+    (nearest text segments leaves text′ segments′ leaves′ : List ℕ) (r : ℕ) → Type 0
+AllFilled class levels context ps message at f nearest text segments leaves text′ segments′ leaves′ r =
+    (c : Came) → Stands c class levels context ps message at f nearest text segments leaves
+    → Filled (tableIn (c .limits) levels ps message) (c .text) (c .segments) (c .leaves) text′ segments′ leaves′ r

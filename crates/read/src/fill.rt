@@ -1,0 +1,275 @@
+// The second pass: the text area, the leaf rows and the segment rows are filled. It runs only once nothing can be refused any more.
+use crate::lay::Laying;
+use crate::lay::lay_line;
+use crate::lay::put_leaf;
+use crate::letters::Letters;
+use crate::letters::gather;
+use crate::start::text_from;
+use form::kind::Kind;
+use form::limits::Limits;
+use form::separators::Separators;
+use line::finder::low_end;
+use order::levels::level_of;
+use order::owners::no_rows;
+use order::owners::owner_of;
+ghost use mathlib.Core.Path.{_≡_};
+ghost use Prim.Native.Nat.{_+_, _*_, _≤_, _<_};
+ghost use lib.ListN.{length};
+ghost use lib.Seq.{sets};
+ghost use Rattle.table.specs.Rows.{contextIn};
+ghost use Rattle.read.specs.Laying.{Counted, Lays};
+ghost use Rattle.read.specs.Filling.{segmentsIn, tableIn, Fillable, Filled};
+ghost use Rattle.read.specs.Segments.{segmentRow, Closable, ClosedBy, begunAfter, HeaderPut, LineFilled, LevelsBelow, GoesOn, OneLineOn, AllFilled};
+
+// How far the second pass has come: its leaves, and the first leaf and the kind of the open segment.
+pub struct Filling {
+    pub laying: Laying,
+    pub first: usize,
+    pub kind: Letters,
+}
+
+// How far it has come with a line, and where the next one begins.
+pub struct Line {
+    pub filling: Filling,
+    pub next: usize,
+}
+
+// The row of a segment: kind, owner, first leaf, leaf count.
+fn put_segment(segments: &mut [u16], row: usize, kind: u8, owner: u16, first: u16, count: u16)
+    requires { ⌜ row * 4 + 4 ≤ length (now segments) ⌝ }
+    ensures { λ _. ⌜ now (segments .exit) ≡ sets (now (segments .entry)) (row * 4) (segmentRow kind owner first count) ⌝ }
+{
+    let at = row * 4;
+    segments[at] = kind as u16;
+    segments[at + 1] = owner;
+    segments[at + 2] = first;
+    segments[at + 3] = count;
+}
+
+// The open segment is closed: its last leaf and its own row are written.
+fn close_segment(
+    filling: Filling,
+    levels: &[u8; 84],
+    context: u8,
+    nearest: &mut [u16; 9],
+    segments: &mut [u16],
+    leaves: &mut [u16],
+)
+    requires { ⌜ Closable filling (now segments) (now leaves) ⌝ }
+    ensures { λ _. ⌜ ClosedBy filling (now (levels .entry)) context
+        (now (nearest .entry)) (now (segments .entry)) (now (leaves .entry))
+        (now (nearest .exit)) (now (segments .exit)) (now (leaves .exit)) ⌝ }
+{
+    let laying = filling.laying;
+    put_leaf(laying, leaves);
+    let letters = filling.kind;
+    let kind = Kind::spelled(letters.length, letters.first, letters.second, letters.third);
+    let owner = owner_of(
+        nearest,
+        laying.segment as u16,
+        kind,
+        level_of(levels, context, kind),
+    );
+    put_segment(
+        segments,
+        laying.segment - 1,
+        kind,
+        owner,
+        filling.first as u16,
+        (laying.row + 2 - filling.first) as u16,
+    );
+}
+
+// The first two leaves, `H` and the four bytes after the field separator; the third begins at byte 7.
+fn put_header(separators: Separators, text: &mut [u8], leaves: &mut [u16]) -> Filling
+    requires { ⌜ (5 ≤ length (now text)) × (14 ≤ length (now leaves)) ⌝ }
+    ensures { λ r. ⌜ HeaderPut separators (now (text .entry)) (now (leaves .entry)) r (now (text .exit)) (now (leaves .exit)) ⌝ }
+{
+    text[0] = b'H';
+    text[1] = separators.subfield;
+    text[2] = separators.repeater;
+    text[3] = separators.escape;
+    text[4] = separators.subsubfield;
+    let name = Laying {
+        row: 0,
+        segment: 1,
+        field: 1,
+        repetition: 1,
+        subfield: 1,
+        subsubfield: 1,
+        begin: 0,
+        out: 1,
+    };
+    put_leaf(name, leaves);
+    let stated = Laying {
+        row: 1,
+        segment: 1,
+        field: 2,
+        repetition: 1,
+        subfield: 1,
+        subsubfield: 1,
+        begin: 1,
+        out: 5,
+    };
+    put_leaf(stated, leaves);
+    Filling {
+        laying: stated.next_leaf(1),
+        first: 1,
+        kind: Letters {
+            left: 0,
+            length: 1,
+            first: b'H',
+            second: 0,
+            third: 0,
+        },
+    }
+}
+
+// The text of one line from `from` on, joined to the open segment.
+fn fill_line(
+    class: &[u8; 256],
+    field: u8,
+    message: &[u8],
+    from: usize,
+    filling: Filling,
+    text: &mut [u8],
+    leaves: &mut [u16],
+) -> Line
+    requires { ⌜ Lays (now class) (now message) from (filling .laying) (now text) (now leaves) ⌝ }
+    ensures { λ r. ⌜ LineFilled (now (class .entry)) field (now (message .entry)) from filling (now (text .entry)) (now (leaves .entry))
+        r (now (text .exit)) (now (leaves .exit)) ⌝ }
+{
+    let laying = filling.laying;
+    let laid = lay_line(class, message, from, laying, text, leaves);
+    let kind = filling.kind;
+    let gone = laid.laying;
+    Line {
+        filling: Filling {
+            laying: gone,
+            first: filling.first,
+            kind: gather(kind, field, message, from, laid.end),
+        },
+        next: low_end(message, laid.end + 1),
+    }
+}
+
+// The segment after the open one, which has been closed.
+fn next_segment(filling: Filling) -> Filling
+    requires { ⌜ (filling .laying .row < 65535) × Counted (filling .laying) ⌝ }
+    ensures { λ r. ⌜ r ≡ begunAfter filling ⌝ }
+{
+    let laying = filling.laying;
+    Filling {
+        laying: laying.next_segment(),
+        first: laying.row + 2,
+        kind: Letters::fresh(1),
+    }
+}
+
+// The line at `at`: an addendum is joined to the open segment, any other closes it and begins the next.
+fn fill_next(
+    class: &[u8; 256],
+    levels: &[u8; 84],
+    context: u8,
+    separators: Separators,
+    message: &[u8],
+    at: usize,
+    filling: Filling,
+    nearest: &mut [u16; 9],
+    text: &mut [u8],
+    segments: &mut [u16],
+    leaves: &mut [u16],
+) -> Line
+    requires { ⌜ (at < length (now message))
+        × GoesOn (now class) (now levels) context separators (now message) at filling (now nearest) (now text) (now segments) (now leaves) ⌝ }
+    ensures { λ r. ⌜ OneLineOn (now (class .entry)) (now (levels .entry)) context separators (now (message .entry)) at filling
+        (now (nearest .entry)) (now (text .entry)) (now (segments .entry)) (now (leaves .entry))
+        r (now (nearest .exit)) (now (text .exit)) (now (segments .exit)) (now (leaves .exit)) ⌝ }
+{
+    let field = separators.field;
+    let from = text_from(message, at, field);
+    if at < from {
+        return fill_line(class, field, message, from, filling, text, leaves);
+    }
+    close_segment(filling, levels, context, nearest, segments, leaves);
+    let begun = next_segment(filling);
+    fill_line(class, field, message, at, begun, text, leaves)
+}
+
+// All lines from `first` on; answers how many bytes of text there are in all.
+fn fill_rest(
+    class: &[u8; 256],
+    levels: &[u8; 84],
+    context: u8,
+    separators: Separators,
+    message: &[u8],
+    first: Line,
+    nearest: &mut [u16; 9],
+    text: &mut [u8],
+    segments: &mut [u16],
+    leaves: &mut [u16],
+) -> usize
+    requires { ⌜ GoesOn (now class) (now levels) context separators (now message) (first .next) (first .filling)
+        (now nearest) (now text) (now segments) (now leaves) ⌝ }
+    ensures { λ r. ⌜ AllFilled (now (class .entry)) (now (levels .entry)) context separators (now (message .entry)) (first .next) (first .filling)
+        (now (nearest .entry)) (now (text .entry)) (now (segments .entry)) (now (leaves .entry))
+        (now (text .exit)) (now (segments .exit)) (now (leaves .exit)) r ⌝ }
+{
+    let mut filling = first.filling;
+    let mut at = first.next;
+    while at < message.len() {
+        let line = fill_next(
+            class,
+            levels,
+            context,
+            separators,
+            message,
+            at,
+            filling,
+            nearest,
+            text,
+            segments,
+            leaves,
+        );
+        filling = line.filling;
+        at = line.next;
+    }
+    close_segment(filling, levels, context, nearest, segments, leaves);
+    filling.laying.out
+}
+
+// The whole message, whose survey refused nothing; answers how many bytes of text it has.
+pub(crate) fn fill(
+    class: &[u8; 256],
+    levels: &[u8; 84],
+    context: u8,
+    limits: Limits,
+    separators: Separators,
+    message: &[u8],
+    text: &mut [u8],
+    segments: &mut [u16],
+    leaves: &mut [u16],
+) -> usize
+    requires { ⌜ Fillable limits separators (now class) (now message) (now text) (now segments) (now leaves) ⌝ }
+    requires { ⌜ context ≡ contextIn separators (segmentsIn limits separators (now message)) ⌝ }
+    requires { ⌜ LevelsBelow (now levels) ⌝ }
+    ensures { λ r. ⌜ Filled (tableIn limits (now (levels .entry)) separators (now (message .entry)))
+        (now (text .entry)) (now (segments .entry)) (now (leaves .entry))
+        (now (text .exit)) (now (segments .exit)) (now (leaves .exit)) r ⌝ }
+{
+    let mut nearest = no_rows();
+    let header = put_header(separators, text, leaves);
+    let line = fill_line(class, separators.field, message, 7, header, text, leaves);
+    fill_rest(
+        class,
+        levels,
+        context,
+        separators,
+        message,
+        line,
+        &mut nearest,
+        text,
+        segments,
+        leaves,
+    )
+}
