@@ -14,3 +14,11 @@ pub mod BegunLaws
 pub mod LeftLaws
 pub mod StandLaws
 pub mod HeaderLaws
+pub mod Judging
+pub mod Answering
+pub mod OnlyOne
+pub mod Acceptance
+pub mod OwnersColumn
+pub mod CutLines
+pub mod CutAnyhow
+pub mod ShutOut

@@ -8,3 +8,6 @@ pub mod Seeing
 pub mod Underway
 pub mod Filling
 pub mod Segments
+pub mod Answering
+pub mod Judging
+pub mod Sound

@@ -1,0 +1,158 @@
+-- Readers that the contract shuts out (document 01, "How strong the statements are" and "Easy ways to get it wrong"), each by a message of
+-- K1 to K12, read into any buffers that are not short.
+-- Assumes nothing.
+use mathlib.Core.Bool.{false}
+use mathlib.Core.List.{List, _++_, map}
+use mathlib.Core.Path.{_≡_, refl, sym, ap, _∙_, subst}
+use Prim.Native.Nat.{ℕ, _≤_, _<_}
+use native.Mathlib.Omega.{arith}
+use lib.Dec.{lit≤}
+use lib.ListN.{getD, replicate}
+use Rattle.laws.specs.Lists.{concat}
+use Rattle.laws.specs.Texts.{bytes}
+use Rattle.form.specs.Limits.{form}
+use Rattle.form.specs.Numbers.{longLine}
+use Rattle.order.specs.Owners.{level}
+use Rattle.table.specs.declared.Card.{Card}
+use Rattle.table.specs.Rows.{Table}
+use Rattle.table.specs.Reading.{Room, Outcome, refused, accepted, short, reading}
+use Rattle.table.specs.Examples.{Example, Says, refuses, files, says, stated, read, filed, examples, k1, k6, k10}
+use Rattle.table.proofs.Accepting.{refuse-passed}
+use Rattle.table.proofs.Examples.{examples-hold}
+use Rattle.read.specs.declared.Answer.{Answer}
+use Rattle.read.specs.Answering.{answerOf, segmentsPut, leavesPut, roomOf, Gives, ReadAs}
+use Rattle.read.proofs.OwnersColumn.{front-at, roomy-segments, roomy-leaves}
+
+-- what an example says of the outcome
+says-accepted : (o : Outcome) {t : Table} {bytes : ℕ} {lines : List ℕ} → says o ≡ files t bytes lines → o ≡ accepted t
+unfolding says
+says-accepted (refused n p) e = let z : _≡_ {A = ℕ} 0 1 = cc in absurd (omega arith)
+says-accepted (accepted u) {t} e = ap accepted (let z : u ≡ t = cc in z)
+
+says-refused : (o : Outcome) {n p : ℕ} → says o ≡ refuses n p → o ≡ refused n p
+unfolding says
+says-refused (refused m q) e = cc
+says-refused (accepted u) e = let z : _≡_ {A = ℕ} 0 1 = cc in absurd (omega arith)
+
+-- the messages
+unfoldable pub K1 : List ℕ
+K1 = bytes "H|~^\\&|||LAB||ORU\rP|1||||DUPONT~JEAN\rOBR|1\rOBX|1|NM|GLY||1.2\rL|1\r"
+
+-- K5, 220: its first line has 220 bytes
+unfoldable pub K5 : List ℕ
+K5 = bytes "H|~^\\&|||LAB||ORU|" ++ replicate 202 120 ++ bytes "\rP|1||||DUPONT~JEAN\rOBR|1\rOBX|1|NM|GLY||1.2\rL|1\r"
+
+-- K6, ORM
+unfoldable pub K6 : List ℕ
+K6 = bytes "H|~^\\&|||LAB||ORM\rP|1\rOBR|1\rL|1\r"
+
+-- K7: six lines, five segments
+unfoldable pub K7 : List ℕ
+K7 = bytes "H|~^\\&|||LAB||ORU\rP|1||||DUPONT~JEAN\rOB\rA|R|1\rOBX|1|NM|GLY||1.2\rL|1\r"
+
+unfoldable pub K10 : List ℕ
+K10 = bytes "H|~^\\&|||LAB||ADM\rP|1\rC|1\rAP|1\rAC|1\rL|1\r"
+
+-- and their outcomes
+example : (i : ℕ) → getD (map (λ (e : Example). read (e .message)) examples) i (refuses 0 0) ≡ getD (map (λ (e : Example). e .expected) examples) i (refuses 0 0)
+example i = ap (λ (ss : List Says). getD ss i (refuses 0 0)) examples-hold
+
+pub k1-read : reading form level stated K1 ≡ accepted k1
+unfolding K1 examples read
+k1-read = says-accepted (reading form level stated K1) (example 0)
+
+pub k5-read : reading form level stated K5 ≡ refused longLine 219
+unfolding K5 examples read
+k5-read = says-refused (reading form level stated K5) (example 5)
+
+pub k6-read : reading form level stated K6 ≡ accepted k6
+unfolding K6 examples read
+k6-read = says-accepted (reading form level stated K6) (example 6)
+
+pub k7-read : reading form level stated K7 ≡ accepted k1
+unfolding K7 examples read
+k7-read = says-accepted (reading form level stated K7) (example 8)
+
+pub k10-read : reading form level stated K10 ≡ accepted k10
+unfolding K10 examples read
+k10-read = says-accepted (reading form level stated K10) (example 12)
+
+-- buffers that are not short are as good as those of the stated sizes
+stated-roomy : short form stated ≡ false
+unfolding short stated
+stated-roomy = refl
+
+any-room : (room : Room) (m : List ℕ) → short form room ≡ false → reading form level room m ≡ reading form level stated m
+unfolding reading
+any-room room m h = refuse-passed _ _ h ∙ sym (refuse-passed _ _ stated-roomy)
+
+module _ (text segments leaves : List ℕ) {text′ segments′ leaves′ : List ℕ} {r : Answer} (roomy : short form (roomOf text segments leaves) ≡ false) where
+  given : (m : List ℕ) {o : Outcome} → reading form level stated m ≡ o → ReadAs form level m text segments leaves r text′ segments′ leaves′
+      → Gives o text segments leaves r text′ segments′ leaves′
+  given m e g =
+      subst (λ (o : Outcome). Gives o text segments leaves r text′ segments′ leaves′) (any-room (roomOf text segments leaves) m roomy ∙ e) g
+
+  -- "a reader that refuses always"
+  pub refuses-always : ReadAs form level K1 text segments leaves r text′ segments′ leaves′ → (r .number ≡ 0 → ⊥) → ⊥
+  unfolding answerOf
+  refuses-always g h = h (ap (λ (a : Answer). a .number) (given K1 k1-read g .answer))
+
+  -- "one that returns K1's table always"
+  pub returns-k1-always : ReadAs form level K6 text segments leaves r text′ segments′ leaves′ → r .card ≡ k1 .card → ⊥
+  unfolding answerOf k1 k6 filed
+  returns-k1-always g h =
+      let is : r .card .context ≡ 2 = ap (λ (a : Answer). a .card .context) (given K6 k6-read g .answer) in
+      omega (arith, ap (λ (c : Card). c .context) h)
+
+  -- "a reader that fills the first segment and only counts the rest": H has seven leaf rows, and the eighth begins with its segment, 2
+  pub fills-first-segment-only : ReadAs form level K1 text segments leaves r text′ segments′ leaves′ → getD leaves 49 0 ≡ 0
+      → getD leaves′ 49 0 ≡ getD leaves 49 0 → ⊥
+  unfolding leavesPut k1 filed concat
+  fills-first-segment-only g zeros unchanged =
+      let is : getD leaves′ 49 0 ≡ 2 =
+      ap (λ (s : List ℕ). getD s 49 0) (given K1 k1-read g .leafRows) ∙ front-at leaves (k1 .leafRows) 49 (omega (arith, roomy-leaves form (roomOf text segments leaves) roomy)) (lit≤ tt) in
+      omega arith
+
+  -- "invented leaf .. counts": one leaf too many
+  pub counts-one-more : ReadAs form level K1 text segments leaves r text′ segments′ leaves′ → r .card .leaves ≡ 25 → ⊥
+  unfolding answerOf k1 filed
+  counts-one-more g h =
+      let is : r .card .leaves ≡ 24 = ap (λ (a : Answer). a .card .leaves) (given K1 k1-read g .answer) in
+      omega arith
+
+  -- "Splitting field 7.2 at its own separators": K1 would have three leaves more
+  pub splits-the-separators : ReadAs form level K1 text segments leaves r text′ segments′ leaves′ → r .card .leaves ≡ 27 → ⊥
+  unfolding answerOf k1 filed
+  splits-the-separators g h =
+      let is : r .card .leaves ≡ 24 = ap (λ (a : Answer). a .card .leaves) (given K1 k1-read g .answer) in
+      omega arith
+
+  -- "Counting the CR as character 221": a line of 220 bytes let through
+  pub lets-220-through : ReadAs form level K5 text segments leaves r text′ segments′ leaves′ → r .number ≡ 0 → ⊥
+  unfolding answerOf
+  lets-220-through g h =
+      let is : r .number ≡ longLine = ap (λ (a : Answer). a .number) (given K5 k5-read g .answer) in
+      omega arith
+
+  -- "Counting physical lines as rows"
+  pub counts-lines-as-rows : ReadAs form level K7 text segments leaves r text′ segments′ leaves′ → r .card .segments ≡ 6 → ⊥
+  unfolding answerOf k1 filed
+  counts-lines-as-rows g h =
+      let is : r .card .segments ≡ 5 = ap (λ (a : Answer). a .card .segments) (given K7 k7-read g .answer) in
+      omega arith
+
+  -- "Making a C the owner of what follows it": the AP in row 4 belongs to the P in row 2, not to the C in row 3
+  pub makes-a-C-owner : ReadAs form level K10 text segments leaves r text′ segments′ leaves′ → getD segments′ 13 0 ≡ 3 → ⊥
+  unfolding segmentsPut k10 filed concat
+  makes-a-C-owner g h =
+      let is : getD segments′ 13 0 ≡ 2 =
+      ap (λ (s : List ℕ). getD s 13 0) (given K10 k10-read g .segmentRows)
+      ∙ front-at segments (k10 .segmentRows) 13 (omega (arith, roomy-segments form (roomOf text segments leaves) roomy)) (lit≤ tt) in
+      omega arith
+
+  -- "Taking `AP|` or `ACT|` for an addendum because it begins with A": AP and AC of K10 have rows of their own, six in all
+  pub takes-AP-for-an-addendum : ReadAs form level K10 text segments leaves r text′ segments′ leaves′ → r .card .segments < 6 → ⊥
+  unfolding answerOf k10 filed
+  takes-AP-for-an-addendum g h =
+      let is : r .card .segments ≡ 6 = ap (λ (a : Answer). a .card .segments) (given K10 k10-read g .answer) in
+      omega arith
