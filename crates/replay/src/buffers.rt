@@ -7,8 +7,10 @@ ghost use mathlib.Core.Path.{_≡_};
 ghost use Prim.Native.Nat.{_<_};
 ghost use lib.ListN.{length};
 
-// A sum's steps are taken modulo this.
-const SUM: usize = 65521;
+// Bytes are filled in modulo the one; row numbers are filled in, and sums are taken, modulo the other.
+const SMALL: usize = 251;
+
+const LARGE: usize = 65521;
 
 // A buffer comes from a function that says its length: a proof that saw the zeros themselves would carry thousands of them.
 pub fn message_buffer() -> [u8; MESSAGE]
@@ -35,6 +37,7 @@ pub fn leaf_buffer() -> [u16; LEAF_ROWS]
     [0; LEAF_ROWS]
 }
 
+// The sum of a buffer of bytes.
 pub fn sum_bytes(bytes: &[u8]) -> usize {
     let mut sum = 0;
     let mut i = 0;
@@ -46,6 +49,7 @@ pub fn sum_bytes(bytes: &[u8]) -> usize {
     sum
 }
 
+// The same of row numbers.
 pub fn sum_numbers(numbers: &[u16]) -> usize {
     let mut sum = 0;
     let mut i = 0;
@@ -63,9 +67,10 @@ fn summed(sum: usize, element: usize) -> usize
     requires { ⌜ element < 65536 ⌝ }
     ensures { λ r. ⌜ r < 65521 ⌝ }
 {
-    (31 * sum + element + 1) % SUM
+    (31 * sum + element + 1) % LARGE
 }
 
+// Fills a buffer of bytes as it is to stand before a case.
 pub fn fill_bytes(bytes: &mut [u8]) {
     let mut i = 0;
     while i < bytes.len() {
@@ -74,6 +79,7 @@ pub fn fill_bytes(bytes: &mut [u8]) {
     }
 }
 
+// The same of row numbers.
 pub fn fill_numbers(numbers: &mut [u16]) {
     let mut i = 0;
     while i < numbers.len() {
@@ -84,10 +90,10 @@ pub fn fill_numbers(numbers: &mut [u16]) {
 
 // (7 i + 3) mod 251, by way of i mod 251, so that nothing wraps.
 fn byte_before(i: usize) -> u8 {
-    ((7 * (i % 251) + 3) % 251) as u8
+    ((7 * (i % SMALL) + 3) % SMALL) as u8
 }
 
 // (13 i + 5) mod 65,521, likewise.
 fn number_before(i: usize) -> u16 {
-    ((13 * (i % 65521) + 5) % 65521) as u16
+    ((13 * (i % LARGE) + 5) % LARGE) as u16
 }

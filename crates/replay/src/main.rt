@@ -4,6 +4,7 @@ mod buffers;
 mod cases;
 mod input;
 mod output;
+mod reading;
 mod walking;
 mod watching;
 

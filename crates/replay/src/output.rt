@@ -4,10 +4,16 @@ use libc::STDOUT_FILENO;
 ghost use Prim.Native.Nat.{_+_, _≤_};
 ghost use lib.ListN.{length};
 
+// The most bytes that are gathered; a longer line is written in several parts.
 pub const GATHERED: usize = 4096;
 
 // A space and a number's digits.
 const LONGEST: usize = 21;
+
+// A buffer to gather lines in.
+pub fn new_line() -> [u8; GATHERED] {
+    [0; GATHERED]
+}
 
 // Begins a line with a number.
 pub fn first(line: &mut [u8; GATHERED], n: usize) -> usize

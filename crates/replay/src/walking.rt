@@ -7,6 +7,7 @@ use crate::input::bytes;
 use crate::output::GATHERED;
 use crate::output::end;
 use crate::output::first;
+use crate::output::new_line;
 use crate::output::then;
 use line::finder::Found;
 use line::finder::line_at;
@@ -17,13 +18,14 @@ ghost use Prim.Native.Nat.{_≤_};
 // The call that gives the end or a fault, and two calls more.
 const LAST_CALLS: usize = 3;
 
+// Runs the case that follows.
 pub fn run() -> bool {
     let mut message = message_buffer();
     let n = bytes(&mut message);
     if MESSAGE < n {
         return false;
     }
-    let mut line = [0u8; GATHERED];
+    let mut line = new_line();
     let begun = first(&mut line, 6);
     let gathered = walk(&message[0..n], &mut line, begun);
     end(&mut line, gathered);

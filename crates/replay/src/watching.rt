@@ -6,10 +6,12 @@ use crate::input::numbers;
 use crate::output::GATHERED;
 use crate::output::end;
 use crate::output::first;
+use crate::output::new_line;
 use crate::output::then;
 use order::watcher::Watcher;
 ghost use Prim.Native.Nat.{_≤_};
 
+// Runs the case that follows.
 pub fn run() -> bool {
     let context = number();
     if MOST_BYTE < context {
@@ -20,7 +22,7 @@ pub fn run() -> bool {
     if KINDS < n {
         return false;
     }
-    let mut line = [0u8; GATHERED];
+    let mut line = new_line();
     let begun = first(&mut line, 7);
     let gathered = tell_all(context as u8, &kinds[0..n], &mut line, begun);
     end(&mut line, gathered);
@@ -44,11 +46,13 @@ fn tell_all(context: u8, kinds: &[u16], line: &mut [u8; GATHERED], begun: usize)
     gathered
 }
 
-// A number that is too large to be told counts as 0, which is no kind either.
+// The kind that a number tells. One past the largest counts as 0, which is no kind either.
 fn kind_of(n: u16) -> u8 {
-    if n <= 255 { n as u8 } else { 0 }
+    let kind = n as usize;
+    if kind <= MOST_BYTE { kind as u8 } else { 0 }
 }
 
+// 1 for yes, 0 for no.
 fn yes_or_no(yes: bool) -> usize {
     if yes { 1 } else { 0 }
 }

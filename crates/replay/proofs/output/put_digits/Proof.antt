@@ -1,10 +1,8 @@
 -- `replay::output::put_digits` is safe and ends: a number has at most 20 digits, and the measure is how many are left.
 -- Assumes nothing.
 use borrow.Author.Needs.{needs}
-use mathlib.Core.Path.{_≡_}
-use Prim.Native.Nat.{_+_, _≤_, _-_}
+use Prim.Native.Nat.{_≤_, _-_}
 use native.Mathlib.Omega.{arith}
-use lib.ListN.{length}
 use Rattle.replay.proofs.Digits.{at-most-20-digits}
 use Rattle.replay.proofs.output.put_digits.Statement.{statement}
 use Rattle.replay.proofs.output.put_digits.Tie as tie

@@ -2,10 +2,10 @@
 -- after the end or a fault, where the walk stays.
 -- Assumes nothing.
 use borrow.Author.Needs.{needs}
+use mathlib.Core.Path.{sym, _∙_}
 use Prim.Native.Nat.{_+_, _≤_, _-_}
 use native.Mathlib.Omega.{arith}
 use lib.ListN.{length}
-use mathlib.Core.Path.{sym, _∙_}
 use Rattle.form.specs.Limits.{form}
 use Rattle.line.specs.Finding.{foundAt}
 use Rattle.line.proofs.Finding.{nextOf-line, nextOf-end, nextOf-fault}
