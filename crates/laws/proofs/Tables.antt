@@ -1,14 +1,14 @@
 -- Computed tables and tests over all numbers below a bound: one test, carried to each number.
 -- Assumes nothing.
 use mathlib.Core.Bool.{Bool, true, false}
-use mathlib.Core.List.{List, [], _∷_}
+use mathlib.Core.List.{List, [], _∷_, _++_}
 use mathlib.Core.Path.{_≡_, refl, ap, ap₂, subst, _∙_, sym}
 use Prim.Native.Nat.{ℕ, zero, suc, _+_, _-_, _≤_, _<_}
 use native.Mathlib.Nat.{add-zero, zero-add, add-suc, suc-add, le-of-suc-le-suc, not-suc-le-zero}
 use native.Mathlib.Omega.{arith}
 use borrow.Author.Tests.{eq-eqb, ne-eqb}
 use lib.Dec.{T, eqb}
-use lib.ListN.{length, getD, set, replicate}
+use lib.ListN.{length, drop, getD, set, replicate}
 use Rattle.laws.specs.Tables.{values, everyFrom, below}
 use Rattle.laws.proofs.Bools.{T-true, true-T}
 
@@ -98,3 +98,33 @@ pub every-at : (f : ℕ → Bool) (i n : ℕ) → everyFrom f i n ≡ true → (
 every-at f i n e k low high =
     subst (λ (m : ℕ). f m ≡ true) (omega arith)
     (T-true (f (i + (k - i))) (everyFrom-at f i n (true-T (everyFrom f i n) e) (k - i) (omega arith)))
+
+-- the values from i up to n, as a loop comes to them: one more, and none left; and what is left of all of them from i on
+pub values-turn {ℓ} : {A : Type ℓ} (f : ℕ → A) (i n : ℕ) → i < n → values f i (n - i) ≡ f i ∷ values f (i + 1) (n - (i + 1))
+unfolding values
+values-turn {A = A} f i n h =
+    ap {B = List A} (values f i) (let e : n - i ≡ suc (n - (i + 1)) = omega arith in e)
+    ∙ ap {B = List A} (λ (k : ℕ). f i ∷ values f k (n - (i + 1))) (let e : suc i ≡ i + 1 = omega arith in e)
+
+pub values-end {ℓ} : {A : Type ℓ} (f : ℕ → A) (i n : ℕ) → n ≤ i → values f i (n - i) ≡ []
+unfolding values
+values-end {A = A} f i n h = ap {B = List A} (values f i) (let e : n - i ≡ 0 = omega arith in e)
+
+values-at {ℓ} : {A : Type ℓ} (f : ℕ → A) {i j m n : ℕ} → i ≡ j → m ≡ n → values f i m ≡ values f j n
+values-at {A = A} f e d = ap₂ {C = List A} (values f) e d
+
+pub drop-values {ℓ} : {A : Type ℓ} (f : ℕ → A) (k i n : ℕ) → drop k (values f i n) ≡ values f (i + k) (n - k)
+unfolding values
+drop-values f zero i n = values-at f (let e : i ≡ i + 0 = omega arith in e) (let e : n ≡ n - 0 = omega arith in e)
+drop-values f (suc k) i zero = values-at f {i = i + suc k} refl (let e : 0 ≡ 0 - suc k = omega arith in e)
+drop-values f (suc k) i (suc n) =
+    drop-values f k (suc i) n
+    ∙ values-at f (let e : suc i + k ≡ i + suc k = omega arith in e) (let e : n - k ≡ suc n - suc k = omega arith in e)
+
+-- two stretches in a row
+pub values-append {ℓ} : {A : Type ℓ} (f : ℕ → A) (i m n : ℕ) → values f i (m + n) ≡ values f i m ++ values f (i + m) n
+unfolding values
+values-append f i zero n = values-at f (let e : i ≡ i + 0 = omega arith in e) (let e : 0 + n ≡ n = omega arith in e)
+values-append {A = A} f i (suc m) n =
+    ap {B = List A} (values f i) (suc-add m n)
+    ∙ ap {B = List A} (λ (r : List A). f i ∷ r) (values-append f (suc i) m n ∙ ap {B = List A} (λ (k : ℕ). values f (suc i) m ++ values f k n) (let e : suc i + m ≡ i + suc m = omega arith in e))

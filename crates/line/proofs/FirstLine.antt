@@ -1,12 +1,12 @@
 -- The first line of a message: text that it begins with, and that fits a line, stands on that line whole.
 -- Assumes nothing.
-use mathlib.Core.Path.{_≡_, refl, sym, ap, ap₂, _∙_, subst}
+use mathlib.Core.Path.{_≡_, sym, ap, ap₂, _∙_, subst}
 use mathlib.Core.List.{List, [], _∷_, _++_, append-assoc, append-nil}
 use Prim.Native.Nat.{ℕ, suc, _+_, _≤_}
 use native.Mathlib.Omega.{arith}
 use lib.ListN.{length, length-append}
 use Rattle.form.specs.declared.limits.Limits.{Limits}
-use Rattle.line.specs.Lines.{Lines, line, CR, space, inside, between, walk, walkFrom, texts, faultNumber}
+use Rattle.line.specs.Lines.{Lines, line, inside, between, walk, texts, faultNumber}
 use Rattle.line.specs.Sound.{Text}
 use Rattle.line.proofs.Steps.{inside-nil, inside-more, inside-both, walkFrom-text}
 

@@ -1,21 +1,20 @@
 -- The leaves of each segment are found again from the leaves of all: those in a row that have one segment number.
 -- Assumes nothing.
-use mathlib.Core.Bool.{true, false}
 use mathlib.Core.List.{List, [], _∷_, _++_}
-use mathlib.Core.Path.{_≡_, refl, sym, ap, ap₂, _∙_}
-use Prim.Native.Nat.{ℕ, suc, _+_, _≤_}
+use mathlib.Core.Logic.{_⊎_, inl, inr}
+use mathlib.Core.Path.{_≡_, refl, sym, ap, _∙_}
+use Prim.Native.Nat.{ℕ, suc, _≤_}
 use native.Mathlib.Omega.{arith}
-use lib.Dec.{eqb, lit≤}
-use lib.ListN.{length, take, drop, getD}
+use lib.ListN.{length, drop}
 use borrow.Author.Tests.{eq-eqb, ne-eqb}
-use Rattle.laws.specs.Lists.{concat, count, among}
+use Rattle.laws.specs.Lists.{concat}
 use Rattle.laws.specs.Every.{All, none, also}
-use Rattle.laws.proofs.Every.{all-map}
+use Rattle.laws.proofs.Cases.{equal-or-not}
 use Rattle.form.specs.declared.separators.Separators.{Separators}
 use Rattle.form.specs.Header.{splitting}
 use Rattle.table.specs.Leaves.{Leaf, segmentLeaves, headerLeaves, leavesFrom, messageLeaves}
 use Rattle.table.specs.Rows.{allLeaves}
-use Rattle.table.specs.Flat.{leaf, flat, under}
+use Rattle.table.specs.Flat.{flat, under}
 use Rattle.table.specs.BySegment.{segmentOf, withLeaf, bySegment}
 use Rattle.table.proofs.Flat.{segment-flat, header-flat}
 use Rattle.table.proofs.Counting.{length-segmentLeaves}
@@ -40,24 +39,66 @@ module _ (l m : Leaf) (ms : List Leaf) (groups : List (List Leaf)) where
   unfolding withLeaf
   leaf-begins e = rw (ne-eqb (segmentOf l) (segmentOf m) e, withLeaf)
 
--- the leaves of a group in front of groups of later segments are a group
-last-leaf : {n : ℕ} (l : Leaf) {groups : List (List Leaf)} → InSegment n l → Groups (suc n) groups → withLeaf l groups ≡ (l ∷ []) ∷ groups
-unfolding withLeaf
-last-leaf l i done = refl
-last-leaf l i (group {l = m} {ls = ms} {groups = groups} (also j w) v) = leaf-begins l m ms groups (λ e. omega arith)
+-- the groups are the leaves, one after the other
+concat-withLeaf : (l : Leaf) (groups : List (List Leaf)) → concat (withLeaf l groups) ≡ l ∷ concat groups
+unfolding withLeaf concat
+concat-withLeaf l [] = refl
+concat-withLeaf l ([] ∷ groups) = refl
+concat-withLeaf l ((m ∷ ms) ∷ groups) = go (equal-or-not (segmentOf l) (segmentOf m))
+  where
+    go : (segmentOf l ≡ segmentOf m) ⊎ (segmentOf l ≡ segmentOf m → ⊥) → concat (withLeaf l ((m ∷ ms) ∷ groups)) ≡ l ∷ (m ∷ (ms ++ concat groups))
+    go (inl e) = ap concat (leaf-joins l m ms groups e)
+    go (inr e) = ap concat (leaf-begins l m ms groups e)
 
-one-group : {n : ℕ} (l : Leaf) {ls : List Leaf} (rest : List Leaf) {groups : List (List Leaf)} → InSegment n l → All (InSegment n) ls
-    → Groups (suc n) groups → bySegment rest ≡ groups → bySegment (l ∷ (ls ++ rest)) ≡ (l ∷ ls) ∷ groups
+pub concat-bySegment : (ls : List Leaf) → concat (bySegment ls) ≡ ls
+unfolding bySegment concat
+concat-bySegment [] = refl
+concat-bySegment (l ∷ ls) = concat-withLeaf l (bySegment ls) ∙ ap (λ (r : List Leaf). l ∷ r) (concat-bySegment ls)
+
+-- that leaves do not go on with a segment
+abbrev pub Ended : ℕ → List Leaf → Type 0
+Ended n [] = Unit {0}
+Ended n (l ∷ ls) = InSegment n l → ⊥
+
+-- a leaf stands first in its group
+first-group : (l : Leaf) (groups : List (List Leaf)) → (ms : List Leaf) × (others : List (List Leaf)) × (withLeaf l groups ≡ (l ∷ ms) ∷ others)
+unfolding withLeaf
+first-group l [] = ([], [], refl)
+first-group l ([] ∷ groups) = ([], groups, refl)
+first-group l ((m ∷ ms) ∷ groups) = go (equal-or-not (segmentOf l) (segmentOf m))
+  where
+    go : (segmentOf l ≡ segmentOf m) ⊎ (segmentOf l ≡ segmentOf m → ⊥)
+        → (ks : List Leaf) × (others : List (List Leaf)) × (withLeaf l ((m ∷ ms) ∷ groups) ≡ (l ∷ ks) ∷ others)
+    go (inl e) = (m ∷ ms, groups, leaf-joins l m ms groups e)
+    go (inr e) = ([], (m ∷ ms) ∷ groups, leaf-begins l m ms groups e)
+
+-- the last leaf of a segment is a group of its own before those of the others
+last-leaf : {n : ℕ} (l : Leaf) (rest : List Leaf) → InSegment n l → Ended n rest → bySegment (l ∷ rest) ≡ (l ∷ []) ∷ bySegment rest
+unfolding bySegment withLeaf
+last-leaf l [] i e = refl
+last-leaf l (m ∷ rest) i e =
+    let w = first-group m (bySegment rest) in
+    ap (withLeaf l) (w .2) ∙ leaf-begins l m (w .0) (w .1) (λ q. e (sym q ∙ i)) ∙ ap (λ (r : List (List Leaf)). (l ∷ []) ∷ r) (sym (w .2))
+
+-- the leaves of one segment, where those that follow stand in another, are the first group
+pub group-first : {n : ℕ} (l : Leaf) {ls : List Leaf} (rest : List Leaf) → InSegment n l → All (InSegment n) ls → Ended n rest
+    → bySegment (l ∷ (ls ++ rest)) ≡ (l ∷ ls) ∷ bySegment rest
 unfolding bySegment
-one-group l rest i none v e = ap (withLeaf l) e ∙ last-leaf l i v
-one-group l rest {groups = groups} i (also {a = m} {s = ms} j w) v e =
-    ap (withLeaf l) (one-group m rest j w v e) ∙ leaf-joins l m ms groups (i ∙ sym j)
+group-first l rest i none e = last-leaf l rest i e
+group-first l rest i (also {a = m} {s = ms} j w) e =
+    ap (withLeaf l) (group-first m rest j w e) ∙ leaf-joins l m ms (bySegment rest) (i ∙ sym j)
 
 -- so groups are found again
+groups-ended : {n : ℕ} {groups : List (List Leaf)} → Groups (suc n) groups → Ended n (concat groups)
+unfolding concat
+groups-ended done = tt
+groups-ended (group (also i w) v) = λ e. omega arith
+
 pub groups-found : {n : ℕ} {groups : List (List Leaf)} → Groups n groups → bySegment (concat groups) ≡ groups
 unfolding bySegment concat
 groups-found done = refl
-groups-found (group {l = l} {groups = groups} (also i w) v) = one-group l (concat groups) i w v (groups-found v)
+groups-found (group {l = l} {ls = ls} {groups = groups} (also i w) v) =
+    group-first l (concat groups) i w (groups-ended v) ∙ ap (λ (r : List (List Leaf)). (l ∷ ls) ∷ r) (groups-found v)
 
 -- leaves under a number stand in that segment
 under-segment : (n : ℕ) (ls : List Leaf) → All (InSegment n) (under (n ∷ []) ls)

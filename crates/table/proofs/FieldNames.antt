@@ -2,13 +2,12 @@
 -- a capital letter. So a segment's kind and a message's context are known from their leaves as they are from the bytes.
 -- Assumes nothing.
 use mathlib.Core.Bool.{true, false}
-use mathlib.Core.List.{List, [], _∷_, _++_, append-nil, append-assoc, map}
+use mathlib.Core.List.{List, [], _∷_, _++_, append-nil, map}
 use mathlib.Core.Logic.{⊎-elim}
 use mathlib.Core.Path.{_≡_, refl, sym, ap, ap₂, _∙_, subst}
-use Prim.Native.Nat.{ℕ, zero, suc, _+_, _≤_, _<_}
+use Prim.Native.Nat.{ℕ, zero, suc, _+_, _≤_}
 use native.Mathlib.Omega.{arith}
-use lib.Dec.{eqb, lit≤}
-use lib.ListN.{length, take, drop, getD}
+use lib.ListN.{length, drop, getD}
 use borrow.Author.Tests.{eq-eqb, ne-eqb}
 use Rattle.laws.specs.Lists.{among, count, numbered, same, firstFrom}
 use Rattle.laws.specs.Texts.{bytes}
@@ -20,7 +19,7 @@ use Rattle.laws.proofs.Tests.{Tested, passed, failed, tested, never-both}
 use Rattle.form.specs.declared.separators.Separators.{Separators}
 use Rattle.form.specs.Header.{splitting}
 use Rattle.form.specs.Names.{kindNames, contextNames, numberAmong, kindOf, contextOf}
-use Rattle.form.proofs.HeaderRule.{Allowed, AllAllowed}
+use Rattle.form.proofs.HeaderRule.{AllAllowed}
 use Rattle.form.proofs.Names.{capitals, capital-at, known-passes, kinds-capitals, contexts-capitals}
 use Rattle.table.specs.Leaves.{Leaf, split, onto, leaves, segmentLeaves, headerLeaves, leavesFrom, messageLeaves, kindOfSegment, contextOfHeader}
 use Rattle.table.specs.Rows.{kindsOf, contextIn}

@@ -1,10 +1,10 @@
 -- The segments of an accepted message can be filed: the first begins with the seven header bytes, none contains CR, none is empty and
 -- none is an addendum (document 01, "Lines").
 -- Assumes nothing.
-use mathlib.Core.Bool.{true, false, _&&_, false≢true}
-use mathlib.Core.List.{List, [], _∷_, _++_, append-assoc}
+use mathlib.Core.Bool.{false, _&&_}
+use mathlib.Core.List.{List, [], _∷_, _++_}
 use mathlib.Core.Path.{_≡_, refl, sym, ap, _∙_, subst}
-use Prim.Native.Nat.{ℕ, suc, _≤_}
+use Prim.Native.Nat.{ℕ, _≤_}
 use native.Mathlib.Omega.{arith}
 use lib.Dec.{eqb, lit≤}
 use lib.ListN.{length, take, drop, getD, take-append-drop}
@@ -16,14 +16,13 @@ use Rattle.laws.proofs.Every.{all-first, all-rest}
 use Rattle.form.specs.declared.limits.Limits.{Limits}
 use Rattle.form.specs.declared.separators.Separators.{Separators}
 use Rattle.form.specs.Limits.{Lawful}
-use Rattle.form.specs.Header.{headerOf}
 use Rattle.form.specs.Names.{kindNames, kindOf, numberAmong}
 use Rattle.form.proofs.HeaderRule.{Allowed, SoundHeader, sound-header}
 use Rattle.form.proofs.Names.{known-no-addendum}
 use Rattle.laws.specs.Lists.{same, firstFrom}
 use Rattle.laws.specs.Texts.{bytes}
-use Rattle.line.specs.Lines.{CR, space, walk, walkFrom, texts, faultNumber}
-use Rattle.line.specs.Joining.{letterA, addendum, carried, joined}
+use Rattle.line.specs.Lines.{CR, walk, texts, faultNumber}
+use Rattle.line.specs.Joining.{letterA, addendum, joined}
 use Rattle.line.specs.Sound.{Text}
 use Rattle.line.proofs.Walking.{texts-sound}
 use Rattle.line.proofs.Joining.{joined-segment}
@@ -36,7 +35,7 @@ use Rattle.table.specs.Rows.{Table, kindsOf}
 use Rattle.table.specs.Reading.{Room}
 use Rattle.table.proofs.Splitting.{split-at, split-onto}
 use Rattle.table.proofs.HeaderBytes.{header-bytes, header-text}
-use Rattle.table.proofs.Accepting.{Known, Judged, Accepted}
+use Rattle.table.proofs.Accepting.{Known, Accepted}
 
 -- text has no CR
 pub text-clear : (s : List ℕ) → Text s → Without CR s

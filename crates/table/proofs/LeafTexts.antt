@@ -7,8 +7,8 @@ use mathlib.Core.Path.{_≡_, refl, sym, ap, _∙_, subst}
 use Prim.Native.Nat.{ℕ, _≤_}
 use native.Mathlib.Omega.{arith}
 use lib.Dec.{eqb}
-use lib.ListN.{length, take, drop, length-take}
-use borrow.Author.Tests.{eqb-true, eqb-false, eq-eqb}
+use lib.ListN.{length, drop, length-take}
+use borrow.Author.Tests.{eqb-true, eq-eqb}
 use Rattle.laws.specs.Lists.{among}
 use Rattle.laws.specs.Every.{All, none, also}
 use Rattle.laws.specs.Each.{Each}
@@ -23,7 +23,7 @@ use Rattle.line.specs.Lines.{CR, space}
 use Rattle.line.specs.Sound.{Text}
 use Rattle.table.specs.Leaves.{Leaf}
 use Rattle.table.specs.Rows.{textOf, allLeaves}
-use Rattle.table.specs.Flat.{leaf, raised, flat, Without, gluedTo, glued}
+use Rattle.table.specs.Flat.{raised, flat, Without, gluedTo, glued}
 use Rattle.table.specs.Filed.{headerBytes, Filed}
 use Rattle.table.proofs.Flat.{flat-separator, flat-text, drop-gluedTo}
 use Rattle.table.proofs.Back.{filed-some, filed-header}
@@ -140,7 +140,7 @@ module _ (ps : Separators) (allowed : AllAllowed ps) where
           ∙ among-miss (ps .subfield) (ps .subsubfield ∷ []) b s
           ∙ among-miss (ps .subsubfield) [] b x))
 
-  headed-text : (ls : List Leaf) → AllText (textOf ls) → AllText (textOf (headed ps ls))
+  pub headed-text : (ls : List Leaf) → AllText (textOf ls) → AllText (textOf (headed ps ls))
   unfolding headerBytes textOf
   headed-text ls w =
       let v = each-all (headerBytes ps) (header-text ps allowed) in

@@ -20,3 +20,7 @@ pub mod LeafTexts
 pub mod RowTests
 pub mod Growing
 pub mod RowsGrowing
+pub mod EndToEnd
+pub mod SegmentRows
+pub mod SoundRows
+pub mod SegmentTurns

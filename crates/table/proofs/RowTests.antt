@@ -1,27 +1,26 @@
 -- The tests of leaf rows as a loop makes them say what the leaves are to be: sound, end to end, and text.
 -- Assumes nothing.
-use mathlib.Core.Bool.{Bool, true, false, not, _&&_, false≢true}
-use mathlib.Core.List.{List, [], _∷_, _++_, append-assoc}
+use mathlib.Core.Bool.{Bool, true, false, not, _&&_}
+use mathlib.Core.List.{List, [], _∷_}
 use mathlib.Core.Logic.{_↔_}
-use mathlib.Core.Path.{_≡_, refl, sym, ap, ap₂, _∙_, subst}
-use Prim.Native.Nat.{ℕ, zero, suc, _+_, _*_, _≤_, _<_}
+use mathlib.Core.Path.{_≡_, refl, sym, ap, ap₂, _∙_}
+use Prim.Native.Nat.{ℕ, suc, _≤_, _<_}
 use native.Mathlib.Omega.{arith}
 use lib.Dec.{leb, eqb}
-use lib.ListN.{length, take, drop, getD, length-append, length-take, length-drop}
-use borrow.Author.Tests.{eqb-true, eqb-false, eq-eqb, ne-eqb, leb-true, le-leb, not-true}
+use lib.ListN.{length}
+use borrow.Author.Tests.{eqb-true, eqb-false, eq-eqb, ne-eqb, leb-true, le-leb, lt-leb, not-true}
 use Rattle.laws.specs.Lists.{same, among}
-use Rattle.laws.specs.Every.{All, none, also}
-use Rattle.laws.proofs.Lists.{among-hit, among-miss, among-first}
-use Rattle.laws.proofs.Tests.{Tested, passed, failed, tested, never-both, and-first, and-second, and-both, and-fails-first, and-fails-second, not-holds}
+use Rattle.laws.specs.Every.{none, also}
+use Rattle.laws.proofs.Lists.{among-miss, among-first}
+use Rattle.laws.proofs.Tests.{Tested, passed, failed, tested, and-first, and-second, and-both, and-fails-first, and-fails-second, not-holds}
 use Rattle.form.specs.Header.{different}
-use Rattle.line.specs.Lines.{CR, space}
+use Rattle.line.specs.Lines.{space}
 use Rattle.table.specs.Back.{between}
 use Rattle.table.specs.Flat.{ones, raised}
-use Rattle.table.specs.Sound.{Plain, plain, onward}
+use Rattle.table.specs.Sound.{Plain, onward}
 use Rattle.table.specs.RowTests.{nextPlace, leafText}
 use Rattle.table.proofs.Flat.{raised-here, raised-later}
 use Rattle.table.proofs.Places.{between-here, between-later}
-use Rattle.table.proofs.SoundTest.{plain-true, plain-holds}
 use Rattle.table.proofs.LeafTexts.{AllText}
 
 -- the step laws of `nextPlace`
@@ -116,3 +115,17 @@ leaf-text ps (b ∷ s) = (
     back : AllText (b ∷ s) → Plain ps (b ∷ s) → (AllText s × Plain ps s → leafText ps s ≡ true)
         → (leb space b && not (among ps b) && leafText ps s) ≡ true
     back (also h w) (also k v) ih = and-both (and-both (le-leb space b h) (not-holds (among ps b) k)) (ih (w, v))
+
+-- its step laws: one byte more, or the byte that breaks it
+module _ (ps : List ℕ) (b : ℕ) (s : List ℕ) where
+  pub text-more : space ≤ b → among ps b ≡ false → leafText ps (b ∷ s) ≡ leafText ps s
+  unfolding leafText
+  text-more h e = rw (le-leb space b h, e)
+
+  pub text-low : b < space → leafText ps (b ∷ s) ≡ false
+  unfolding leafText
+  text-low h = rw (lt-leb space b h)
+
+  pub text-separator : among ps b ≡ true → leafText ps (b ∷ s) ≡ false
+  unfolding leafText
+  text-separator e = and-fails-first (leafText ps s) (and-fails-second (leb space b) (rw e))

@@ -1,37 +1,28 @@
 -- Bytes by leaves (document 01, "Writing"): the bytes of each segment and those written for it, counted from its leaves; and a message's
 -- bytes are all text exactly where its leaves' texts are.
 -- Assumes nothing.
-use mathlib.Core.Bool.{true, false}
-use mathlib.Core.List.{List, [], _∷_, _++_, append-nil, append-assoc}
-use mathlib.Core.Logic.{_⊎_, inl, inr, ⊎-elim}
-use mathlib.Core.Path.{_≡_, refl, sym, ap, ap₂, _∙_, subst}
-use Prim.Native.Nat.{ℕ, suc, _+_, _-_, _*_, _≤_}
+use mathlib.Core.List.{List, [], _∷_, _++_}
+use mathlib.Core.Path.{_≡_, refl, ap, ap₂, _∙_}
+use Prim.Native.Nat.{ℕ, suc, _+_, _-_, _≤_}
 use native.Mathlib.Omega.{arith}
-use lib.Dec.{eqb}
-use lib.ListN.{length, take, drop, length-append, length-take, length-drop, take-append-drop}
-use borrow.Author.Tests.{eqb-true, eqb-false, eq-eqb}
-use Rattle.laws.specs.Lists.{among, count}
-use Rattle.laws.specs.Every.{All, none, also}
-use Rattle.laws.specs.Each.{Each}
+use lib.ListN.{length, take, drop, length-append, length-take, length-drop}
+use Rattle.laws.specs.Lists.{concat}
 use Rattle.laws.specs.Sums.{sumOf}
-use Rattle.laws.proofs.Every.{all-append, all-first, all-rest, all-drop}
-use Rattle.laws.proofs.Lists.{among-hit}
-use Rattle.laws.proofs.Tests.{Tested, passed, failed, tested, never-both}
 use Rattle.form.specs.declared.limits.Limits.{Limits}
 use Rattle.form.specs.declared.separators.Separators.{Separators}
-use Rattle.form.specs.Limits.{Lawful, lineCount}
+use Rattle.form.specs.Limits.{Lawful}
 use Rattle.form.specs.Header.{splitting}
-use Rattle.line.specs.Lines.{CR, space}
+use Rattle.form.proofs.RoundedUp.{lineCount-addenda}
 use Rattle.line.specs.Cutting.{cut, cuts, unlines}
-use Rattle.line.specs.Sound.{Text}
 use Rattle.line.proofs.Cutting.{cuts-nil, cuts-cons, unlines-nil, unlines-append, length-unlines-cut}
 use Rattle.table.specs.Leaves.{Leaf, segmentLeaves, headerLeaves, leavesFrom, messageLeaves}
-use Rattle.table.specs.Rows.{textOf, allLeaves}
-use Rattle.table.specs.Flat.{leaf, raised, flat, under, Without, gluedTo, glued}
+use Rattle.table.specs.Rows.{textOf}
+use Rattle.table.specs.Flat.{flat, under}
 use Rattle.table.specs.Filed.{headerBytes, Filed}
 use Rattle.table.specs.BySegment.{segmentBytes, writtenBytes}
-use Rattle.table.proofs.Flat.{flat-separator, flat-text, headLeaf, separatorsLeaf, segment-flat, header-flat}
+use Rattle.table.proofs.Flat.{headLeaf, separatorsLeaf, segment-flat, header-flat}
 use Rattle.table.proofs.Back.{filed-some}
+use Rattle.table.proofs.Rows.{textOf-append}
 use Rattle.table.proofs.Counting.{length-textOf, length-segmentLeaves, length-headerLeaves}
 
 -- numbers in front of places change no text
@@ -52,6 +43,19 @@ header-texts h ls long =
       length-take 1 h,
       length-take 4 (drop 2 h),
       length-drop 2 h,
+    )
+
+-- what is written holds the texts at least
+pub texts-written : (L : Limits) → Lawful L → (groups : List (List Leaf)) → length (textOf (concat groups)) ≤ sumOf (writtenBytes L) groups
+unfolding concat textOf sumOf writtenBytes segmentBytes
+texts-written L lawful [] = omega arith
+texts-written L lawful (g ∷ gs) =
+    omega (
+      arith,
+      texts-written L lawful gs,
+      ap length (textOf-append g (concat gs)),
+      length-append (textOf g) (textOf (concat gs)),
+      lineCount-addenda L lawful (length (textOf g) + (length g - 1)),
     )
 
 module _ (ps : Separators) where

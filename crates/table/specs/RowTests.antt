@@ -1,15 +1,18 @@
--- The tests of leaf rows as a loop makes them (models that antt computes): of a row's place and the place before it, of its start and the
--- texts before it, of the bytes of its text.
+-- The tests of rows as a loop makes them (models that antt computes): of a leaf row's place and the place before it, of its start and the
+-- texts before it, of the bytes of its text; and the segment rows that leaves state, one after the other.
 -- Assumes nothing.
 use mathlib.Core.Bool.{Bool, true, false, not, _&&_}
 use mathlib.Core.List.{List, [], _∷_}
 use Prim.Native.Nat.{ℕ, zero, suc, _+_, _*_}
 use lib.Dec.{leb, eqb}
-use lib.ListN.{getD}
+use lib.ListN.{length, getD}
 use Rattle.laws.specs.Lists.{same, among}
 use Rattle.line.specs.Lines.{space}
+use Rattle.order.specs.Owners.{owner}
+use Rattle.table.specs.Leaves.{Leaf}
 use Rattle.table.specs.Rows.{leafRowSize}
 use Rattle.table.specs.Flat.{ones}
+use Rattle.table.specs.BySegment.{kindAmong}
 
 -- whether one place comes next after another: some number is one more, the coarser are the same and the finer are 1
 unfoldable pub nextPlace : List ℕ → List ℕ → Bool
@@ -28,3 +31,19 @@ endToEnd rows finish i (suc n) start =
 unfoldable pub leafText : List ℕ → List ℕ → Bool
 leafText ps [] = true
 leafText ps (b ∷ s) = leb space b && not (among ps b) && leafText ps s
+
+-- whether leaves go on soundly after one at a place; whether they begin so there
+unfoldable pub goOn : List ℕ → List ℕ → List Leaf → Bool
+goOn ps place [] = true
+goOn ps place (l ∷ ls) = nextPlace place (l .place) && leafText ps (l .text) && goOn ps (l .place) ls
+
+unfoldable pub goOnFrom : List ℕ → List ℕ → List Leaf → Bool
+goOnFrom ps place [] = false
+goOnFrom ps place (l ∷ ls) = same (l .place) place && leafText ps (l .text) && goOn ps (l .place) ls
+
+-- the segment rows that the leaves of some segments state: `first` is the number of the first leaf, `before` the kinds of the segments
+-- before them, the nearest first
+unfoldable pub rowsStated : (ℕ → ℕ) → ℕ → List ℕ → List (List Leaf) → List ℕ
+rowsStated lv first before [] = []
+rowsStated lv first before (g ∷ gs) =
+    kindAmong g ∷ owner lv before (kindAmong g) ∷ first ∷ length g ∷ rowsStated lv (first + length g) (kindAmong g ∷ before) gs

@@ -1,8 +1,8 @@
 -- Fewest bytes and lines (document 01, "Writing"): of all messages that read to a table ours has the fewest of both; no line is too long;
 -- and how many there are, by the formulas.
 -- Assumes nothing.
-use mathlib.Core.List.{List, [], _∷_, _++_}
-use mathlib.Core.Path.{_≡_, refl, sym, ap, _∙_}
+use mathlib.Core.List.{List, [], _∷_}
+use mathlib.Core.Path.{_≡_, refl}
 use Prim.Native.Nat.{ℕ, _+_, _*_, _≤_}
 use native.Mathlib.Omega.{arith}
 use lib.ListN.{length}
@@ -11,9 +11,8 @@ use Rattle.laws.specs.Sums.{sumOf}
 use Rattle.laws.proofs.Each.{each-append}
 use Rattle.form.specs.declared.limits.Limits.{Limits}
 use Rattle.form.specs.Limits.{Lawful, lineCount}
-use Rattle.line.specs.Lines.{walk, walkFrom, texts}
+use Rattle.line.specs.Lines.{walk, texts}
 use Rattle.line.specs.Cutting.{cut, cuts}
-use Rattle.line.proofs.Cutting as cutting
 use Rattle.line.proofs.Cutting.{cuts-nil, cuts-cons, cut-short, length-cuts, length-unlines-cuts}
 use Rattle.line.proofs.Walking.{texts-sound}
 use Rattle.line.proofs.Fewest as line

@@ -4,12 +4,10 @@ use mathlib.Core.Bool.{true, false}
 use mathlib.Core.List.{List, [], _∷_, map}
 use mathlib.Core.Logic.{_↔_}
 use mathlib.Core.Path.{_≡_, refl, sym, ap, ap₂, _∙_, subst}
-use Prim.Native.Nat.{ℕ, zero, suc, _+_, _*_, _≤_, _<_}
+use Prim.Native.Nat.{ℕ, zero, suc, _*_, _≤_, _<_}
 use native.Mathlib.Omega.{arith}
-use lib.Dec.{ltb}
-use lib.ListN.{length, take, drop, getD}
+use lib.ListN.{length, drop, getD}
 use borrow.Author.Tests.{le-ltb}
-use Rattle.laws.specs.Every.{All}
 use Rattle.laws.specs.Each.{Each}
 use Rattle.laws.specs.Sums.{sumOf}
 use Rattle.laws.specs.Tables.{values}
@@ -21,7 +19,7 @@ use Rattle.form.specs.declared.separators.Separators.{Separators}
 use Rattle.form.specs.Limits.{Lawful}
 use Rattle.form.specs.Header.{allAllowed, different, five, splitting}
 use Rattle.form.proofs.HeaderRule.{AllAllowed, AllDifferent, all-allowed-facts, facts-all-allowed, different-facts, facts-different}
-use Rattle.line.specs.Lines.{CR, space}
+use Rattle.line.specs.Lines.{CR}
 use Rattle.line.specs.Cutting.{cuts, unlines}
 use Rattle.line.specs.Sound.{Text}
 use Rattle.line.proofs.Fewest.{least-message}
@@ -29,10 +27,10 @@ use Rattle.line.proofs.Written.{Worded}
 use Rattle.order.specs.Place.{misplaced}
 use Rattle.order.specs.Owners.{owners}
 use Rattle.table.specs.Leaves.{Leaf, messageLeaves}
-use Rattle.table.specs.Flat.{leaf, Without}
+use Rattle.table.specs.Flat.{leaf}
 use Rattle.table.specs.Filed.{headerBytes, Filed}
 use Rattle.table.specs.Rows.{Table, segmentRowSize, leafRowSize, kindsOf, contextIn, segmentRowsFrom, leafRowsFrom, textOf, allLeaves, tableOf}
-use Rattle.table.specs.Reading.{Room, accepted, short, reading}
+use Rattle.table.specs.Reading.{Room, short}
 use Rattle.table.specs.Back.{leafAt, leavesOf, separatorsIn, segmentsOf, linesOf, written}
 use Rattle.table.specs.Sound.{Sound, soundFrom}
 use Rattle.table.specs.BySegment.{bySegment, kindAmong, contextAmong, writtenBytes}
@@ -47,7 +45,7 @@ use Rattle.table.proofs.Rows.{leavesOf-table}
 use Rattle.table.proofs.SegmentBytes.{filed-bytes}
 use Rattle.table.proofs.SoundTables.{headed, afterHeader, filed-leaves, filed-sound, table-filed, table-leaves}
 use Rattle.table.proofs.SoundTest.{soundFrom-true, soundFrom-holds}
-use Rattle.write.specs.Local.{groupsOf, kindsAmong, Local}
+use Rattle.write.specs.Local.{groupsOf, kindsAmong, HeaderRows, thirdPlace, Local}
 use Rattle.write.specs.Writing.{stated, ReadTo, readsBack}
 use Rattle.write.proofs.SameTables.{same-numbers, same-parts}
 use Rattle.write.proofs.RoundTrip.{written-accepted, reads-back, reads-same}
@@ -79,6 +77,15 @@ two-first f zero ps place h = absurd (never-both h refl)
 two-first f (suc zero) ps place h = absurd (never-both h refl)
 two-first f (suc (suc n)) ps place h = refl
 
+-- so a table's leaves are the header's two and the others
+pub headed-leaves : (t : Table) → HeaderRows t → soundFrom (CR ∷ splitting (separatorsIn t)) thirdPlace (drop 2 (leavesOf t)) ≡ true
+    → leavesOf t ≡ headed (separatorsIn t) (drop 2 (leavesOf t))
+unfolding leavesOf headerBytes separatorsIn
+headed-leaves t w others =
+    two-first (leafAt (t .leafRows) (t .text)) (t .card .leaves) (CR ∷ splitting (separatorsIn t)) thirdPlace others
+    ∙ ap₂ (λ (l m : Leaf). l ∷ m ∷ drop 2 (leavesOf t)) (w .first)
+    (ap₂ leaf (w .second) (four-bytes (leafAt (t .leafRows) (t .text) 1 .text) (w .four)))
+
 -- what the segments of a table's leaves are, where these are the leaves of segments that can be filed
 module _ (t : Table) (ps : Separators) (allowed : AllAllowed ps) (ss : List (List ℕ)) (filed : Filed ps ss)
     (leaves : allLeaves ps ss ≡ leavesOf t) where
@@ -106,17 +113,13 @@ module _ (t : Table) (ps : Separators) (allowed : AllAllowed ps) (ss : List (Lis
 -- a table that meets them
 module _ {L : Limits} {levels : ℕ → ℕ → ℕ} {t : Table} (lawful : Lawful L) (w : Local L levels t) where
   all-allowed : AllAllowed (separatorsIn t)
-  all-allowed = all-allowed-facts (separatorsIn t) (w .allowed)
+  all-allowed = all-allowed-facts (separatorsIn t) (w .header .allowed)
 
   leaves-headed : leavesOf t ≡ headed (separatorsIn t) (drop 2 (leavesOf t))
-  unfolding leavesOf headerBytes separatorsIn
-  leaves-headed =
-      two-first (leafAt (t .leafRows) (t .text)) (t .card .leaves) (CR ∷ splitting (separatorsIn t)) (1 ∷ 3 ∷ 1 ∷ 1 ∷ 1 ∷ []) (w .others)
-      ∙ ap₂ (λ (l m : Leaf). l ∷ m ∷ drop 2 (leavesOf t)) (w .first)
-      (ap₂ leaf (w .second) (four-bytes (leafAt (t .leafRows) (t .text) 1 .text) (w .four)))
+  leaves-headed = headed-leaves t (w .header) (w .others)
 
-  leaves-sound : Sound (CR ∷ splitting (separatorsIn t)) (1 ∷ 3 ∷ 1 ∷ 1 ∷ 1 ∷ []) (drop 2 (leavesOf t))
-  leaves-sound = soundFrom-true (CR ∷ splitting (separatorsIn t)) (1 ∷ 3 ∷ 1 ∷ 1 ∷ 1 ∷ []) (drop 2 (leavesOf t)) (w .others)
+  leaves-sound : Sound (CR ∷ splitting (separatorsIn t)) thirdPlace (drop 2 (leavesOf t))
+  leaves-sound = soundFrom-true (CR ∷ splitting (separatorsIn t)) thirdPlace (drop 2 (leavesOf t)) (w .others)
 
   pub local-filed : Filed (separatorsIn t) (segmentsOf t)
   local-filed = table-filed t (header-clear (separatorsIn t) all-allowed) leaves-sound leaves-headed
@@ -128,7 +131,7 @@ module _ {L : Limits} {levels : ℕ → ℕ → ℕ} {t : Table} (lawful : Lawfu
   kinds-are = same-kinds t (separatorsIn t) all-allowed (segmentsOf t) local-filed local-leaves
 
   context-is : t .card .context ≡ contextIn (separatorsIn t) (segmentsOf t)
-  context-is = w .context ∙ same-context t (separatorsIn t) all-allowed (segmentsOf t) local-filed local-leaves
+  context-is = w .kinds .context ∙ same-context t (separatorsIn t) all-allowed (segmentsOf t) local-filed local-leaves
 
   leaves-are : t .card .leaves ≡ length (allLeaves (separatorsIn t) (segmentsOf t))
   leaves-are = leaf-count t (separatorsIn t) all-allowed (segmentsOf t) local-filed local-leaves
@@ -156,25 +159,25 @@ module _ {L : Limits} {levels : ℕ → ℕ → ℕ} {t : Table} (lawful : Lawfu
   local-judged =
       record {
         few-segments =
-            omega (arith, w .segmentCount, same-count t (separatorsIn t) all-allowed (segmentsOf t) local-filed local-leaves, w .few-segments);
-        known = subst Known kinds-are (w .known);
-        context = λ e. w .named (context-is ∙ e);
-        ordered = ap₂ misplaced (sym context-is) (sym kinds-are) ∙ w .ordered;
-        few-leaves = omega (arith, leaves-are, w .few-leaves);
+            omega (arith, w .segmentCount, same-count t (separatorsIn t) all-allowed (segmentsOf t) local-filed local-leaves, w .few .segments);
+        known = subst Known kinds-are (w .kinds .known);
+        context = λ e. w .kinds .named (context-is ∙ e);
+        ordered = ap₂ misplaced (sym context-is) (sym kinds-are) ∙ w .kinds .ordered;
+        few-leaves = omega (arith, leaves-are, w .few .leaves);
         table = local-table;
       }
 
   local-worded : Each Worded (segmentsOf t)
   local-worded =
-      all-worded (separatorsIn t) (segmentsOf t) (subst Known kinds-are (w .known))
+      all-worded (separatorsIn t) (segmentsOf t) (subst Known kinds-are (w .kinds .known))
       (text-leaves (separatorsIn t) all-allowed (segmentsOf t) local-filed .1 (subst AllText text-is (w .bytes)))
 
   pub local-accepted : Accepted L levels (stated L) (written L t) t
   unfolding written linesOf separatorsIn
   local-accepted =
-      written-accepted {ps = separatorsIn t} {segments = segmentsOf t} lawful all-allowed (different-facts (separatorsIn t) (w .distinct)) local-filed local-worded local-judged
+      written-accepted {ps = separatorsIn t} {segments = segmentsOf t} lawful all-allowed (different-facts (separatorsIn t) (w .header .distinct)) local-filed local-worded local-judged
       (stated-roomy L)
-      (omega (arith, same-bytes t (separatorsIn t) all-allowed (segmentsOf t) local-filed local-leaves L lawful, w .few-bytes))
+      (omega (arith, same-bytes t (separatorsIn t) all-allowed (segmentsOf t) local-filed local-leaves L lawful, w .few .bytes))
 
 -- the table of segments that can be filed and were accepted meets them
 module _ (L : Limits) (lawful : Lawful L) (levels : ℕ → ℕ → ℕ) (ps : Separators) (allowed : AllAllowed ps) (unlike : AllDifferent ps) where
@@ -195,10 +198,10 @@ module _ (L : Limits) (lawful : Lawful L) (levels : ℕ → ℕ → ℕ) (ps : S
         many : i < table .card .leaves
         many = rw (filed-leaves ps h ss filed) (omega arith)
 
-    table-others : soundFrom (CR ∷ splitting (separatorsIn table)) (1 ∷ 3 ∷ 1 ∷ 1 ∷ 1 ∷ []) (drop 2 (leavesOf table)) ≡ true
+    table-others : soundFrom (CR ∷ splitting (separatorsIn table)) thirdPlace (drop 2 (leavesOf table)) ≡ true
     unfolding splitting
     table-others =
-        ap₂ (λ (q : Separators) (ls : List Leaf). soundFrom (CR ∷ splitting q) (1 ∷ 3 ∷ 1 ∷ 1 ∷ 1 ∷ []) (drop 2 ls))
+        ap₂ (λ (q : Separators) (ls : List Leaf). soundFrom (CR ∷ splitting q) thirdPlace (drop 2 ls))
         (separatorsIn-table levels ps (h ∷ ss) filed) table-headed
         ∙ soundFrom-holds (CR ∷ splitting ps) refl (filed-sound ps h ss filed)
 
@@ -212,29 +215,36 @@ module _ (L : Limits) (lawful : Lawful L) (levels : ℕ → ℕ → ℕ) (ps : S
         let groups = same-groups table ps allowed (h ∷ ss) filed leaves in
         let named = same-context table ps allowed (h ∷ ss) filed leaves in
         record {
-          allowed = ap (λ (q : Separators). allAllowed (five q)) separators ∙ facts-all-allowed ps allowed;
-          distinct = ap (λ (q : Separators). different (five q)) separators ∙ facts-different ps unlike;
-          first = leaf-at 0 (omega arith);
-          second = ap (λ (l : Leaf). l .place) (leaf-at 1 (omega arith));
-          four = ap (λ (l : Leaf). length (l .text)) (leaf-at 1 (omega arith));
+          header =
+              record {
+                allowed = ap (λ (q : Separators). allAllowed (five q)) separators ∙ facts-all-allowed ps allowed;
+                distinct = ap (λ (q : Separators). different (five q)) separators ∙ facts-different ps unlike;
+                first = leaf-at 0 (omega arith);
+                second = ap (λ (l : Leaf). l .place) (leaf-at 1 (omega arith));
+                four = ap (λ (l : Leaf). length (l .text)) (leaf-at 1 (omega arith));
+              };
           others = table-others;
           leafRows = ap (leafRowsFrom 0) leaves;
           text = ap textOf leaves;
-          bytes =
-              text-leaves ps allowed (h ∷ ss) filed .0
-              (each-from Worded Text (h ∷ ss) worded (λ s v. v .1));
-          known = subst Known (sym kinds) (judged .known);
-          context = sym named;
-          named = judged .context;
-          ordered = ap (misplaced (contextIn ps (h ∷ ss))) kinds ∙ judged .ordered;
+          bytes = text-leaves ps allowed (h ∷ ss) filed .0 (each-from Worded Text (h ∷ ss) worded (λ s v. v .1));
+          kinds =
+              record {
+                known = subst Known (sym kinds) (judged .known);
+                context = sym named;
+                named = judged .context;
+                ordered = ap (misplaced (contextIn ps (h ∷ ss))) kinds ∙ judged .ordered;
+              };
           segmentRows =
               ap₂ (λ (ks : List ℕ) (gs : List (List Leaf)). segmentRowsFrom 1 ks (owners (levels (contextIn ps (h ∷ ss))) ks) gs)
               (sym kinds) (sym groups);
           segmentCount = sym (same-count table ps allowed (h ∷ ss) filed leaves);
           textCount = refl;
-          few-segments = judged .few-segments;
-          few-leaves = judged .few-leaves;
-          few-bytes = omega (arith, same-bytes table ps allowed (h ∷ ss) filed leaves L lawful, fits);
+          few =
+              record {
+                segments = judged .few-segments;
+                leaves = judged .few-leaves;
+                bytes = omega (arith, same-bytes table ps allowed (h ∷ ss) filed leaves L lawful, fits);
+              };
         }
 
   pub segments-local : (segments : List (List ℕ)) → Filed ps segments → Each Worded segments

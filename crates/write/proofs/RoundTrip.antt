@@ -14,9 +14,8 @@ use Rattle.form.specs.declared.limits.Limits.{Limits}
 use Rattle.form.specs.declared.separators.Separators.{Separators}
 use Rattle.form.specs.Limits.{Lawful}
 use Rattle.form.proofs.HeaderRule.{AllAllowed, AllDifferent}
-use Rattle.line.specs.Lines.{CR, walk, texts}
-use Rattle.line.specs.Joining.{joined}
-use Rattle.line.specs.Cutting.{cut, cuts, unlines, addenda}
+use Rattle.line.specs.Lines.{CR}
+use Rattle.line.specs.Cutting.{cuts, unlines, addenda}
 use Rattle.line.proofs.Cutting.{cuts-cons, cut-addenda, carriedPieces, unlines-cons}
 use Rattle.line.proofs.Fewest.{least-message}
 use Rattle.line.proofs.Written.{Worded, no-fault-written, joined-written}
@@ -28,7 +27,7 @@ use Rattle.table.proofs.Accepting.{Judged, Accepted, accepting}
 use Rattle.table.proofs.Back.{filed-some, segmentsOf-table}
 use Rattle.table.proofs.Filing.{segmentsOfAccepted, accepted-header, accepted-worded, accepted-filed, all-whole}
 use Rattle.table.proofs.HeaderBytes.{bytes-sound, header-text}
-use Rattle.write.specs.Writing.{stated, ReadTo, givesTable, readsBack}
+use Rattle.write.specs.Writing.{stated, ReadTo, readsBack}
 use Rattle.write.proofs.SameTables.{gives-accepted}
 
 -- what is written begins with the header's bytes: the first line keeps them

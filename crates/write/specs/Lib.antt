@@ -1,3 +1,4 @@
 pub mod Lent
 pub mod Writing
 pub mod Local
+pub mod RowByRow

@@ -28,33 +28,47 @@ groupsOf t = bySegment (leavesOf t)
 unfoldable pub kindsAmong : Table → List ℕ
 kindsAmong t = map kindAmong (groupsOf t)
 
-pub record Local (L : Limits) (levels : ℕ → ℕ → ℕ) (t : Table) : Type 0 where
+-- the header's two leaves
+pub record HeaderRows (t : Table) : Type 0 where
   -- "each is 33 to 126, no letter, no digit, all five different"
   pub allowed : allAllowed (five (separatorsIn t)) ≡ true
   pub distinct : different (five (separatorsIn t)) ≡ true
-  -- "in the first H, field 1 is `H`, field 2 is one leaf of the four bytes 2 to 5, and field 3 starts at byte 7"
+  -- "in the first H, field 1 is `H`, field 2 is one leaf of the four bytes 2 to 5"
   pub first : leafAt (t .leafRows) (t .text) 0 ≡ leaf (1 ∷ 1 ∷ 1 ∷ 1 ∷ 1 ∷ []) (72 ∷ [])
   pub second : leafAt (t .leafRows) (t .text) 1 .place ≡ 1 ∷ 2 ∷ 1 ∷ 1 ∷ 1 ∷ []
   pub four : length (leafAt (t .leafRows) (t .text) 1 .text) ≡ 4
-  -- from there on each leaf stands where one separator leads from the leaf before it, and no text has a separator in it
-  pub others : soundFrom (CR ∷ splitting (separatorsIn t)) (1 ∷ 3 ∷ 1 ∷ 1 ∷ 1 ∷ []) (drop 2 (leavesOf t)) ≡ true
+
+-- "and field 3 starts at byte 7": the place of the third leaf
+abbrev pub thirdPlace : List ℕ
+thirdPlace = 1 ∷ 3 ∷ 1 ∷ 1 ∷ 1 ∷ []
+
+-- every kind is known, field 7.7 names the card's context, and the kinds stand where the context allows them
+pub record KindRows (t : Table) : Type 0 where
+  pub known : All (λ (k : ℕ). k ≡ 0 → ⊥) (kindsAmong t)
+  pub context : t .card .context ≡ contextAmong (groupsOf t)
+  pub named : t .card .context ≡ 0 → ⊥
+  pub ordered : misplaced (t .card .context) (kindsAmong t) ≡ 0
+
+-- "over 256 segments", "over 2,048 leaves", "A table whose message, so written, passes 16,384 bytes is 13"
+pub record FewRows (L : Limits) (t : Table) : Type 0 where
+  pub segments : t .card .segments ≤ L .segments
+  pub leaves : t .card .leaves ≤ L .leaves
+  pub bytes : sumOf (writtenBytes L) (groupsOf t) ≤ L .bytes
+
+pub record Local (L : Limits) (levels : ℕ → ℕ → ℕ) (t : Table) : Type 0 where
+  pub header : HeaderRows t
+  -- from the third leaf on each stands where one separator leads from the leaf before it, and no text has a separator in it
+  pub others : soundFrom (CR ∷ splitting (separatorsIn t)) thirdPlace (drop 2 (leavesOf t)) ≡ true
   -- "Leaf texts lie end to end in the text area without separators, from start 0."
   pub leafRows : t .leafRows ≡ leafRowsFrom 0 (leavesOf t)
   pub text : t .text ≡ textOf (leavesOf t)
   -- no byte below 32 stands inside a line
   pub bytes : All (λ (b : ℕ). space ≤ b) (t .text)
-  -- every kind is known, field 7.7 names the card's context, and the kinds stand where the context allows them
-  pub known : All (λ (k : ℕ). k ≡ 0 → ⊥) (kindsAmong t)
-  pub context : t .card .context ≡ contextAmong (groupsOf t)
-  pub named : t .card .context ≡ 0 → ⊥
-  pub ordered : misplaced (t .card .context) (kindsAmong t) ≡ 0
+  pub kinds : KindRows t
   -- "kind, owner (a row number, or 0), first leaf, leaf count"
   pub segmentRows :
       t .segmentRows ≡ segmentRowsFrom 1 (kindsAmong t) (owners (levels (t .card .context)) (kindsAmong t)) (groupsOf t)
   -- the card counts segments and text bytes; its count of leaves says how many leaf rows were looked at
   pub segmentCount : t .card .segments ≡ length (groupsOf t)
   pub textCount : t .card .text ≡ length (t .text)
-  -- "over 256 segments", "over 2,048 leaves", "A table whose message, so written, passes 16,384 bytes is 13"
-  pub few-segments : t .card .segments ≤ L .segments
-  pub few-leaves : t .card .leaves ≤ L .leaves
-  pub few-bytes : sumOf (writtenBytes L) (groupsOf t) ≤ L .bytes
+  pub few : FewRows L t

@@ -1,0 +1,193 @@
+-- Leaf texts lie end to end (document 01, "Segments, leaves and the table") exactly where each row starts where the one before it ends and
+-- the last ends with the text.
+-- Assumes nothing.
+use mathlib.Core.Bool.{true, false}
+use mathlib.Core.List.{List, _∷_, _++_, head-eq-of-cons-eq, tail-eq-of-cons-eq}
+use mathlib.Core.Logic.{_↔_}
+use mathlib.Core.Path.{_≡_, sym, ap, ap₂, _∙_}
+use Prim.Native.Nat.{ℕ, zero, suc, _+_, _*_, _≤_}
+use native.Mathlib.Omega.{arith}
+use lib.Dec.{eqb}
+use lib.ListN.{length, take, drop, getD, length-append, length-drop, take-append-drop, drop-of-length-le}
+use lib.Seq.{drop-drop, drop-at, length-take-le}
+use borrow.Author.Tests.{eqb-true, eq-eqb, ne-eqb}
+use Rattle.laws.specs.Tables.{values}
+use Rattle.laws.proofs.Parts.{left-cons}
+use Rattle.laws.proofs.Tests.{and-first, and-second, and-both}
+use Rattle.table.specs.Leaves.{Leaf}
+use Rattle.table.specs.Rows.{leafRowSize, leafRowsFrom, textOf}
+use Rattle.table.specs.Back.{leafAt}
+use Rattle.table.specs.RowTests.{endToEnd}
+
+-- the step laws of the test
+module _ (rows : List ℕ) (finish i n start : ℕ) where
+  abbrev pub rowStart : ℕ
+  rowStart = getD rows (i * leafRowSize + 5) 0
+
+  abbrev pub rowLength : ℕ
+  rowLength = getD rows (i * leafRowSize + 6) 0
+
+  pub ends-start : endToEnd rows finish i (suc n) start ≡ true → rowStart ≡ start
+  unfolding endToEnd
+  ends-start h = eqb-true rowStart start (and-first (eqb rowStart start) (endToEnd rows finish (suc i) n (start + rowLength)) h)
+
+  pub ends-later : endToEnd rows finish i (suc n) start ≡ true → endToEnd rows finish (suc i) n (start + rowLength) ≡ true
+  unfolding endToEnd
+  ends-later h = and-second (eqb rowStart start) (endToEnd rows finish (suc i) n (start + rowLength)) h
+
+  pub ends-more : rowStart ≡ start → endToEnd rows finish (suc i) n (start + rowLength) ≡ true → endToEnd rows finish i (suc n) start ≡ true
+  unfolding endToEnd
+  ends-more e h = and-both (eq-eqb rowStart start e) h
+
+  pub ends-turn : rowStart ≡ start → endToEnd rows finish i (suc n) start ≡ endToEnd rows finish (suc i) n (start + rowLength)
+  unfolding endToEnd
+  ends-turn e = rw (eq-eqb rowStart start e)
+
+  pub ends-broken : (rowStart ≡ start → ⊥) → endToEnd rows finish i (suc n) start ≡ false
+  unfolding endToEnd
+  ends-broken d = rw (ne-eqb rowStart start d)
+
+pub ends-last : (rows : List ℕ) (finish i start : ℕ) → (endToEnd rows finish i 0 start ≡ true) ↔ (start ≡ finish)
+unfolding endToEnd
+ends-last rows finish i start = (eqb-true start finish, eq-eqb start finish)
+
+-- no start passes the finish
+pub ends-within : (rows : List ℕ) (finish i n start : ℕ) → endToEnd rows finish i n start ≡ true → start ≤ finish
+ends-within rows finish i zero start h = omega (arith, ends-last rows finish i start .0 h)
+ends-within rows finish i (suc n) start h =
+    omega (
+      arith,
+      ends-within rows finish (suc i) n (start + getD rows (i * leafRowSize + 6) 0) (ends-later rows finish i n start h),
+    )
+
+module _ (rows text : List ℕ) where
+  -- a row, and the rows after it
+  placeAt : ℕ → List ℕ
+  placeAt i = take 5 (drop (i * leafRowSize) rows)
+
+  row-cons : (i : ℕ) → suc i * leafRowSize ≤ length rows
+      → drop (i * leafRowSize) rows
+      ≡ placeAt i ++ (getD rows (i * leafRowSize + 5) 0 ∷ getD rows (i * leafRowSize + 6) 0 ∷ drop (suc i * leafRowSize) rows)
+  unfolding placeAt
+  row-cons i long =
+      sym (take-append-drop 5 (drop (i * leafRowSize) rows))
+      ∙ ap (λ (r : List ℕ). placeAt i ++ r)
+      (drop-drop 5 (i * leafRowSize) rows
+      ∙ left-cons rows (i * leafRowSize + 5) 0 (omega arith)
+      ∙ ap (λ (r : List ℕ). getD rows (i * leafRowSize + 5) 0 ∷ r)
+      (left-cons rows (i * leafRowSize + 5 + 1) 0 (omega arith)
+      ∙ ap₂ (λ (j k : ℕ). getD rows j 0 ∷ drop k rows) sixth after))
+    where
+      sixth : i * leafRowSize + 5 + 1 ≡ i * leafRowSize + 6
+      sixth = omega arith
+
+      after : i * leafRowSize + 5 + 1 + 1 ≡ suc i * leafRowSize
+      after = omega arith
+
+  place-five : (i : ℕ) → suc i * leafRowSize ≤ length rows → length (placeAt i) ≡ 5
+  unfolding placeAt
+  place-five i long = length-take-le 5 (drop (i * leafRowSize) rows) (omega (arith, length-drop (i * leafRowSize) rows))
+
+  -- n rows from row i on, whose texts lie from `start` on
+  pub record Laid (i n start : ℕ) : Type 0 where
+    pub rows-are : drop (i * leafRowSize) rows ≡ leafRowsFrom start (values (leafAt rows text) i n)
+    pub text-is : drop start text ≡ textOf (values (leafAt rows text) i n)
+
+  -- one row more in front of them
+  first-laid : (i n start : ℕ) → suc i * leafRowSize ≤ length rows → getD rows (i * leafRowSize + 5) 0 ≡ start
+      → start + getD rows (i * leafRowSize + 6) 0 ≤ length text
+      → Laid (suc i) n (start + getD rows (i * leafRowSize + 6) 0) → Laid i (suc n) start
+  unfolding values leafRowsFrom textOf leafAt placeAt
+  first-laid i n start long at fits rest =
+      record {
+        rows-are =
+            row-cons i long
+            ∙ ap₂ (λ (a : ℕ) (r : List ℕ). placeAt i ++ (a ∷ r)) at
+            (ap₂ (λ (k : ℕ) (r : List ℕ). k ∷ r) (sym size)
+            (rest .rows-are ∙ ap (λ (k : ℕ). leafRowsFrom (start + k) (values (leafAt rows text) (suc i) n)) (sym size)));
+        text-is =
+            sym (take-append-drop count (drop start text))
+            ∙ ap₂ (λ (x y : List ℕ). x ++ y) (ap (λ (a : ℕ). take count (drop a text)) (sym at))
+            (drop-drop count start text ∙ rest .text-is);
+      }
+    where
+      count : ℕ
+      count = getD rows (i * leafRowSize + 6) 0
+
+      size : length (take count (drop (getD rows (i * leafRowSize + 5) 0) text)) ≡ count
+      size = length-take-le count (drop (getD rows (i * leafRowSize + 5) 0) text) (omega (arith, length-drop (getD rows (i * leafRowSize + 5) 0) text))
+
+  -- the first of them: it starts there, its length is that of its text, and the others are laid behind it
+  pub record FirstLaid (i n start : ℕ) : Type 0 where
+    pub starts : getD rows (i * leafRowSize + 5) 0 ≡ start
+    pub size : length (leafAt rows text i .text) ≡ getD rows (i * leafRowSize + 6) 0
+    pub fits : start ≤ length text → start + getD rows (i * leafRowSize + 6) 0 ≤ length text
+    pub others : Laid (suc i) n (start + getD rows (i * leafRowSize + 6) 0)
+
+  laid-first : (i n start : ℕ) → suc i * leafRowSize ≤ length rows → Laid i (suc n) start → FirstLaid i n start
+  unfolding values leafRowsFrom textOf leafAt placeAt
+  laid-first i n start long w = made (head-eq-of-cons-eq row) (sym (head-eq-of-cons-eq (tail-eq-of-cons-eq row))) (tail-eq-of-cons-eq (tail-eq-of-cons-eq row))
+    where
+      own : List ℕ
+      own = leafAt rows text i .text
+
+      rest : List Leaf
+      rest = values (leafAt rows text) (suc i) n
+
+      row : getD rows (i * leafRowSize + 5) 0 ∷ getD rows (i * leafRowSize + 6) 0 ∷ drop (suc i * leafRowSize) rows
+          ≡ start ∷ length own ∷ leafRowsFrom (start + length own) rest
+      row =
+          sym (drop-at (placeAt i) (getD rows (i * leafRowSize + 5) 0 ∷ getD rows (i * leafRowSize + 6) 0 ∷ drop (suc i * leafRowSize) rows) 5 (place-five i long))
+          ∙ ap (drop 5) (sym (row-cons i long) ∙ w .rows-are)
+          ∙ drop-at (placeAt i) (start ∷ length own ∷ leafRowsFrom (start + length own) rest) 5 (place-five i long)
+
+      made : getD rows (i * leafRowSize + 5) 0 ≡ start → length own ≡ getD rows (i * leafRowSize + 6) 0
+          → drop (suc i * leafRowSize) rows ≡ leafRowsFrom (start + length own) rest → FirstLaid i n start
+      made at size later =
+          record {
+            starts = at;
+            size = size;
+            fits = λ within. omega (arith, ap length (w .text-is), length-append own (textOf rest), length-drop start text);
+            others =
+                record {
+                  rows-are = later ∙ ap (λ (k : ℕ). leafRowsFrom (start + k) rest) size;
+                  text-is =
+                      sym (drop-drop (getD rows (i * leafRowSize + 6) 0) start text)
+                      ∙ ap (drop (getD rows (i * leafRowSize + 6) 0)) (w .text-is)
+                      ∙ drop-at own (textOf rest) (getD rows (i * leafRowSize + 6) 0) size;
+                };
+          }
+
+  -- rows that pass the test
+  ends-laid : (i n start : ℕ) → length rows ≡ (i + n) * leafRowSize → endToEnd rows (length text) i n start ≡ true → Laid i n start
+  unfolding values leafRowsFrom textOf
+  ends-laid i zero start long h =
+      record {
+        rows-are = drop-of-length-le rows {i = i * leafRowSize} (omega arith);
+        text-is = drop-of-length-le text {i = start} (omega (arith, ends-last rows (length text) i start .0 h));
+      }
+  ends-laid i (suc n) start long h =
+      let later = ends-later rows (length text) i n start h in
+      first-laid i n start (omega arith) (ends-start rows (length text) i n start h)
+      (ends-within rows (length text) (suc i) n (start + getD rows (i * leafRowSize + 6) 0) later)
+      (ends-laid (suc i) n (start + getD rows (i * leafRowSize + 6) 0) (omega arith) later)
+
+  -- and rows that are laid so pass it
+  laid-ends : (i n start : ℕ) → length rows ≡ (i + n) * leafRowSize → start ≤ length text → Laid i n start
+      → endToEnd rows (length text) i n start ≡ true
+  unfolding values textOf
+  laid-ends i zero start long within w =
+      ends-last rows (length text) i start .1 (omega (arith, ap length (w .text-is), length-drop start text))
+  laid-ends i (suc n) start long within w =
+      let v = laid-first i n start (omega arith) w in
+      ends-more rows (length text) i n start (v .starts)
+      (laid-ends (suc i) n (start + getD rows (i * leafRowSize + 6) 0) (omega arith) (v .fits within) (v .others))
+
+  -- so n rows are those of their leaves, and the text is theirs, exactly where they lie end to end
+  pub end-to-end : (n : ℕ) → length rows ≡ n * leafRowSize
+      → (endToEnd rows (length text) 0 n 0 ≡ true)
+      ↔ ((rows ≡ leafRowsFrom 0 (values (leafAt rows text) 0 n)) × (text ≡ textOf (values (leafAt rows text) 0 n)))
+  end-to-end n long = (
+    λ h. let w = ends-laid 0 n 0 (omega arith) h in (w .rows-are, w .text-is),
+    λ w. laid-ends 0 n 0 (omega arith) (omega arith) (record { rows-are = w .0; text-is = w .1 }),
+  )

@@ -1,0 +1,116 @@
+-- Segment rows as a loop tests them: a row states its segment's kind, its owner, its first leaf and its leaf count, and the rows after it
+-- state the segments after it.
+-- Assumes nothing.
+use mathlib.Core.List.{List, [], _∷_, _++_, map, head-eq-of-cons-eq, tail-eq-of-cons-eq}
+use mathlib.Core.Logic.{_↔_}
+use mathlib.Core.Path.{_≡_, refl, sym, ap, ap₂, _∙_}
+use Prim.Native.Nat.{ℕ, suc, _+_, _*_, _≤_}
+use native.Mathlib.Omega.{arith}
+use lib.ListN.{length, drop, getD}
+use Rattle.laws.specs.Every.{All}
+use Rattle.laws.proofs.Parts.{left-cons}
+use Rattle.order.specs.Owners.{owner, owners, ownersAfter}
+use Rattle.table.specs.Leaves.{Leaf}
+use Rattle.table.specs.Rows.{segmentRowSize, segmentRowsFrom}
+use Rattle.table.specs.BySegment.{bySegment, kindAmong}
+use Rattle.table.specs.RowTests.{rowsStated}
+use Rattle.table.proofs.BySegment.{InSegment, Ended, group-first}
+
+-- the rows of kinds, owners and leaves are those that the leaves state
+pub rows-stated : (lv : ℕ → ℕ) (first : ℕ) (before : List ℕ) (groups : List (List Leaf))
+    → segmentRowsFrom first (map kindAmong groups) (ownersAfter lv before (map kindAmong groups)) groups ≡ rowsStated lv first before groups
+unfolding segmentRowsFrom ownersAfter rowsStated
+rows-stated lv first before [] = refl
+rows-stated lv first before (g ∷ gs) =
+    ap (λ (r : List ℕ). kindAmong g ∷ owner lv before (kindAmong g) ∷ first ∷ length g ∷ r)
+    (rows-stated lv (first + length g) (kindAmong g ∷ before) gs)
+
+pub owners-stated : (lv : ℕ → ℕ) (groups : List (List Leaf))
+    → segmentRowsFrom 1 (map kindAmong groups) (owners lv (map kindAmong groups)) groups ≡ rowsStated lv 1 [] groups
+unfolding owners
+owners-stated lv groups = rows-stated lv 1 [] groups
+
+-- row j of the segment rows, counted from 0
+pub record RowIs (rows : List ℕ) (j kind owner first count : ℕ) : Type 0 where
+  pub kind-is : getD rows (j * segmentRowSize) 0 ≡ kind
+  pub owner-is : getD rows (j * segmentRowSize + 1) 0 ≡ owner
+  pub first-is : getD rows (j * segmentRowSize + 2) 0 ≡ first
+  pub count-is : getD rows (j * segmentRowSize + 3) 0 ≡ count
+
+module _ (rows : List ℕ) (j : ℕ) (long : suc j * segmentRowSize ≤ length rows) where
+  -- a row and the rows after it
+  row-cons : drop (j * segmentRowSize) rows
+      ≡ getD rows (j * segmentRowSize) 0 ∷ getD rows (j * segmentRowSize + 1) 0 ∷ getD rows (j * segmentRowSize + 2) 0
+      ∷ getD rows (j * segmentRowSize + 3) 0 ∷ drop (suc j * segmentRowSize) rows
+  row-cons =
+      left-cons rows (j * segmentRowSize) 0 (omega arith)
+      ∙ ap (λ (r : List ℕ). getD rows (j * segmentRowSize) 0 ∷ r)
+      (left-cons rows (j * segmentRowSize + 1) 0 (omega arith)
+      ∙ ap (λ (r : List ℕ). getD rows (j * segmentRowSize + 1) 0 ∷ r)
+      (next 1 2 (omega arith) (omega arith)
+      ∙ ap (λ (r : List ℕ). getD rows (j * segmentRowSize + 2) 0 ∷ r)
+      (next 2 3 (omega arith) (omega arith)
+      ∙ ap (λ (k : ℕ). getD rows (j * segmentRowSize + 3) 0 ∷ drop k rows) after)))
+    where
+      next : (k n : ℕ) → n ≡ k + 1 → n ≤ 3
+          → drop (j * segmentRowSize + k + 1) rows ≡ getD rows (j * segmentRowSize + n) 0 ∷ drop (j * segmentRowSize + n + 1) rows
+      next k n e small =
+          ap (λ (i : ℕ). drop i rows) (let at : j * segmentRowSize + k + 1 ≡ j * segmentRowSize + n = omega arith in at)
+          ∙ left-cons rows (j * segmentRowSize + n) 0 (omega arith)
+
+      after : j * segmentRowSize + 3 + 1 ≡ suc j * segmentRowSize
+      after = omega arith
+
+  -- what is left of the rows begins with given numbers exactly where row j has them
+  pub row-states : (kind owner first count : ℕ) (more : List ℕ)
+      → (drop (j * segmentRowSize) rows ≡ kind ∷ owner ∷ first ∷ count ∷ more)
+      ↔ (RowIs rows j kind owner first count × (drop (suc j * segmentRowSize) rows ≡ more))
+  row-states kind owner first count more = (forth, back)
+    where
+      forth : drop (j * segmentRowSize) rows ≡ kind ∷ owner ∷ first ∷ count ∷ more
+          → RowIs rows j kind owner first count × (drop (suc j * segmentRowSize) rows ≡ more)
+      forth e =
+          let one = sym row-cons ∙ e in
+          let two = tail-eq-of-cons-eq one in
+          let three = tail-eq-of-cons-eq two in
+          let four = tail-eq-of-cons-eq three in (
+            record {
+              kind-is = head-eq-of-cons-eq one;
+              owner-is = head-eq-of-cons-eq two;
+              first-is = head-eq-of-cons-eq three;
+              count-is = head-eq-of-cons-eq four;
+            },
+            tail-eq-of-cons-eq four,
+          )
+
+      back : RowIs rows j kind owner first count × (drop (suc j * segmentRowSize) rows ≡ more)
+          → drop (j * segmentRowSize) rows ≡ kind ∷ owner ∷ first ∷ count ∷ more
+      back w =
+          row-cons
+          ∙ ap₂ (λ (a : ℕ) (r : List ℕ). a ∷ r) (w .0 .kind-is)
+          (ap₂ (λ (a : ℕ) (r : List ℕ). a ∷ r) (w .0 .owner-is)
+          (ap₂ (λ (a : ℕ) (r : List ℕ). a ∷ r) (w .0 .first-is)
+          (ap₂ (λ (a : ℕ) (r : List ℕ). a ∷ r) (w .0 .count-is) (w .1))))
+
+-- what is left of the rows from row j on is what the leaves from there on state
+abbrev pub StatedFrom : (ℕ → ℕ) → List ℕ → ℕ → ℕ → List ℕ → List Leaf → Type 0
+StatedFrom lv rows j first before ls = drop (j * segmentRowSize) rows ≡ rowsStated lv first before (bySegment ls)
+
+-- one segment more: its row states it, and the rows after it the leaves after it
+pub segment-stated : (lv : ℕ → ℕ) (rows : List ℕ) (j first : ℕ) (before : List ℕ) {n : ℕ} (l : Leaf) {ls : List Leaf} (rest : List Leaf)
+    → suc j * segmentRowSize ≤ length rows → InSegment n l → All (InSegment n) ls → Ended n rest
+    → StatedFrom lv rows j first before (l ∷ (ls ++ rest))
+    ↔ (RowIs rows j (kindAmong (l ∷ ls)) (owner lv before (kindAmong (l ∷ ls))) first (length (l ∷ ls))
+    × StatedFrom lv rows (suc j) (first + length (l ∷ ls)) (kindAmong (l ∷ ls) ∷ before) rest)
+unfolding rowsStated
+segment-stated lv rows j first before l {ls} rest long i w e =
+    let whole = ap (rowsStated lv first before) (group-first l rest i w e) in
+    let step = row-states rows j long (kindAmong (l ∷ ls)) (owner lv before (kindAmong (l ∷ ls))) first (length (l ∷ ls))
+    (rowsStated lv (first + length (l ∷ ls)) (kindAmong (l ∷ ls) ∷ before) (bySegment rest)) in
+    (λ h. step .0 (h ∙ whole), λ v. step .1 v ∙ sym whole)
+
+-- no leaves are left: no rows are
+pub nothing-stated : (lv : ℕ → ℕ) (rows : List ℕ) (j first : ℕ) (before : List ℕ)
+    → StatedFrom lv rows j first before [] ↔ (drop (j * segmentRowSize) rows ≡ [])
+unfolding rowsStated bySegment
+nothing-stated lv rows j first before = (λ h. h, λ h. h)

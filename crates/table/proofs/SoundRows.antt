@@ -1,0 +1,185 @@
+-- Leaves that go on soundly, as a loop tests them row by row: the same as `soundFrom` with CR for the coarsest separator, and no byte of
+-- their texts below 32.
+-- Assumes nothing.
+use mathlib.Core.Bool.{true, false, _&&_, false≢true}
+use mathlib.Core.List.{List, [], _∷_, _++_}
+use mathlib.Core.Logic.{_↔_}
+use mathlib.Core.Path.{_≡_, refl, sym, ap, _∙_}
+use Prim.Native.Nat.{ℕ, suc}
+use native.Mathlib.Omega.{arith}
+use lib.Dec.{eqb}
+use lib.ListN.{length}
+use borrow.Author.Tests.{eqb-true, eqb-false, ne-eqb}
+use Rattle.laws.specs.Lists.{same, among}
+use Rattle.laws.specs.Every.{none, also}
+use Rattle.laws.proofs.Every.{all-append, all-left, all-right}
+use Rattle.laws.proofs.Lists.{Absent.nowhere, Absent.past, among-hit, among-miss, same-self, same-equal}
+use Rattle.laws.proofs.Tests.{Tested, passed, failed, tested, never-both, and-first, and-second, and-both, and-fails-first, and-fails-second}
+use Rattle.form.specs.declared.separators.Separators.{Separators}
+use Rattle.form.specs.Header.{different, splitting}
+use Rattle.form.proofs.HeaderRule.{AllAllowed, AllDifferent, different-more}
+use Rattle.line.specs.Lines.{CR}
+use Rattle.table.specs.Leaves.{Leaf}
+use Rattle.table.specs.Rows.{textOf}
+use Rattle.table.specs.Flat.{ones}
+use Rattle.table.specs.Sound.{Plain, plain, onward, soundAfter, soundFrom}
+use Rattle.table.specs.RowTests.{nextPlace, leafText, goOn, goOnFrom}
+use Rattle.table.proofs.LeafTexts.{AllText}
+use Rattle.table.proofs.Places.{length-ones}
+use Rattle.table.proofs.RowTests.{next-same, next-raised, onward-next, leaf-text}
+use Rattle.table.proofs.SoundTest.{plain-true, plain-holds, after-onward, after-plain, after-rest, after-holds, from-place, from-plain, from-rest}
+
+-- the next place has as many numbers
+pub next-length : (from to : List ℕ) → nextPlace from to ≡ true → length to ≡ length from
+unfolding nextPlace
+next-length [] to h = absurd (false≢true h)
+next-length (m ∷ from) [] h = absurd (false≢true h)
+next-length (m ∷ from) (n ∷ to) h = go (tested (eqb m n)) (next-length from to)
+  where
+    go : Tested (eqb m n) → (nextPlace from to ≡ true → length to ≡ length from) → suc (length to) ≡ suc (length from)
+    go (passed e) ih = ap suc (ih (sym (next-same m from n to (eqb-true m n e)) ∙ h))
+    go (failed e) ih =
+        let raised = sym (next-raised m from n to (eqb-false m n e)) ∙ h in
+        ap suc (ap length (sym (same-equal (ones from) to (and-second (eqb (suc m) n) (same (ones from) to) raised))) ∙ length-ones from)
+
+-- CR and the splitting separators differ
+pub coarsest-different : (ps : Separators) → AllAllowed ps → AllDifferent ps → different (CR ∷ splitting ps) ≡ true
+unfolding splitting different
+coarsest-different ps allowed unlike =
+    different-more
+    (past (λ (e : CR ≡ ps .field). omega (arith, allowed .field .low))
+    (past (λ (e : CR ≡ ps .repeater). omega (arith, allowed .repeater .low))
+    (past (λ (e : CR ≡ ps .subfield). omega (arith, allowed .subfield .low))
+    (past (λ (e : CR ≡ ps .subsubfield). omega (arith, allowed .subsubfield .low)) nowhere))))
+    (different-more
+    (past (unlike .field-repeater) (past (unlike .field-subfield) (past (unlike .field-subsubfield) nowhere)))
+    (different-more
+    (past (λ e. unlike .subfield-repeater (sym e)) (past (unlike .repeater-subsubfield) nowhere))
+    (different-more (past (unlike .subfield-subsubfield) nowhere)
+    (different-more nowhere refl))))
+
+-- text that is plain is plain of CR too
+pub plain-cr : (ps : List ℕ) {s : List ℕ} → AllText s → Plain ps s → Plain (CR ∷ ps) s
+plain-cr ps none none = none
+plain-cr ps (also {a = b} h w) (also k v) = also (among-miss CR ps b (ne-eqb b CR (λ (e : b ≡ CR). omega arith)) ∙ k) (plain-cr ps w v)
+
+pub cr-plain : (ps : List ℕ) {s : List ℕ} → Plain (CR ∷ ps) s → Plain ps s
+cr-plain ps none = none
+cr-plain ps (also {a = b} {s = s} k v) = also (go (tested (eqb b CR))) (cr-plain ps v)
+  where
+    go : Tested (eqb b CR) → among ps b ≡ false
+    go (passed e) = absurd (never-both (among-hit CR ps b e) k)
+    go (failed e) = sym (among-miss CR ps b e) ∙ k
+
+-- the step laws of the two tests
+module _ (ps place : List ℕ) (l : Leaf) (ls : List Leaf) where
+  pub go-next : goOn ps place (l ∷ ls) ≡ true → nextPlace place (l .place) ≡ true
+  unfolding goOn
+  go-next h =
+      and-first (nextPlace place (l .place)) (leafText ps (l .text))
+      (and-first (nextPlace place (l .place) && leafText ps (l .text)) (goOn ps (l .place) ls) h)
+
+  pub go-text : goOn ps place (l ∷ ls) ≡ true → leafText ps (l .text) ≡ true
+  unfolding goOn
+  go-text h =
+      and-second (nextPlace place (l .place)) (leafText ps (l .text))
+      (and-first (nextPlace place (l .place) && leafText ps (l .text)) (goOn ps (l .place) ls) h)
+
+  pub go-rest : goOn ps place (l ∷ ls) ≡ true → goOn ps (l .place) ls ≡ true
+  unfolding goOn
+  go-rest h = and-second (nextPlace place (l .place) && leafText ps (l .text)) (goOn ps (l .place) ls) h
+
+  pub go-more : nextPlace place (l .place) ≡ true → leafText ps (l .text) ≡ true → goOn ps (l .place) ls ≡ true → goOn ps place (l ∷ ls) ≡ true
+  unfolding goOn
+  go-more a b c = and-both (and-both a b) c
+
+  pub begin-place : goOnFrom ps place (l ∷ ls) ≡ true → l .place ≡ place
+  unfolding goOnFrom
+  begin-place h =
+      same-equal (l .place) place
+      (and-first (same (l .place) place) (leafText ps (l .text))
+      (and-first (same (l .place) place && leafText ps (l .text)) (goOn ps (l .place) ls) h))
+
+  pub begin-text : goOnFrom ps place (l ∷ ls) ≡ true → leafText ps (l .text) ≡ true
+  unfolding goOnFrom
+  begin-text h =
+      and-second (same (l .place) place) (leafText ps (l .text))
+      (and-first (same (l .place) place && leafText ps (l .text)) (goOn ps (l .place) ls) h)
+
+  pub begin-rest : goOnFrom ps place (l ∷ ls) ≡ true → goOn ps (l .place) ls ≡ true
+  unfolding goOnFrom
+  begin-rest h = and-second (same (l .place) place && leafText ps (l .text)) (goOn ps (l .place) ls) h
+
+  pub begin-more : l .place ≡ place → leafText ps (l .text) ≡ true → goOn ps (l .place) ls ≡ true → goOnFrom ps place (l ∷ ls) ≡ true
+  unfolding goOnFrom
+  begin-more a b c = and-both (and-both (ap (λ (q : List ℕ). same q place) a ∙ same-self place) b) c
+
+-- the same as the turn of a loop: one leaf more, or the leaf that breaks it
+module _ (ps place : List ℕ) (l : Leaf) (ls : List Leaf) where
+  pub go-turn : nextPlace place (l .place) ≡ true → leafText ps (l .text) ≡ true → goOn ps place (l ∷ ls) ≡ goOn ps (l .place) ls
+  unfolding goOn
+  go-turn a b = rw (a, b)
+
+  pub go-misplaced : nextPlace place (l .place) ≡ false → goOn ps place (l ∷ ls) ≡ false
+  unfolding goOn
+  go-misplaced a = rw a
+
+  pub go-no-text : leafText ps (l .text) ≡ false → goOn ps place (l ∷ ls) ≡ false
+  unfolding goOn
+  go-no-text b = and-fails-first (goOn ps (l .place) ls) (and-fails-second (nextPlace place (l .place)) b)
+
+module _ (ps : List ℕ) (unlike : different (CR ∷ ps) ≡ true) where
+  -- the text of one leaf
+  text-plain : (s : List ℕ) → leafText ps s ≡ true → plain (CR ∷ ps) s ≡ true
+  text-plain s h = let w = leaf-text ps s .0 h in plain-holds (CR ∷ ps) (plain-cr ps (w .0) (w .1))
+
+  plain-text : (s : List ℕ) → AllText s → plain (CR ∷ ps) s ≡ true → leafText ps s ≡ true
+  plain-text s w h = leaf-text ps s .1 (w, cr-plain ps (plain-true (CR ∷ ps) s h))
+
+  -- leaves after one
+  pub go-sound : (place : List ℕ) (ls : List Leaf) → length place ≡ suc (length ps)
+      → (goOn ps place ls ≡ true) ↔ ((soundAfter (CR ∷ ps) place ls ≡ true) × AllText (textOf ls))
+  unfolding goOn soundAfter textOf
+  go-sound place [] fits = (λ h. (refl, none), λ w. refl)
+  go-sound place (l ∷ ls) fits = (forth (λ e. go-sound (l .place) ls e .0), λ w. back (λ e. go-sound (l .place) ls e .1) (w .0) (w .1))
+    where
+      same-test : onward (CR ∷ ps) place (l .place) ≡ nextPlace place (l .place)
+      same-test = onward-next (CR ∷ ps) place (l .place) unlike fits
+
+      forth : (length (l .place) ≡ suc (length ps) → goOn ps (l .place) ls ≡ true → (soundAfter (CR ∷ ps) (l .place) ls ≡ true) × AllText (textOf ls))
+          → goOn ps place (l ∷ ls) ≡ true → (soundAfter (CR ∷ ps) place (l ∷ ls) ≡ true) × AllText (l .text ++ textOf ls)
+      forth ih h =
+          let rest = ih (next-length place (l .place) (go-next ps place l ls h) ∙ fits) (go-rest ps place l ls h) in (
+            after-holds (CR ∷ ps) place l ls (same-test ∙ go-next ps place l ls h) (text-plain (l .text) (go-text ps place l ls h)) (rest .0),
+            all-append (leaf-text ps (l .text) .0 (go-text ps place l ls h) .0) (rest .1),
+          )
+
+      back : (length (l .place) ≡ suc (length ps) → (soundAfter (CR ∷ ps) (l .place) ls ≡ true) × AllText (textOf ls) → goOn ps (l .place) ls ≡ true)
+          → soundAfter (CR ∷ ps) place (l ∷ ls) ≡ true → AllText (l .text ++ textOf ls) → goOn ps place (l ∷ ls) ≡ true
+      back ih h w =
+          let next = sym same-test ∙ after-onward (CR ∷ ps) place l ls h in
+          go-more ps place l ls next
+          (plain-text (l .text) (all-left (l .text) (textOf ls) w) (after-plain (CR ∷ ps) place l ls h))
+          (ih (next-length place (l .place) next ∙ fits) (after-rest (CR ∷ ps) place l ls h, all-right (l .text) (textOf ls) w))
+
+  -- leaves from a place on
+  pub begin-sound : (place : List ℕ) (ls : List Leaf) → length place ≡ suc (length ps)
+      → (goOnFrom ps place ls ≡ true) ↔ ((soundFrom (CR ∷ ps) place ls ≡ true) × AllText (textOf ls))
+  unfolding goOnFrom soundFrom textOf
+  begin-sound place [] fits = (λ h. absurd (false≢true h), λ w. absurd (false≢true (w .0)))
+  begin-sound place (l ∷ ls) fits = (forth, λ w. back (w .0) (w .1))
+    where
+      forth : goOnFrom ps place (l ∷ ls) ≡ true → (soundFrom (CR ∷ ps) place (l ∷ ls) ≡ true) × AllText (l .text ++ textOf ls)
+      forth h =
+          let at = begin-place ps place l ls h in
+          let rest = go-sound (l .place) ls (ap length at ∙ fits) .0 (begin-rest ps place l ls h) in (
+            and-both (and-both (ap (λ (q : List ℕ). same q place) at ∙ same-self place) (text-plain (l .text) (begin-text ps place l ls h))) (rest .0),
+            all-append (leaf-text ps (l .text) .0 (begin-text ps place l ls h) .0) (rest .1),
+          )
+
+      back : soundFrom (CR ∷ ps) place (l ∷ ls) ≡ true → AllText (l .text ++ textOf ls) → goOnFrom ps place (l ∷ ls) ≡ true
+      back h w =
+          let at = from-place (CR ∷ ps) place l ls h in
+          begin-more ps place l ls at
+          (plain-text (l .text) (all-left (l .text) (textOf ls) w) (from-plain (CR ∷ ps) place l ls h))
+          (go-sound (l .place) ls (ap length at ∙ fits) .1 (from-rest (CR ∷ ps) place l ls h, all-right (l .text) (textOf ls) w))
