@@ -11,3 +11,5 @@ pub mod Sums
 pub mod Tables
 pub mod Stores
 pub mod Bytes
+pub mod Searching
+pub mod Comparing

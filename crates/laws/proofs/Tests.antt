@@ -41,5 +41,10 @@ pub and-fails-second : (s : Bool) {t : Bool} → t ≡ false → (s && t) ≡ fa
 and-fails-second true h = h
 and-fails-second false h = refl
 
+-- what is asked second counts only where the first holds
+pub and-where : (s t u : Bool) → (s ≡ true → t ≡ u) → (s && t) ≡ (s && u)
+and-where true t u h = h refl
+and-where false t u h = refl
+
 pub not-holds : (t : Bool) → t ≡ false → not t ≡ true
 not-holds t h = rw h

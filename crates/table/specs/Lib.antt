@@ -9,3 +9,4 @@ pub mod Sound
 pub mod Examples
 pub mod BySegment
 pub mod RowTests
+pub mod Lent

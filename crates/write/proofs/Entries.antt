@@ -10,7 +10,7 @@ use Rattle.form.specs.Numbers.{shortOutput, noTable}
 use Rattle.table.specs.declared.Card.{Card}
 use Rattle.table.specs.Rows.{Table, segmentRowSize, leafRowSize}
 use Rattle.table.specs.Back.{linesOf, written}
-use Rattle.write.specs.Lent.{Lent, withinLimits, withinBuffers, counted}
+use Rattle.table.specs.Lent.{Lent, withinLimits, withinBuffers, counted}
 use Rattle.write.proofs.SameTables.{same-parts}
 use Rattle.write.specs.Writing.{Writing, refuses, writes, readsBack, isTable, writing}
 

@@ -28,7 +28,7 @@ use Rattle.table.proofs.BySegment.{concat-bySegment}
 use Rattle.table.proofs.Filing.{segmentsOfAccepted, accepted-header, accepted-worded}
 use Rattle.table.proofs.HeaderBytes.{header-text}
 use Rattle.table.proofs.SegmentBytes.{texts-written}
-use Rattle.write.specs.Lent.{Lent, withinLimits, withinBuffers, counted}
+use Rattle.table.specs.Lent.{Lent, withinLimits, withinBuffers, counted}
 use Rattle.write.specs.Local.{groupsOf, Local}
 use Rattle.write.specs.RowByRow.{Sized, RowByRow}
 use Rattle.write.specs.Writing.{stated, ReadTo, readsBack, isTable, refuses, writes, writing}

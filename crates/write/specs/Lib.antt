@@ -1,4 +1,3 @@
-pub mod Lent
 pub mod Writing
 pub mod Local
 pub mod RowByRow

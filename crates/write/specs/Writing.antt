@@ -13,7 +13,7 @@ use Rattle.table.specs.declared.Card.{Card}
 use Rattle.table.specs.Rows.{Table, segmentRowSize, leafRowSize}
 use Rattle.table.specs.Reading.{Room, Outcome, refused, accepted, reading}
 use Rattle.table.specs.Back.{linesOf, written}
-use Rattle.write.specs.Lent.{Lent, withinLimits, withinBuffers, counted}
+use Rattle.table.specs.Lent.{Lent, withinLimits, withinBuffers, counted}
 
 -- buffers of the stated sizes
 unfoldable pub stated : Limits → Room

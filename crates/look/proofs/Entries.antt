@@ -1,0 +1,220 @@
+-- "Entries of a buffer past the counted ones are neither read nor written" (document 01): what they hold changes no answer of a lookup.
+-- Each answer is one of the counted entries and of the buffers' lengths alone.
+-- Assumes nothing.
+use mathlib.Core.Bool.{Bool, true, false, _&&_}
+use mathlib.Core.List.{List}
+use mathlib.Core.Path.{_≡_, refl, sym, ap, ap₂, _∙_, subst⁻¹}
+use Prim.Native.Nat.{ℕ, suc, _+_, _-_, _*_, _<_, _≤_}
+use native.Mathlib.Omega.{arith}
+use borrow.Author.Tests.{leb-true}
+use lib.Dec.{leb, eqb}
+use lib.ListN.{length, getD, take, drop}
+use lib.Seq.{getD-take}
+use Rattle.laws.specs.Lists.{same}
+use Rattle.laws.proofs.Parts.{part-taken}
+use Rattle.laws.proofs.Searching.{firstOf-same}
+use Rattle.laws.proofs.Tests.{Tested, passed, failed, tested, and-first, and-second, and-where}
+use Rattle.table.specs.declared.Card.{Card}
+use Rattle.table.specs.Lent.{Lent, withinBuffers, counted}
+use Rattle.table.specs.Rows.{Table, segmentRowSize, leafRowSize}
+use Rattle.look.specs.declared.leaf.Sought.{Sought}
+use Rattle.look.specs.declared.leaf.Sought.the-variants.{At, Nothing}
+use Rattle.look.specs.declared.leaf.Place.{Place}
+use Rattle.look.specs.Looking.{
+  numbersOf,
+  startAt,
+  lengthAt,
+  fits,
+  soughtFrom,
+  soughtIn,
+  partOf,
+  lookedUp,
+  hasKindAndOwner,
+  rowFrom,
+  rowAfter,
+  isOrder,
+  orderPlace,
+  sameTexts,
+  sameOrder,
+}
+use Rattle.look.specs.Ordering.{orderText}
+use Rattle.look.proofs.Counts.{leaves-within}
+use Rattle.look.proofs.Seeking.{foundAt, sought-first, Within, sought-counted, sought-uncounted, sought-in-card}
+use Rattle.look.proofs.RowSearch.{row-first}
+use Rattle.look.proofs.Orders.{order-text, no-order, same-order-texts}
+
+-- two lent tables with one card, buffers of the same lengths, and the same counted entries
+pub record SameCounted (t u : Lent) : Type 0 where
+  pub segmentRows : length (t .segmentRows) ≡ length (u .segmentRows)
+  pub leafRows : length (t .leafRows) ≡ length (u .leafRows)
+  pub text : length (t .text) ≡ length (u .text)
+  pub entries : counted t ≡ counted u
+
+-- the counts against the buffers
+
+within : Table → ℕ → ℕ → ℕ → Bool
+within T segments leaves text =
+    leb (T .card .segments * segmentRowSize) segments && leb (T .card .leaves * leafRowSize) leaves && leb (T .card .text) text
+
+same-within : (t u : Lent) → SameCounted t u → withinBuffers t ≡ withinBuffers u
+unfolding withinBuffers within counted
+same-within t u w =
+    let segments = w .segmentRows in
+    let leaves = w .leafRows in
+    let text = w .text in
+    let entries = w .entries in
+    let e
+    : within (counted t) (length (t .segmentRows)) (length (t .leafRows)) (length (t .text))
+    ≡ within (counted u) (length (u .segmentRows)) (length (u .leafRows)) (length (u .text)) = cc in
+    e
+
+-- the search for a leaf, in the counted rows
+
+module _ (rows : List ℕ) (bytes : ℕ) (p : Place) (m : ℕ) where
+  fits-taken : (k : ℕ) → k < m → fits (take (m * leafRowSize) rows) bytes p k ≡ fits rows bytes p k
+  unfolding fits startAt lengthAt
+  fits-taken k h =
+      rw (
+        part-taken rows (k * leafRowSize) 5 (m * leafRowSize) (omega arith),
+        getD-take (m * leafRowSize) rows (k * leafRowSize + 5) 0 (omega arith),
+        getD-take (m * leafRowSize) rows (k * leafRowSize + 6) 0 (omega arith),
+      )
+
+  found-taken : (k : ℕ) → k < m → foundAt (take (m * leafRowSize) rows) k ≡ foundAt rows k
+  unfolding startAt lengthAt
+  found-taken k h =
+      rw (
+        getD-take (m * leafRowSize) rows (k * leafRowSize + 5) 0 (omega arith),
+        getD-take (m * leafRowSize) rows (k * leafRowSize + 6) 0 (omega arith),
+      )
+
+  sought-taken : soughtFrom rows bytes p 0 m ≡ soughtFrom (take (m * leafRowSize) rows) bytes p 0 m
+  sought-taken =
+      sym (sought-first (take (m * leafRowSize) rows) bytes p 0 m
+      ∙ firstOf-same (fits (take (m * leafRowSize) rows) bytes p) (fits rows bytes p) (foundAt (take (m * leafRowSize) rows)) (foundAt rows) Nothing 0 m
+      (λ k g h. fits-taken k (omega arith)) (λ k g h. found-taken k (omega arith))
+      ∙ sym (sought-first rows bytes p 0 m))
+
+searched : Table → Place → Bool → Sought
+searched T p b = elim b [ true ↦ soughtFrom (T .leafRows) (T .card .text) p 0 (T .card .leaves) | false ↦ Nothing ]
+
+sought-by-entries : (t : Lent) (p : Place) → soughtIn t p ≡ searched (counted t) p (withinBuffers t)
+unfolding searched counted
+sought-by-entries t p = go (tested (withinBuffers t))
+  where
+    go : Tested (withinBuffers t) → soughtIn t p ≡ searched (counted t) p (withinBuffers t)
+    go (passed e) = sought-counted t p e ∙ sought-taken (t .leafRows) (t .card .text) p (t .card .leaves) ∙ sym (rw (e, searched))
+    go (failed e) = sought-uncounted t p e ∙ sym (rw (e, searched))
+
+-- the search for a row, in the counted rows
+
+module _ (rows : List ℕ) (count after kind owner : ℕ) where
+  has-taken : (k : ℕ) → k < count → hasKindAndOwner (take (count * segmentRowSize) rows) kind owner k ≡ hasKindAndOwner rows kind owner k
+  unfolding hasKindAndOwner
+  has-taken k h =
+      rw (
+        getD-take (count * segmentRowSize) rows (k * segmentRowSize) 0 (omega arith),
+        getD-take (count * segmentRowSize) rows (k * segmentRowSize + 1) 0 (omega arith),
+      )
+
+  row-taken : rowFrom rows kind owner after (count - after) ≡ rowFrom (take (count * segmentRowSize) rows) kind owner after (count - after)
+  row-taken =
+      sym (row-first (take (count * segmentRowSize) rows) kind owner after (count - after)
+      ∙ firstOf-same (hasKindAndOwner (take (count * segmentRowSize) rows) kind owner) (hasKindAndOwner rows kind owner) suc suc 0 after (count - after)
+      (λ k g h. has-taken k (omega arith)) (λ k g h. refl)
+      ∙ sym (row-first rows kind owner after (count - after)))
+
+rowIn : Table → ℕ → ℕ → ℕ → ℕ → ℕ
+rowIn T long after kind owner =
+    elim (leb (T .card .segments * segmentRowSize) long) [ true ↦ rowFrom (T .segmentRows) kind owner after (T .card .segments - after) | false ↦ 0 ]
+
+row-by-entries : (t : Lent) (after kind owner : ℕ)
+    → rowAfter (t .segmentRows) (t .card .segments) after kind owner ≡ rowIn (counted t) (length (t .segmentRows)) after kind owner
+unfolding rowAfter rowIn counted
+row-by-entries t after kind owner =
+    ap (λ (r : ℕ). elim (leb (t .card .segments * segmentRowSize) (length (t .segmentRows))) [ true ↦ r | false ↦ 0 ])
+    (row-taken (t .segmentRows) (t .card .segments) after kind owner)
+
+-- whether a row is an order
+
+orderIn : Table → ℕ → ℕ → Bool
+orderIn T long row =
+    leb (T .card .segments * segmentRowSize) long
+    && leb 1 row
+    && leb row (T .card .segments)
+    && eqb (getD (T .segmentRows) ((row - 1) * segmentRowSize) 0) 5
+
+order-by-entries : (t : Lent) (row : ℕ) → isOrder t row ≡ orderIn (counted t) (length (t .segmentRows)) row
+unfolding isOrder orderIn counted
+order-by-entries t row =
+    let fits : Bool = leb (t .card .segments * segmentRowSize) (length (t .segmentRows)) in
+    and-where (fits && leb 1 row && leb row (t .card .segments)) (eqb (getD (t .segmentRows) ((row - 1) * segmentRowSize) 0) 5)
+    (eqb (getD (take (t .card .segments * segmentRowSize) (t .segmentRows)) ((row - 1) * segmentRowSize) 0) 5)
+    (λ e.
+    let most = leb-true row (t .card .segments) (and-second (fits && leb 1 row) (leb row (t .card .segments)) e) in
+    let least = leb-true 1 row (and-second fits (leb 1 row) (and-first (fits && leb 1 row) (leb row (t .card .segments)) e)) in
+    rw (getD-take (t .card .segments * segmentRowSize) (t .segmentRows) ((row - 1) * segmentRowSize) 0 (omega arith)))
+
+-- the parts of the text, in the counted bytes
+
+partIn : Table → List ℕ → Sought → List ℕ
+partIn T substitute (At start n) = take n (drop start (T .text))
+partIn T substitute Nothing = substitute
+
+part-by-entries : (t : Lent) (substitute : List ℕ) (s : Sought) → Within (t .card .text) s
+    → partOf t substitute s ≡ partIn (counted t) substitute s
+unfolding partOf partIn counted
+part-by-entries t substitute (At start n) h = sym (part-taken (t .text) start n (t .card .text) h)
+part-by-entries t substitute Nothing h = refl
+
+texts-by-entries : (t u : Lent) (s r : Sought) → Within (t .card .text) s → Within (u .card .text) r
+    → sameTexts (t .text) s (u .text) r ≡ sameTexts (counted t .text) s (counted u .text) r
+unfolding sameTexts counted
+texts-by-entries t u (At a n) (At b m) h k =
+    sym (ap₂ (λ (x y : List ℕ). same x y) (part-taken (t .text) a n (t .card .text) h) (part-taken (u .text) b m (u .card .text) k))
+texts-by-entries t u (At a n) Nothing h k = refl
+texts-by-entries t u Nothing r h k = refl
+
+order-in-card : (t : Lent) (row : ℕ) → Within (t .card .text) (orderText t row)
+order-in-card t row = go (tested (isOrder t row))
+  where
+    go : Tested (isOrder t row) → Within (t .card .text) (orderText t row)
+    go (passed e) = subst⁻¹ (Within (t .card .text)) (order-text t row e) (sought-in-card t (orderPlace row))
+    go (failed e) = subst⁻¹ (Within (t .card .text)) (no-order t row e) tt
+
+-- the answers
+
+module _ (t u : Lent) (w : SameCounted t u) where
+  pub uncounted-leaf : (p : Place) → soughtIn t p ≡ soughtIn u p
+  uncounted-leaf p =
+      sought-by-entries t p ∙ ap₂ (λ (T : Table) (b : Bool). searched T p b) (w .entries) (same-within t u w) ∙ sym (sought-by-entries u p)
+
+  pub uncounted-row : (after kind owner : ℕ)
+      → rowAfter (t .segmentRows) (t .card .segments) after kind owner ≡ rowAfter (u .segmentRows) (u .card .segments) after kind owner
+  uncounted-row after kind owner =
+      row-by-entries t after kind owner ∙ ap₂ (λ (T : Table) (n : ℕ). rowIn T n after kind owner) (w .entries) (w .segmentRows)
+      ∙ sym (row-by-entries u after kind owner)
+
+  pub uncounted-text : (p : Place) (substitute : List ℕ) → lookedUp t p substitute ≡ lookedUp u p substitute
+  unfolding lookedUp
+  uncounted-text p substitute =
+      part-by-entries t substitute (soughtIn t p) (sought-in-card t p)
+      ∙ ap₂ (λ (T : Table) (s : Sought). partIn T substitute s) (w .entries) (uncounted-leaf p)
+      ∙ sym (part-by-entries u substitute (soughtIn u p) (sought-in-card u p))
+
+  uncounted-order : (row : ℕ) → isOrder t row ≡ isOrder u row
+  uncounted-order row =
+      order-by-entries t row ∙ ap₂ (λ (T : Table) (n : ℕ). orderIn T n row) (w .entries) (w .segmentRows) ∙ sym (order-by-entries u row)
+
+  uncounted-order-text : (row : ℕ) → orderText t row ≡ orderText u row
+  unfolding orderText
+  uncounted-order-text row =
+      ap₂ (λ (b : Bool) (s : Sought). elim b [ true ↦ s | false ↦ Nothing ]) (uncounted-order row) (uncounted-leaf (orderPlace row))
+
+-- of both tables
+pub uncounted-same-order : (t t′ u u′ : Lent) → SameCounted t t′ → SameCounted u u′ → (row other : ℕ) → sameOrder t row u other ≡ sameOrder t′ row u′ other
+uncounted-same-order t t′ u u′ w v row other =
+    same-order-texts t row u other ∙ texts-by-entries t u (orderText t row) (orderText u other) (order-in-card t row) (order-in-card u other)
+    ∙ ap₂ (λ (s r : Sought). sameTexts (counted t .text) s (counted u .text) r) (uncounted-order-text t t′ w row) (uncounted-order-text u u′ v other)
+    ∙ ap₂ (λ (T U : Table). sameTexts (T .text) (orderText t′ row) (U .text) (orderText u′ other)) (w .entries) (v .entries)
+    ∙ sym (same-order-texts t′ row u′ other ∙ texts-by-entries t′ u′ (orderText t′ row) (orderText u′ other) (order-in-card t′ row) (order-in-card u′ other))

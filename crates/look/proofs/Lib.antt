@@ -1,0 +1,7 @@
+pub mod Counts
+pub mod Seeking
+pub mod TextParts
+pub mod RowSearch
+pub mod Orders
+pub mod Entries
+pub mod ShutOut

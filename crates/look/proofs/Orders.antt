@@ -1,0 +1,103 @@
+-- The same-order test: what makes a row an order, and that it compares where the text of leaf 9.4.2 of each order lies.
+-- Assumes nothing.
+use mathlib.Core.Bool.{Bool, true, false, _&&_}
+use mathlib.Core.List.{List, []}
+use mathlib.Core.Path.{_≡_, refl, sym, ap, ap₂, _∙_}
+use Prim.Native.Nat.{ℕ, _+_, _-_, _*_, _<_, _≤_}
+use native.Mathlib.Omega.{arith}
+use borrow.Author.Tests.{le-leb, lt-leb}
+use lib.Dec.{leb, eqb}
+use lib.ListN.{length, getD, take, drop}
+use Rattle.laws.specs.Lists.{same}
+use Rattle.laws.proofs.Tests.{Tested, passed, failed, tested}
+use Rattle.table.specs.declared.Card.{Card}
+use Rattle.table.specs.Lent.{Lent}
+use Rattle.table.specs.Rows.{segmentRowSize}
+use Rattle.look.specs.declared.leaf.Sought.{Sought}
+use Rattle.look.specs.declared.leaf.Sought.the-variants.{At, Nothing}
+use Rattle.look.specs.Lending.{lent}
+use Rattle.look.specs.Looking.{soughtIn, isOrder, orderPlace, sameTexts, sameOrder}
+use Rattle.look.specs.Ordering.{orderText}
+use Rattle.look.proofs.Seeking.{found-within}
+use Rattle.look.proofs.TextParts.{part-long}
+
+-- whether a row is an order
+
+module _ (card : Card) (segments leaves text : List ℕ) (row : ℕ) where
+  pub count-past : length segments < card .segments * segmentRowSize → false ≡ isOrder (lent card segments leaves text) row
+  unfolding isOrder
+  count-past h = rw (lt-leb (card .segments * segmentRowSize) (length segments) h)
+
+  module _ (within : card .segments * segmentRowSize ≤ length segments) where
+    pub row-zero : row < 1 → false ≡ isOrder (lent card segments leaves text) row
+    unfolding isOrder
+    row-zero h = rw (le-leb (card .segments * segmentRowSize) (length segments) within, lt-leb 1 row h)
+
+    module _ (some : 1 ≤ row) where
+      pub row-past : card .segments < row → false ≡ isOrder (lent card segments leaves text) row
+      unfolding isOrder
+      row-past h = rw (le-leb (card .segments * segmentRowSize) (length segments) within, le-leb 1 row some, lt-leb row (card .segments) h)
+
+      pub kind-decides : row ≤ card .segments
+          → eqb (getD segments ((row - 1) * segmentRowSize) 0) 5 ≡ isOrder (lent card segments leaves text) row
+      unfolding isOrder
+      kind-decides h = rw (le-leb (card .segments * segmentRowSize) (length segments) within, le-leb 1 row some, le-leb row (card .segments) h)
+
+-- only the card and the segment rows are asked
+pub order-by-segments : (card : Card) (segments leaves text : List ℕ) (row : ℕ)
+    → isOrder (lent card segments [] []) row ≡ isOrder (lent card segments leaves text) row
+unfolding isOrder
+order-by-segments card segments leaves text row = refl
+
+-- where the text of an order lies
+
+module _ (t : Lent) (row : ℕ) where
+  pub order-text : isOrder t row ≡ true → orderText t row ≡ soughtIn t (orderPlace row)
+  unfolding orderText
+  order-text e = rw (e, orderText)
+
+  pub no-order : isOrder t row ≡ false → orderText t row ≡ Nothing
+  unfolding orderText
+  no-order e = rw (e, orderText)
+
+  pub order-within : (start n : ℕ) → orderText t row ≡ At start n → start + n ≤ length (t .text)
+  order-within start n found = go (tested (isOrder t row))
+    where
+      go : Tested (isOrder t row) → start + n ≤ length (t .text)
+      go (passed e) = found-within t (orderPlace row) start n (sym (order-text e) ∙ found)
+      go (failed e) = let z : _≡_ {A = ℕ} 0 1 = cc (no-order e) in let n : ⊥ = omega arith in absurd n
+
+-- the test, by where the two texts lie
+
+nothing-same : (text : List ℕ) (s : Sought) (other : List ℕ) → sameTexts text s other Nothing ≡ false
+unfolding sameTexts
+nothing-same text (At start n) other = refl
+nothing-same text Nothing other = refl
+
+module _ (t : Lent) (row : ℕ) (u : Lent) (other : ℕ) where
+  pub same-order-texts : sameOrder t row u other ≡ sameTexts (t .text) (orderText t row) (u .text) (orderText u other)
+  unfolding sameOrder sameTexts
+  same-order-texts = go (tested (isOrder t row)) (tested (isOrder u other))
+    where
+      go : Tested (isOrder t row) → Tested (isOrder u other)
+          → sameOrder t row u other ≡ sameTexts (t .text) (orderText t row) (u .text) (orderText u other)
+      go (passed e) (passed f) = rw (order-text t row e, order-text u other f, e, f)
+      go (passed e) (failed f) = rw (order-text t row e, no-order u other f, e, f) (sym (nothing-same (t .text) (soughtIn t (orderPlace row)) (u .text)))
+      go (failed e) f = rw (no-order t row e, e)
+
+  -- the answer where both are there, and where one is not
+  pub both-there : (a n b m : ℕ) → orderText t row ≡ At a n → orderText u other ≡ At b m
+      → same (take (a + n - a) (drop a (t .text))) (take (b + m - b) (drop b (u .text))) ≡ sameOrder t row u other
+  unfolding sameTexts
+  both-there a n b m e f =
+      ap₂ (λ (x y : List ℕ). same x y) (part-long (t .text) a n) (part-long (u .text) b m)
+      ∙ sym (same-order-texts ∙ ap₂ (λ (x y : Sought). sameTexts (t .text) x (u .text) y) e f)
+
+  pub first-not-there : orderText t row ≡ Nothing → false ≡ sameOrder t row u other
+  unfolding sameTexts
+  first-not-there e = sym (same-order-texts ∙ ap (λ (x : Sought). sameTexts (t .text) x (u .text) (orderText u other)) e)
+
+  pub second-not-there : orderText u other ≡ Nothing → false ≡ sameOrder t row u other
+  second-not-there e =
+      sym (same-order-texts ∙ ap (λ (y : Sought). sameTexts (t .text) (orderText t row) (u .text) y) e
+      ∙ nothing-same (t .text) (orderText t row) (u .text))

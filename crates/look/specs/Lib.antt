@@ -1,0 +1,3 @@
+pub mod Lending
+pub mod Looking
+pub mod Ordering

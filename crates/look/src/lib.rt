@@ -1,0 +1,7 @@
+// Looking things up in a table: a leaf by its place, a row by kind and owner, and whether two rows are the same order. Every card and
+// every buffer gets its answer, however inconsistent they are; entries past the counted ones are never read.
+
+pub mod leaf;
+pub mod order;
+pub mod row;
+pub mod size;

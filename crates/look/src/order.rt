@@ -1,0 +1,105 @@
+// The same-order test.
+use crate::leaf;
+use crate::leaf::Place;
+use crate::leaf::Sought;
+use crate::size;
+use form::kind::Kind;
+use table::Card;
+ghost use mathlib.Core.Path.{_≡_};
+ghost use mathlib.Core.List.{[]};
+ghost use Rattle.laws.specs.Lists.{same};
+ghost use Rattle.look.specs.Lending.{lent};
+ghost use Rattle.look.specs.Looking.{isOrder, sameOrder};
+ghost use Rattle.look.specs.Ordering.{orderText};
+
+// Whether a row of one table and a row of another are the same order: both are OBR, leaf 9.4.2 is there in both, and the two
+// texts have the same bytes. Row 0 and a row past the count are no orders.
+pub fn same_order(
+    card: Card,
+    segments: &[u16],
+    leaves: &[u16],
+    text: &[u8],
+    row: u16,
+    other_card: Card,
+    other_segments: &[u16],
+    other_leaves: &[u16],
+    other_text: &[u8],
+    other_row: u16,
+) -> bool
+    ensures { λ r.
+        ⌜ r
+        ≡ sameOrder (lent card (now (segments .entry)) (now (leaves .entry)) (now (text .entry))) row
+        (lent «other_card» (now («other_segments» .entry)) (now («other_leaves» .entry)) (now («other_text» .entry))) «other_row» ⌝ }
+{
+    match order_text(card, segments, leaves, text, row) {
+        Sought::At(start, length) => {
+            let order = order_text(
+                other_card,
+                other_segments,
+                other_leaves,
+                other_text,
+                other_row,
+            );
+            match order {
+                Sought::At(other_start, other_length) => {
+                    let end = start + length;
+                    let other_end = other_start + other_length;
+                    same_bytes(&text[start..end], &other_text[other_start..other_end])
+                }
+                Sought::Nothing => false,
+            }
+        }
+        Sought::Nothing => false,
+    }
+}
+
+// Where the text of leaf 9.4.2 of an order lies; a row that is no OBR has none.
+fn order_text(card: Card, segments: &[u16], leaves: &[u16], text: &[u8], row: u16) -> Sought
+    ensures { λ r. ⌜ r ≡ orderText (lent card (now (segments .entry)) (now (leaves .entry)) (now (text .entry))) row ⌝ }
+{
+    if is_order(card, segments, row) {
+        let place = Place {
+            segment: row,
+            field: 4,
+            repetition: 1,
+            subfield: 2,
+            subsubfield: 1,
+        };
+        return leaf::find_leaf(card, segments, leaves, text, place);
+    }
+    Sought::Nothing
+}
+
+// Whether a row is one of the counted rows and an OBR.
+fn is_order(card: Card, segments: &[u16], row: u16) -> bool
+    ensures { λ r. ⌜ r ≡ isOrder (lent card (now (segments .entry)) [] []) row ⌝ }
+{
+    if segments.len() / size::SEGMENT_ROW < card.segments {
+        return false;
+    }
+    let number = row as usize;
+    if number < 1 {
+        return false;
+    }
+    if card.segments < number {
+        return false;
+    }
+    segments[(number - 1) * size::SEGMENT_ROW] == Kind::OBR as u16
+}
+
+// Whether two texts have the same bytes.
+fn same_bytes(text: &[u8], other: &[u8]) -> bool
+    ensures { λ r. ⌜ r ≡ same (now (text .entry)) (now (other .entry)) ⌝ }
+{
+    if text.len() != other.len() {
+        return false;
+    }
+    let mut at = 0;
+    while at < text.len() {
+        if text[at] != other[at] {
+            return false;
+        }
+        at += 1;
+    }
+    true
+}
