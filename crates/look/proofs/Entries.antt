@@ -4,7 +4,7 @@
 use mathlib.Core.Bool.{Bool, true, false, _&&_}
 use mathlib.Core.List.{List}
 use mathlib.Core.Path.{_≡_, refl, sym, ap, ap₂, _∙_, subst⁻¹}
-use Prim.Native.Nat.{ℕ, suc, _+_, _-_, _*_, _<_, _≤_}
+use Prim.Native.Nat.{ℕ, suc, _+_, _-_, _*_, _<_}
 use native.Mathlib.Omega.{arith}
 use borrow.Author.Tests.{leb-true}
 use lib.Dec.{leb, eqb}
@@ -20,25 +20,8 @@ use Rattle.table.specs.Rows.{Table, segmentRowSize, leafRowSize}
 use Rattle.look.specs.declared.leaf.Sought.{Sought}
 use Rattle.look.specs.declared.leaf.Sought.the-variants.{At, Nothing}
 use Rattle.look.specs.declared.leaf.Place.{Place}
-use Rattle.look.specs.Looking.{
-  numbersOf,
-  startAt,
-  lengthAt,
-  fits,
-  soughtFrom,
-  soughtIn,
-  partOf,
-  lookedUp,
-  hasKindAndOwner,
-  rowFrom,
-  rowAfter,
-  isOrder,
-  orderPlace,
-  sameTexts,
-  sameOrder,
-}
+use Rattle.look.specs.Looking.{startAt, lengthAt, fits, soughtFrom, soughtIn, partOf, lookedUp, hasKindAndOwner, rowFrom, rowAfter, isOrder, orderPlace, sameTexts, sameOrder}
 use Rattle.look.specs.Ordering.{orderText}
-use Rattle.look.proofs.Counts.{leaves-within}
 use Rattle.look.proofs.Seeking.{foundAt, sought-first, Within, sought-counted, sought-uncounted, sought-in-card}
 use Rattle.look.proofs.RowSearch.{row-first}
 use Rattle.look.proofs.Orders.{order-text, no-order, same-order-texts}

@@ -1,6 +1,6 @@
 -- The search for a leaf: what one row says, the turns of the loop over the rows, and that what is found lies within the text.
 -- Assumes nothing.
-use mathlib.Core.Bool.{Bool, true, false, _&&_, and-true, and-assoc}
+use mathlib.Core.Bool.{Bool, true, false, _&&_, and-true}
 use mathlib.Core.List.{List, [], _∷_}
 use mathlib.Core.Path.{_≡_, refl, sym, ap, ap₂, _∙_, subst, subst⁻¹}
 use Prim.Native.Nat.{ℕ, zero, suc, _+_, _*_, _-_, _<_, _≤_}
@@ -14,7 +14,7 @@ use Rattle.laws.proofs.Parts.{left-cons}
 use Rattle.laws.proofs.Searching.{firstOf, firstOf-holds, Searching, search-begins, search-hit, search-miss, search-done}
 use Rattle.laws.proofs.Tests.{Tested, passed, failed, tested, and-second, and-both, and-fails-first, and-fails-second}
 use Rattle.table.specs.Lent.{Lent, withinBuffers}
-use Rattle.table.specs.Rows.{segmentRowSize, leafRowSize}
+use Rattle.table.specs.Rows.{leafRowSize}
 use Rattle.look.specs.declared.leaf.Sought.{Sought}
 use Rattle.look.specs.declared.leaf.Sought.the-variants.{At, Nothing}
 use Rattle.look.specs.declared.leaf.Place.{Place}

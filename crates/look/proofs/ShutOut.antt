@@ -1,10 +1,10 @@
 -- What the contracts rule out, each on a small table: a lookup that returns the last match, or trusts a row past the text, or scans the
 -- whole buffer; a finder that begins at the given row itself; same order on different bytes.
 -- Assumes nothing.
-use mathlib.Core.Bool.{Bool, true, false, true≢false, false≢true}
+use mathlib.Core.Bool.{Bool, true, false, true≢false}
 use mathlib.Core.List.{List, [], _∷_}
-use mathlib.Core.Path.{_≡_, refl, sym, _∙_}
-use Prim.Native.Nat.{ℕ, _+_, _*_}
+use mathlib.Core.Path.{_≡_, sym, _∙_}
+use Prim.Native.Nat.{ℕ}
 use native.Mathlib.Omega.{arith}
 use Rattle.laws.specs.Lists.{same}
 use Rattle.table.specs.declared.Card.{Card}

@@ -17,7 +17,9 @@ first-leaf-requires c κs =
     let at-args = c .before .before .before .before .before .args in
     let at-within-buffers = c .before .within-buffers in
     let at-if1 = c .if1 in
-    leaves-within (lent (at-args .card) (now (at-args .segments)) (now (at-args .leaves)) (now (at-args .text))) (sym (at-within-buffers .ensures) ∙ at-if1 .taken)
+    let t = lent (at-args .card) (now (at-args .segments)) (now (at-args .leaves)) (now (at-args .text)) in
+    let within = sym (at-within-buffers .ensures) ∙ at-if1 .taken in
+    leaves-within t within
 
 returns : tie.Need-returns
 returns c =
@@ -25,14 +27,18 @@ returns c =
     let at-args = c .before .before .before .before .before .before .args in
     let at-within-buffers = c .before .before .within-buffers in
     let at-if1 = c .before .if1 in
-    at-first-leaf .ensures ∙ sym (sought-counted (lent (at-args .card) (now (at-args .segments)) (now (at-args .leaves)) (now (at-args .text))) (at-args .place) (sym (at-within-buffers .ensures) ∙ at-if1 .taken))
+    let t = lent (at-args .card) (now (at-args .segments)) (now (at-args .leaves)) (now (at-args .text)) in
+    let within = sym (at-within-buffers .ensures) ∙ at-if1 .taken in
+    at-first-leaf .ensures ∙ sym (sought-counted t (at-args .place) within)
 
 returns-2 : tie.Need-returns-2
 returns-2 c =
     let at-args = c .before .before .before .before .before .args in
     let at-within-buffers = c .before .within-buffers in
     let at-if1 = c .if1 in
-    sym (sought-uncounted (lent (at-args .card) (now (at-args .segments)) (now (at-args .leaves)) (now (at-args .text))) (at-args .place) (sym (at-within-buffers .ensures) ∙ at-if1 .left))
+    let t = lent (at-args .card) (now (at-args .segments)) (now (at-args .leaves)) (now (at-args .text)) in
+    let past = sym (at-within-buffers .ensures) ∙ at-if1 .left in
+    sym (sought-uncounted t (at-args .place) past)
 
 pub find-leaf-spec : {M : Type 1} → statement M
 find-leaf-spec = tie.close (tie.spec within-buffers-requires first-leaf-requires returns returns-2)

@@ -65,7 +65,8 @@ returns c =
     let at-wide2 = c .before .wide2 in
     let at-if1 = c .before .before .before .before .before .if1 in
     let at-if2 = c .if2 in
-    seek-found (now (at-args .leaves)) (at-args .bytes) (at-args .place) (at-args .rows) (at-loop .row) (at-loop .inv) (at-loop-test .taken) (at-is-at .ensures) (at-wide .ensures .0) (at-wide2 .ensures .0) (at-if1 .taken) (at-if2 .taken)
+    seek-found (now (at-args .leaves)) (at-args .bytes) (at-args .place) (at-args .rows) (at-loop .row) (at-loop .inv)
+    (at-loop-test .taken) (at-is-at .ensures) (at-wide .ensures .0) (at-wide2 .ensures .0) (at-if1 .taken) (at-if2 .taken)
 
 loop-less : tie.Need-loop-less Inv-loop μ-loop
 loop-less c = omega arith
@@ -79,7 +80,8 @@ loop-again c =
     let at-wide = c .before .before .before .wide in
     let at-wide2 = c .before .wide2 in
     let at-if2 = c .if2 in
-    seek-past (now (at-args .leaves)) (at-args .bytes) (at-args .place) (at-args .rows) (at-loop .row) (at-loop .inv) (at-loop-test .taken) (at-is-at .ensures) (at-wide .ensures .0) (at-wide2 .ensures .0) (at-if2 .left)
+    seek-past (now (at-args .leaves)) (at-args .bytes) (at-args .place) (at-args .rows) (at-loop .row) (at-loop .inv)
+    (at-loop-test .taken) (at-is-at .ensures) (at-wide .ensures .0) (at-wide2 .ensures .0) (at-if2 .left)
 
 loop-less-2 : tie.Need-loop-less-2 Inv-loop μ-loop
 loop-less-2 c = omega arith
@@ -91,7 +93,8 @@ loop-again-2 c =
     let at-loop-test = c .before .before .loop-test in
     let at-is-at = c .before .is-at in
     let at-if1 = c .if1 in
-    seek-elsewhere (now (at-args .leaves)) (at-args .bytes) (at-args .place) (at-args .rows) (at-loop .row) (at-loop .inv) (at-loop-test .taken) (at-is-at .ensures) (at-if1 .left)
+    seek-elsewhere (now (at-args .leaves)) (at-args .bytes) (at-args .place) (at-args .rows) (at-loop .row) (at-loop .inv)
+    (at-loop-test .taken) (at-is-at .ensures) (at-if1 .left)
 
 returns-2 : tie.Need-returns-2 Inv-loop μ-loop
 returns-2 c =

@@ -21,7 +21,11 @@ add-end c =
     let at-args = c .before .before .before .before .before .before .before .before .args in
     let at-start = c .before .start in
     let at-find-leaf = c .before .before .before .find-leaf in
-    omega (arith, found-within (lent (at-args .card) (now (at-args .segments)) (now (at-args .leaves)) (now (at-args .text))) (at-args .place) (at-start .given .0 .0) (at-start .given .0 .1 .0) (sym (at-find-leaf .ensures) ∙ at-start .given .1))
+    let t = lent (at-args .card) (now (at-args .segments)) (now (at-args .leaves)) (now (at-args .text)) in
+    let found = sym (at-find-leaf .ensures) ∙ at-start .given .1 in
+    let start = at-start .given .0 .0 in
+    let length = at-start .given .0 .1 .0 in
+    omega (arith, found-within t (at-args .place) start length found)
 
 sub-result : tie.Need-sub-result
 sub-result c = search needs
@@ -34,7 +38,11 @@ part-result-end c =
     let at-args = c .before .before .before .before .before .before .before .before .args in
     let at-start = c .before .start in
     let at-find-leaf = c .before .before .before .find-leaf in
-    omega (arith, found-within (lent (at-args .card) (now (at-args .segments)) (now (at-args .leaves)) (now (at-args .text))) (at-args .place) (at-start .given .0 .0) (at-start .given .0 .1 .0) (sym (at-find-leaf .ensures) ∙ at-start .given .1))
+    let t = lent (at-args .card) (now (at-args .segments)) (now (at-args .leaves)) (now (at-args .text)) in
+    let found = sym (at-find-leaf .ensures) ∙ at-start .given .1 in
+    let start = at-start .given .0 .0 in
+    let length = at-start .given .0 .1 .0 in
+    omega (arith, found-within t (at-args .place) start length found)
 
 enum-told : tie.Need-enum-told
 enum-told c = search needs
@@ -44,14 +52,20 @@ returns c =
     let at-args = c .before .before .before .before .before .before .before .before .before .args in
     let at-start = c .before .before .start in
     let at-find-leaf = c .before .before .before .before .find-leaf in
-    part-found (lent (at-args .card) (now (at-args .segments)) (now (at-args .leaves)) (now (at-args .text))) (at-args .place) (now (at-args .substitute)) (at-start .given .0 .0) (at-start .given .0 .1 .0) (sym (at-find-leaf .ensures) ∙ at-start .given .1)
+    let t = lent (at-args .card) (now (at-args .segments)) (now (at-args .leaves)) (now (at-args .text)) in
+    let found = sym (at-find-leaf .ensures) ∙ at-start .given .1 in
+    let start = at-start .given .0 .0 in
+    let length = at-start .given .0 .1 .0 in
+    part-found t (at-args .place) (now (at-args .substitute)) start length found
 
 returns-2 : tie.Need-returns-2
 returns-2 c =
     let at-args = c .before .before .before .before .before .before .before .args in
     let at-find-leaf = c .before .before .find-leaf in
     let at-enum-told = c .enum-told in
-    no-part (lent (at-args .card) (now (at-args .segments)) (now (at-args .leaves)) (now (at-args .text))) (at-args .place) (now (at-args .substitute)) (sym (at-find-leaf .ensures) ∙ at-enum-told .given .1)
+    let t = lent (at-args .card) (now (at-args .segments)) (now (at-args .leaves)) (now (at-args .text)) in
+    let none = sym (at-find-leaf .ensures) ∙ at-enum-told .given .1 in
+    no-part t (at-args .place) (now (at-args .substitute)) none
 
 pub leaf-text-spec : {M : Type 1} → statement M
 leaf-text-spec =

@@ -22,14 +22,20 @@ returns c =
     let at-args = c .before .before .before .before .before .before .args in
     let at-is-order = c .before .before .is-order in
     let at-if1 = c .before .if1 in
-    at-find-leaf .ensures ∙ sym (order-text (lent (at-args .card) (now (at-args .segments)) (now (at-args .leaves)) (now (at-args .text))) (at-args .row) (sym (order-by-segments (at-args .card) (now (at-args .segments)) (now (at-args .leaves)) (now (at-args .text)) (at-args .row)) ∙ sym (at-is-order .ensures) ∙ at-if1 .taken))
+    let t = lent (at-args .card) (now (at-args .segments)) (now (at-args .leaves)) (now (at-args .text)) in
+    let by-segments = order-by-segments (at-args .card) (now (at-args .segments)) (now (at-args .leaves)) (now (at-args .text)) (at-args .row) in
+    let asked = sym by-segments ∙ sym (at-is-order .ensures) ∙ at-if1 .taken in
+    at-find-leaf .ensures ∙ sym (order-text t (at-args .row) asked)
 
 returns-2 : tie.Need-returns-2
 returns-2 c =
     let at-args = c .before .before .before .before .before .args in
     let at-is-order = c .before .is-order in
     let at-if1 = c .if1 in
-    sym (no-order (lent (at-args .card) (now (at-args .segments)) (now (at-args .leaves)) (now (at-args .text))) (at-args .row) (sym (order-by-segments (at-args .card) (now (at-args .segments)) (now (at-args .leaves)) (now (at-args .text)) (at-args .row)) ∙ sym (at-is-order .ensures) ∙ at-if1 .left))
+    let t = lent (at-args .card) (now (at-args .segments)) (now (at-args .leaves)) (now (at-args .text)) in
+    let by-segments = order-by-segments (at-args .card) (now (at-args .segments)) (now (at-args .leaves)) (now (at-args .text)) (at-args .row) in
+    let asked = sym by-segments ∙ sym (at-is-order .ensures) ∙ at-if1 .left in
+    sym (no-order t (at-args .row) asked)
 
 pub order-text-spec : {M : Type 1} → statement M
 order-text-spec = tie.close (tie.spec is-order-requires find-leaf-requires returns returns-2)

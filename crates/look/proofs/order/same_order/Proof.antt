@@ -27,7 +27,11 @@ add-end c =
     let at-good = c .before .before .before .before .before .before .before .before .before .before .before .before .before .before .good in
     let at-start = c .before .before .before .before .before .start in
     let at-order-text = c .before .before .before .before .before .before .before .order-text in
-    omega (arith, at-good, order-within (lent (at-args .card) (now (at-args .segments)) (now (at-args .leaves)) (now (at-args .text))) (at-args .row) (at-start .given .0 .0) (at-start .given .0 .1 .0) (sym (at-order-text .ensures) ∙ at-start .given .1))
+    let t = lent (at-args .card) (now (at-args .segments)) (now (at-args .leaves)) (now (at-args .text)) in
+    let found = sym (at-order-text .ensures) ∙ at-start .given .1 in
+    let start = at-start .given .0 .0 in
+    let length = at-start .given .0 .1 .0 in
+    omega (arith, at-good, order-within t (at-args .row) start length found)
 
 add-other-end : tie.Need-add-other-end
 add-other-end c =
@@ -35,7 +39,11 @@ add-other-end c =
     let at-good = c .before .before .before .before .before .before .before .before .before .before .before .before .before .before .good in
     let at-order = c .before .order in
     let at-order-text2 = c .before .before .before .order-text2 in
-    omega (arith, at-good, order-within (lent (at-args .other-card) (now (at-args .other-segments)) (now (at-args .other-leaves)) (now (at-args .other-text))) (at-args .other-row) (at-order .given .0 .0) (at-order .given .0 .1 .0) (sym (at-order-text2 .ensures) ∙ at-order .given .1))
+    let u = lent (at-args .other-card) (now (at-args .other-segments)) (now (at-args .other-leaves)) (now (at-args .other-text)) in
+    let other-found = sym (at-order-text2 .ensures) ∙ at-order .given .1 in
+    let other-start = at-order .given .0 .0 in
+    let other-length = at-order .given .0 .1 .0 in
+    omega (arith, at-good, order-within u (at-args .other-row) other-start other-length other-found)
 
 sub-same-bytes : tie.Need-sub-same-bytes
 sub-same-bytes c = search needs
@@ -48,7 +56,11 @@ part-same-bytes-end c =
     let at-args = c .before .before .before .before .before .before .before .before .before .before .before .before .before .before .args in
     let at-start = c .before .before .before .before .before .start in
     let at-order-text = c .before .before .before .before .before .before .before .order-text in
-    omega (arith, order-within (lent (at-args .card) (now (at-args .segments)) (now (at-args .leaves)) (now (at-args .text))) (at-args .row) (at-start .given .0 .0) (at-start .given .0 .1 .0) (sym (at-order-text .ensures) ∙ at-start .given .1))
+    let t = lent (at-args .card) (now (at-args .segments)) (now (at-args .leaves)) (now (at-args .text)) in
+    let found = sym (at-order-text .ensures) ∙ at-start .given .1 in
+    let start = at-start .given .0 .0 in
+    let length = at-start .given .0 .1 .0 in
+    omega (arith, order-within t (at-args .row) start length found)
 
 sub-same-bytes-2 : tie.Need-sub-same-bytes-2
 sub-same-bytes-2 c = search needs
@@ -61,7 +73,11 @@ part-same-bytes-end-2 c =
     let at-args = c .before .before .before .before .before .before .before .before .before .before .before .before .before .before .before .args in
     let at-order = c .before .before .order in
     let at-order-text2 = c .before .before .before .before .order-text2 in
-    omega (arith, order-within (lent (at-args .other-card) (now (at-args .other-segments)) (now (at-args .other-leaves)) (now (at-args .other-text))) (at-args .other-row) (at-order .given .0 .0) (at-order .given .0 .1 .0) (sym (at-order-text2 .ensures) ∙ at-order .given .1))
+    let u = lent (at-args .other-card) (now (at-args .other-segments)) (now (at-args .other-leaves)) (now (at-args .other-text)) in
+    let other-found = sym (at-order-text2 .ensures) ∙ at-order .given .1 in
+    let other-start = at-order .given .0 .0 in
+    let other-length = at-order .given .0 .1 .0 in
+    omega (arith, order-within u (at-args .other-row) other-start other-length other-found)
 
 same-bytes-requires : tie.Need-same-bytes-requires
 same-bytes-requires c κs = search needs
@@ -80,21 +96,35 @@ returns c =
     let at-order = c .before .before .before .before .order in
     let at-order-text = c .before .before .before .before .before .before .before .before .before .before .order-text in
     let at-order-text2 = c .before .before .before .before .before .before .order-text2 in
-    at-same-bytes .ensures ∙ both-there (lent (at-args .card) (now (at-args .segments)) (now (at-args .leaves)) (now (at-args .text))) (at-args .row) (lent (at-args .other-card) (now (at-args .other-segments)) (now (at-args .other-leaves)) (now (at-args .other-text))) (at-args .other-row) (at-start .given .0 .0) (at-start .given .0 .1 .0) (at-order .given .0 .0) (at-order .given .0 .1 .0) (sym (at-order-text .ensures) ∙ at-start .given .1) (sym (at-order-text2 .ensures) ∙ at-order .given .1)
+    let t = lent (at-args .card) (now (at-args .segments)) (now (at-args .leaves)) (now (at-args .text)) in
+    let u = lent (at-args .other-card) (now (at-args .other-segments)) (now (at-args .other-leaves)) (now (at-args .other-text)) in
+    let found = sym (at-order-text .ensures) ∙ at-start .given .1 in
+    let other-found = sym (at-order-text2 .ensures) ∙ at-order .given .1 in
+    let start = at-start .given .0 .0 in
+    let length = at-start .given .0 .1 .0 in
+    let other-start = at-order .given .0 .0 in
+    let other-length = at-order .given .0 .1 .0 in
+    at-same-bytes .ensures ∙ both-there t (at-args .row) u (at-args .other-row) start length other-start other-length found other-found
 
 returns-2 : tie.Need-returns-2
 returns-2 c =
     let at-args = c .before .before .before .before .before .before .before .before .before .before .before .before .before .args in
     let at-order-text2 = c .before .before .order-text2 in
     let at-enum-told = c .enum-told in
-    second-not-there (lent (at-args .card) (now (at-args .segments)) (now (at-args .leaves)) (now (at-args .text))) (at-args .row) (lent (at-args .other-card) (now (at-args .other-segments)) (now (at-args .other-leaves)) (now (at-args .other-text))) (at-args .other-row) (sym (at-order-text2 .ensures) ∙ at-enum-told .given .1)
+    let t = lent (at-args .card) (now (at-args .segments)) (now (at-args .leaves)) (now (at-args .text)) in
+    let u = lent (at-args .other-card) (now (at-args .other-segments)) (now (at-args .other-leaves)) (now (at-args .other-text)) in
+    let other-none = sym (at-order-text2 .ensures) ∙ at-enum-told .given .1 in
+    second-not-there t (at-args .row) u (at-args .other-row) other-none
 
 returns-3 : tie.Need-returns-3
 returns-3 c =
     let at-args = c .before .before .before .before .before .before .before .before .before .args in
     let at-order-text = c .before .before .order-text in
     let at-enum-told2 = c .enum-told2 in
-    first-not-there (lent (at-args .card) (now (at-args .segments)) (now (at-args .leaves)) (now (at-args .text))) (at-args .row) (lent (at-args .other-card) (now (at-args .other-segments)) (now (at-args .other-leaves)) (now (at-args .other-text))) (at-args .other-row) (sym (at-order-text .ensures) ∙ at-enum-told2 .given .1)
+    let t = lent (at-args .card) (now (at-args .segments)) (now (at-args .leaves)) (now (at-args .text)) in
+    let u = lent (at-args .other-card) (now (at-args .other-segments)) (now (at-args .other-leaves)) (now (at-args .other-text)) in
+    let none = sym (at-order-text .ensures) ∙ at-enum-told2 .given .1 in
+    first-not-there t (at-args .row) u (at-args .other-row) none
 
 pub same-order-spec : {M : Type 1} → statement M
 same-order-spec =

@@ -1,0 +1,24 @@
+-- Each public function's contract has one answer: two that satisfy it, at the same arguments, are equal. Nothing that is lent changes.
+-- Assumes nothing.
+use mathlib.Core.Bool.{Bool}
+use mathlib.Core.List.{List}
+use mathlib.Core.Path.{_≡_}
+use Prim.Native.Nat.{ℕ}
+use Rattle.laws.proofs.Equality.{only-one}
+use Rattle.table.specs.Lent.{Lent}
+use Rattle.look.specs.declared.leaf.Sought.{Sought}
+use Rattle.look.specs.declared.leaf.Place.{Place}
+use Rattle.look.specs.Looking.{soughtIn, lookedUp, rowAfter, sameOrder}
+
+pub find-leaf : (t : Lent) (p : Place) (r s : Sought) → r ≡ soughtIn t p → s ≡ soughtIn t p → r ≡ s
+find-leaf t p r s h k = only-one h k
+
+pub leaf-text : (t : Lent) (p : Place) (substitute r s : List ℕ) → r ≡ lookedUp t p substitute → s ≡ lookedUp t p substitute → r ≡ s
+leaf-text t p substitute r s h k = only-one h k
+
+pub next-row : (rows : List ℕ) (count after kind owner r s : ℕ)
+    → r ≡ rowAfter rows count after kind owner → s ≡ rowAfter rows count after kind owner → r ≡ s
+next-row rows count after kind owner r s h k = only-one h k
+
+pub same-order : (t : Lent) (row : ℕ) (u : Lent) (other : ℕ) (r s : Bool) → r ≡ sameOrder t row u other → s ≡ sameOrder t row u other → r ≡ s
+same-order t row u other r s h k = only-one h k
