@@ -1,5 +1,8 @@
 // Which operation a case is of.
+use crate::comparing;
+use crate::finding;
 use crate::input::number;
+use crate::looking;
 use crate::reading;
 use crate::walking;
 use crate::watching;
@@ -8,6 +11,9 @@ use crate::watching;
 pub fn next_case() -> bool {
     match number() {
         1 => reading::run(),
+        3 => looking::run(),
+        4 => finding::run(),
+        5 => comparing::run(),
         6 => walking::run(),
         7 => watching::run(),
         _ => false,

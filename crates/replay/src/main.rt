@@ -2,9 +2,13 @@
 // An operation is a module with a function `run`, which answers false where its case is cut off or past the format's sizes.
 mod buffers;
 mod cases;
+mod comparing;
+mod finding;
 mod input;
+mod looking;
 mod output;
 mod reading;
+mod tables;
 mod walking;
 mod watching;
 
