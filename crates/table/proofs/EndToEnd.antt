@@ -4,8 +4,8 @@
 use mathlib.Core.Bool.{true, false}
 use mathlib.Core.List.{List, _∷_, _++_, head-eq-of-cons-eq, tail-eq-of-cons-eq}
 use mathlib.Core.Logic.{_↔_}
-use mathlib.Core.Path.{_≡_, sym, ap, ap₂, _∙_}
-use Prim.Native.Nat.{ℕ, zero, suc, _+_, _*_, _≤_}
+use mathlib.Core.Path.{_≡_, refl, sym, ap, ap₂, _∙_, subst}
+use Prim.Native.Nat.{ℕ, zero, suc, _+_, _*_, _≤_, _<_}
 use native.Mathlib.Omega.{arith}
 use lib.Dec.{eqb}
 use lib.ListN.{length, take, drop, getD, length-append, length-drop, take-append-drop, drop-of-length-le}
@@ -59,6 +59,21 @@ ends-within rows finish i (suc n) start h =
       arith,
       ends-within rows finish (suc i) n (start + getD rows (i * leafRowSize + 6) 0) (ends-later rows finish i n start h),
     )
+
+-- and each row ends before it
+pub ends-each : (rows : List ℕ) (finish i n start : ℕ) → endToEnd rows finish i n start ≡ true → (k : ℕ) → k < n
+    → getD rows ((i + k) * leafRowSize + 5) 0 + getD rows ((i + k) * leafRowSize + 6) 0 ≤ finish
+ends-each rows finish i zero start h k less = absurd (omega arith)
+ends-each rows finish i (suc n) start h zero less =
+    subst (λ (j : ℕ). getD rows (j * leafRowSize + 5) 0 + getD rows (j * leafRowSize + 6) 0 ≤ finish) (let e : i ≡ i + 0 = omega arith in e)
+    (omega (
+      arith,
+      ends-start rows finish i n start h,
+      ends-within rows finish (suc i) n (start + getD rows (i * leafRowSize + 6) 0) (ends-later rows finish i n start h),
+    ))
+ends-each rows finish i (suc n) start h (suc k) less =
+    subst (λ (j : ℕ). getD rows (j * leafRowSize + 5) 0 + getD rows (j * leafRowSize + 6) 0 ≤ finish) (let e : suc i + k ≡ i + suc k = omega arith in e)
+    (ends-each rows finish (suc i) n (start + getD rows (i * leafRowSize + 6) 0) (ends-later rows finish i n start h) k (omega arith))
 
 module _ (rows text : List ℕ) where
   -- a row, and the rows after it

@@ -5,3 +5,10 @@ pub mod Entries
 pub mod LocalTables
 pub mod RowByRow
 pub mod LentTables
+pub mod Filling
+pub mod TextLeft
+pub mod RowPlaces
+pub mod LinesFilled
+pub mod LeavesLeft
+pub mod TablesWritten
+pub mod Answers

@@ -1,3 +1,6 @@
 pub mod Writing
 pub mod Local
 pub mod RowByRow
+pub mod Filling
+pub mod Passing
+pub mod Answer

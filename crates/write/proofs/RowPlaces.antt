@@ -1,0 +1,126 @@
+-- The separator between two neighbouring leaf rows, by the first number of their places that differs.
+-- Assumes nothing.
+use mathlib.Core.List.{List, [], _∷_}
+use mathlib.Core.Path.{_≡_, refl, sym, ap, ap₂, _∙_}
+use Prim.Native.Nat.{ℕ, zero, suc, _+_, _*_, _≤_}
+use native.Mathlib.Omega.{arith}
+use lib.ListN.{length, getD, take, drop}
+use lib.Seq.{drop-cons}
+use borrow.Author.Tests.{eq-eqb, ne-eqb}
+use Rattle.laws.specs.Tables.{values}
+use Rattle.form.specs.declared.separators.Separators.{Separators}
+use Rattle.form.specs.Header.{splitting}
+use Rattle.line.specs.Lines.{CR}
+use Rattle.table.specs.Back.{between}
+use Rattle.table.proofs.Places.{between-here, between-later}
+
+-- some numbers of a list in a row
+numbers : (rows : List ℕ) (k n : ℕ) → k + n ≤ length rows → take n (drop k rows) ≡ values (λ (j : ℕ). getD rows j 0) k n
+unfolding values
+numbers rows k zero h = refl
+numbers rows k (suc n) h =
+    ap (take (suc n)) (drop-cons rows k 0 (omega arith)) ∙ ap (λ (r : List ℕ). getD rows k 0 ∷ r) (numbers rows (suc k) n (omega arith))
+
+five-same : {a b c d e a′ b′ c′ d′ e′ : ℕ} → a ≡ a′ → b ≡ b′ → c ≡ c′ → d ≡ d′ → e ≡ e′
+    → _≡_ {A = List ℕ} (a ∷ b ∷ c ∷ d ∷ e ∷ []) (a′ ∷ b′ ∷ c′ ∷ d′ ∷ e′ ∷ [])
+five-same p q r s t = cc
+
+module _ (ps : Separators) (rows : List ℕ) (row : ℕ) where
+  abbrev at : ℕ → ℕ
+  at j = getD rows (row * 7 + j) 0
+
+  abbrev first : ℕ
+  first = getD rows (row * 7) 0
+
+  number-at : (k j : ℕ) → k ≡ row * 7 + j → getD rows k 0 ≡ at j
+  number-at k j e = ap (λ (i : ℕ). getD rows i 0) e
+
+  place-here : (row + 2) * 7 ≤ length rows → take 5 (drop (row * 7) rows) ≡ first ∷ at 1 ∷ at 2 ∷ at 3 ∷ at 4 ∷ []
+  unfolding values
+  place-here h =
+      numbers rows (row * 7) 5 (omega arith)
+      ∙ five-same refl
+      (number-at (suc (row * 7)) 1 (omega arith))
+      (number-at (suc (suc (row * 7))) 2 (omega arith))
+      (number-at (suc (suc (suc (row * 7)))) 3 (omega arith))
+      (number-at (suc (suc (suc (suc (row * 7))))) 4 (omega arith))
+
+  place-next : (row + 2) * 7 ≤ length rows → take 5 (drop ((row + 1) * 7) rows) ≡ at 7 ∷ at 8 ∷ at 9 ∷ at 10 ∷ at 11 ∷ []
+  unfolding values
+  place-next h =
+      ap (λ (k : ℕ). take 5 (drop k rows)) (let e : (row + 1) * 7 ≡ row * 7 + 7 = omega arith in e)
+      ∙ numbers rows (row * 7 + 7) 5 (omega arith)
+      ∙ five-same refl
+      (number-at (suc (row * 7 + 7)) 8 (omega arith))
+      (number-at (suc (suc (row * 7 + 7))) 9 (omega arith))
+      (number-at (suc (suc (suc (row * 7 + 7)))) 10 (omega arith))
+      (number-at (suc (suc (suc (suc (row * 7 + 7))))) 11 (omega arith))
+
+  -- the separator that leads from one row to the next
+  abbrev pub Between : ℕ → Type 0
+  Between b = b ≡ between (CR ∷ splitting ps) (take 5 (drop (row * 7) rows)) (take 5 (drop ((row + 1) * 7) rows))
+
+  abbrev four : List ℕ
+  four = ps .field ∷ ps .repeater ∷ ps .subfield ∷ ps .subsubfield ∷ []
+
+  module _ (long : (row + 2) * 7 ≤ length rows) where
+    by-numbers : {b : ℕ}
+        → between (CR ∷ four) (first ∷ at 1 ∷ at 2 ∷ at 3 ∷ at 4 ∷ []) (at 7 ∷ at 8 ∷ at 9 ∷ at 10 ∷ at 11 ∷ []) ≡ b
+        → Between b
+    unfolding splitting
+    by-numbers e = sym (ap₂ (between (CR ∷ four)) (place-here long) (place-next long) ∙ e)
+
+    pub other-segment : (first ≡ at 7 → ⊥) → Between CR
+    other-segment h =
+        by-numbers
+        (between-here CR four first (at 7) (at 1 ∷ at 2 ∷ at 3 ∷ at 4 ∷ []) (at 8 ∷ at 9 ∷ at 10 ∷ at 11 ∷ []) (ne-eqb first (at 7) h))
+
+    module _ (s : first ≡ at 7) where
+      same-segment : between (CR ∷ four) (first ∷ at 1 ∷ at 2 ∷ at 3 ∷ at 4 ∷ []) (at 7 ∷ at 8 ∷ at 9 ∷ at 10 ∷ at 11 ∷ [])
+          ≡ between four (at 1 ∷ at 2 ∷ at 3 ∷ at 4 ∷ []) (at 8 ∷ at 9 ∷ at 10 ∷ at 11 ∷ [])
+      same-segment =
+          between-later CR four first (at 7) (at 1 ∷ at 2 ∷ at 3 ∷ at 4 ∷ []) (at 8 ∷ at 9 ∷ at 10 ∷ at 11 ∷ []) (eq-eqb first (at 7) s)
+
+      pub other-field : (at 1 ≡ at 8 → ⊥) → Between (ps .field)
+      other-field h =
+          by-numbers
+          (same-segment
+          ∙ between-here (ps .field) (drop 1 four) (at 1) (at 8) (at 2 ∷ at 3 ∷ at 4 ∷ []) (at 9 ∷ at 10 ∷ at 11 ∷ []) (ne-eqb (at 1) (at 8) h))
+
+      module _ (f : at 1 ≡ at 8) where
+        same-field : between (CR ∷ four) (first ∷ at 1 ∷ at 2 ∷ at 3 ∷ at 4 ∷ []) (at 7 ∷ at 8 ∷ at 9 ∷ at 10 ∷ at 11 ∷ [])
+            ≡ between (drop 1 four) (at 2 ∷ at 3 ∷ at 4 ∷ []) (at 9 ∷ at 10 ∷ at 11 ∷ [])
+        same-field =
+            same-segment
+            ∙ between-later (ps .field) (drop 1 four) (at 1) (at 8) (at 2 ∷ at 3 ∷ at 4 ∷ []) (at 9 ∷ at 10 ∷ at 11 ∷ []) (eq-eqb (at 1) (at 8) f)
+
+        pub other-repetition : (at 2 ≡ at 9 → ⊥) → Between (ps .repeater)
+        other-repetition h =
+            by-numbers
+            (same-field
+            ∙ between-here (ps .repeater) (drop 2 four) (at 2) (at 9) (at 3 ∷ at 4 ∷ []) (at 10 ∷ at 11 ∷ []) (ne-eqb (at 2) (at 9) h))
+
+        module _ (r : at 2 ≡ at 9) where
+          same-repetition : between (CR ∷ four) (first ∷ at 1 ∷ at 2 ∷ at 3 ∷ at 4 ∷ []) (at 7 ∷ at 8 ∷ at 9 ∷ at 10 ∷ at 11 ∷ [])
+              ≡ between (drop 2 four) (at 3 ∷ at 4 ∷ []) (at 10 ∷ at 11 ∷ [])
+          same-repetition =
+              same-field
+              ∙ between-later (ps .repeater) (drop 2 four) (at 2) (at 9) (at 3 ∷ at 4 ∷ []) (at 10 ∷ at 11 ∷ []) (eq-eqb (at 2) (at 9) r)
+
+          pub other-subfield : (at 3 ≡ at 10 → ⊥) → Between (ps .subfield)
+          other-subfield h =
+              by-numbers
+              (same-repetition ∙ between-here (ps .subfield) (drop 3 four) (at 3) (at 10) (at 4 ∷ []) (at 11 ∷ []) (ne-eqb (at 3) (at 10) h))
+
+          module _ (u : at 3 ≡ at 10) where
+            same-subfield : between (CR ∷ four) (first ∷ at 1 ∷ at 2 ∷ at 3 ∷ at 4 ∷ []) (at 7 ∷ at 8 ∷ at 9 ∷ at 10 ∷ at 11 ∷ [])
+                ≡ between (drop 3 four) (at 4 ∷ []) (at 11 ∷ [])
+            same-subfield =
+                same-repetition ∙ between-later (ps .subfield) (drop 3 four) (at 3) (at 10) (at 4 ∷ []) (at 11 ∷ []) (eq-eqb (at 3) (at 10) u)
+
+            pub other-subsubfield : (at 4 ≡ at 11 → ⊥) → Between (ps .subsubfield)
+            other-subsubfield h = by-numbers (same-subfield ∙ between-here (ps .subsubfield) [] (at 4) (at 11) [] [] (ne-eqb (at 4) (at 11) h))
+
+            pub same-place : at 4 ≡ at 11 → Between 0
+            unfolding between
+            same-place h = by-numbers (same-subfield ∙ between-later (ps .subsubfield) [] (at 4) (at 11) [] [] (eq-eqb (at 4) (at 11) h))

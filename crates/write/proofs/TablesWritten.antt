@@ -1,0 +1,196 @@
+-- The writing pass over a lent table that passed the table test (document 01, "Writing"): it asks nothing more, and gives the message.
+-- Assumes nothing.
+use mathlib.Core.Bool.{true}
+use mathlib.Core.List.{List, _∷_}
+use mathlib.Core.Path.{_≡_, sym, ap, ap₂, _∙_, subst}
+use Prim.Native.Nat.{ℕ, _+_, _*_, _≤_, _<_}
+use native.Mathlib.Nat.{zero-add}
+use native.Mathlib.Omega.{arith}
+use lib.ListN.{length, getD, take, drop, length-take, length-drop, take-append-drop}
+use lib.Seq.{sets, getD-take, getD-drop}
+use borrow.Author.Tests.{ne-eqb}
+use Rattle.laws.specs.Every.{All}
+use Rattle.laws.specs.Tables.{values}
+use Rattle.laws.proofs.Every.{all-left, all-drop, all-at, all-of}
+use Rattle.laws.proofs.Parts.{part-taken}
+use Rattle.laws.proofs.Tables.{length-values, values-same}
+use Rattle.form.specs.declared.limits.Limits.{Limits}
+use Rattle.form.specs.declared.separators.Separators.{Separators}
+use Rattle.form.specs.Limits.{Lawful}
+use Rattle.form.specs.Header.{splitting}
+use Rattle.line.specs.Lines.{CR, space}
+use Rattle.line.specs.Cutting.{cuts, unlines}
+use Rattle.table.specs.Leaves.{Leaf, split}
+use Rattle.table.specs.Flat.{leaf}
+use Rattle.table.specs.Back.{leafAt, leavesOf, separatorsIn, unsplit, segmentsOf, linesOf, written}
+use Rattle.table.proofs.EndToEnd.{ends-each}
+use Rattle.write.specs.declared.lines.Going.{Going}
+use Rattle.table.specs.Lent.{Lent, withinBuffers, counted}
+use Rattle.write.specs.Local.{Local}
+use Rattle.write.specs.RowByRow.{RowByRow}
+use Rattle.write.specs.Writing.{isTable}
+use Rattle.write.specs.Filling.{InSegment}
+use Rattle.write.specs.Passing.{linesOfRows, separatorsOfRows, FourWithin, Writable, WrittenOut}
+use Rattle.write.proofs.LocalTables.{headed-leaves, local-accepted}
+use Rattle.write.proofs.RowByRow.{rows-local}
+use Rattle.write.proofs.LentTables.{within-buffers, counted-sized, is-table-rows}
+
+-- a counted leaf of the lent rows and text
+module _ (rows text : List ℕ) (count size : ℕ) where
+  row-counted : (i k : ℕ) → i < count → k < 7 → getD (take (count * 7) rows) (i * 7 + k) 0 ≡ getD rows (i * 7 + k) 0
+  row-counted i k less small = getD-take (count * 7) rows (i * 7 + k) 0 (omega arith)
+
+  pub leaf-counted : (i : ℕ) → i < count → getD rows (i * 7 + 5) 0 + getD rows (i * 7 + 6) 0 ≤ size
+      → leafAt (take (count * 7) rows) (take size text) i ≡ leafAt rows text i
+  unfolding leafAt
+  leaf-counted i less fits =
+      ap₂ leaf (part-taken rows (i * 7) 5 (count * 7) (omega arith))
+      (ap₂ (λ (n k : ℕ). take n (drop k (take size text))) (row-counted i 6 less (omega arith)) (row-counted i 5 less (omega arith))
+      ∙ part-taken text (getD rows (i * 7 + 5) 0) (getD rows (i * 7 + 6) 0) size fits)
+
+-- a part of a text that is all text has no CR in it
+in-segment : {s : List ℕ} (start size : ℕ) → All (λ (b : ℕ). space ≤ b) s → InSegment (take size (drop start s))
+in-segment {s} start size w =
+    all-of (take size (drop start s)) 0 (λ k less.
+    let text = all-at k 0 all-text less in
+    ne-eqb (getD (take size (drop start s)) k 0) CR (λ e. omega arith))
+  where
+    all-text : All (λ (b : ℕ). space ≤ b) (take size (drop start s))
+    all-text =
+        all-left (take size (drop start s)) (drop size (drop start s))
+        (subst (All (λ (b : ℕ). space ≤ b)) (sym (take-append-drop size (drop start s))) (all-drop start w))
+
+-- the four bytes of the second leaf, where its row says that they lie
+module _ (field : ℕ) (rows text : List ℕ) (w : FourWithin rows text) {at : ℕ} (e : at ≡ getD rows 12 0) where
+  byte-of : (k : ℕ) → k < 4 → getD text (at + k) 0 ≡ getD (leafAt rows text 1 .text) k 0
+  unfolding leafAt
+  byte-of k less =
+      sym (ap₂ (λ (n j : ℕ). getD (take n (drop j text)) k 0) (w .four) (sym e)
+      ∙ getD-take 4 (drop at text) k 0 less
+      ∙ getD-drop at text k 0)
+
+  pub separators-read : _≡_ {A = Separators}
+      (record {
+        field = field;
+        subfield = getD text at 0;
+        repeater = getD text (at + 1) 0;
+        escape = getD text (at + 2) 0;
+        subsubfield = getD text (at + 3) 0;
+      })
+      (separatorsOfRows field rows text)
+  unfolding separatorsOfRows
+  separators-read =
+      let first = ap (λ (j : ℕ). getD text j 0) (let z : at ≡ at + 0 = omega arith in z) ∙ byte-of 0 (omega arith) in
+      let second = byte-of 1 (omega arith) in
+      let third = byte-of 2 (omega arith) in
+      let fourth = byte-of 3 (omega arith) in
+      cc
+
+module _ (L : Limits) (lawful : Lawful L) (levels : ℕ → ℕ → ℕ) (l : Lent) (test : isTable L levels l ≡ true) where
+  within : withinBuffers l ≡ true
+  within = is-table-rows L lawful levels l .0 test .0
+
+  rows : RowByRow L levels (counted l)
+  rows = is-table-rows L lawful levels l .0 test .1
+
+  local : Local L levels (counted l)
+  local = rows-local (counted-sized l within) rows
+
+  some-leaves : 2 ≤ l .card .leaves
+  unfolding counted leavesOf
+  some-leaves =
+      omega (
+        arith,
+        ap length (headed-leaves (counted l) (local .header) (local .others)),
+        length-values (leafAt (counted l .leafRows) (counted l .text)) 0 (l .card .leaves),
+      )
+
+  ends : (i : ℕ) → i < l .card .leaves → getD (l .leafRows) (i * 7 + 5) 0 + getD (l .leafRows) (i * 7 + 6) 0 ≤ l .card .text
+  unfolding counted
+  ends i less =
+      omega (
+        arith,
+        subst
+            (λ (j : ℕ).
+            getD (take (l .card .leaves * 7) (l .leafRows)) (j * 7 + 5) 0 + getD (take (l .card .leaves * 7) (l .leafRows)) (j * 7 + 6) 0
+            ≤ l .card .text)
+            (zero-add i)
+            (ends-each (counted l .leafRows) (l .card .text) 0 (l .card .leaves) 0 (rows .laid) i less),
+        row-counted (l .leafRows) (l .text) (l .card .leaves) (l .card .text) i 5 less (omega arith),
+        row-counted (l .leafRows) (l .text) (l .card .leaves) (l .card .text) i 6 less (omega arith),
+      )
+
+  leaf-same : (i : ℕ) → i < l .card .leaves → leafAt (counted l .leafRows) (counted l .text) i ≡ leafAt (l .leafRows) (l .text) i
+  unfolding counted
+  leaf-same i less = leaf-counted (l .leafRows) (l .text) (l .card .leaves) (l .card .text) i less (ends i less)
+
+  leaves-same : leavesOf (counted l) ≡ values (leafAt (l .leafRows) (l .text)) 0 (l .card .leaves)
+  unfolding leavesOf counted
+  leaves-same =
+      values-same (leafAt (counted l .leafRows) (counted l .text)) (leafAt (l .leafRows) (l .text)) 0 (l .card .leaves)
+      (λ k low high. leaf-same k (omega arith))
+
+  -- the separators of the lent rows are the table's
+  pub separators-same : separatorsOfRows (l .card .separator) (l .leafRows) (l .text) ≡ separatorsIn (counted l)
+  unfolding separatorsOfRows separatorsIn counted
+  separators-same =
+      ap (λ (m : Leaf). record {
+        field = l .card .separator;
+        subfield = getD (m .text) 0 0;
+        repeater = getD (m .text) 1 0;
+        escape = getD (m .text) 2 0;
+        subsubfield = getD (m .text) 3 0;
+      }) (sym (leaf-same 1 some-leaves))
+
+  -- and they can be found there
+  pub table-four : FourWithin (l .leafRows) (l .text)
+  unfolding leafAt
+  table-four =
+      let long = within-buffers l .0 within .leafRows in
+      let held = within-buffers l .0 within .text in
+      let some = some-leaves in
+      let ended = ends 1 some-leaves in
+      let size : getD (l .leafRows) 13 0 ≡ 4 =
+      omega (
+        arith,
+        sym (ap (λ (m : Leaf). length (m .text)) (leaf-same 1 some-leaves)) ∙ local .header .four,
+        length-take (getD (l .leafRows) 13 0) (drop (getD (l .leafRows) 12 0) (l .text)),
+        length-drop (getD (l .leafRows) 12 0) (l .text),
+      ) in
+      record { row = omega arith; four = size; within = omega arith }
+
+  module _ {ps : Separators} (e : ps ≡ separatorsOfRows (l .card .separator) (l .leafRows) (l .text)) where
+    -- the lines of the lent rows are the table's
+    pub lines-same : linesOfRows L ps (l .leafRows) (l .card .leaves) (l .text) ≡ linesOf L (counted l)
+    unfolding linesOfRows linesOf segmentsOf separatorsIn counted
+    lines-same =
+        ap₂ (λ (qs : Separators) (ls : List Leaf). cuts L (qs .field) (split CR (unsplit (CR ∷ splitting qs) ls))) (e ∙ separators-same) (sym leaves-same)
+
+    -- the pass may go over them
+    pub table-writable : {output : List ℕ} → L .bytes ≤ length output
+        → Writable L ps (l .leafRows) (l .card .leaves) (l .text) output
+    unfolding written leafAt counted
+    table-writable {output} roomy =
+        record {
+          lawful = lawful;
+          some = omega (arith, some-leaves);
+          long = within-buffers l .0 within .leafRows;
+          leaves = λ i less.
+              record {
+                within = omega (arith, ends i less, within-buffers l .0 within .text);
+                inSegment =
+                    subst (λ (m : Leaf). InSegment (m .text)) (leaf-same i less)
+                    (in-segment (getD (counted l .leafRows) (i * 7 + 5) 0) (getD (counted l .leafRows) (i * 7 + 6) 0) (local .bytes));
+              };
+          fits = omega (arith, ap (λ (ls : List (List ℕ)). length (unlines ls)) lines-same, local-accepted lawful local .fits);
+        }
+
+    -- and what it gives is the message
+    pub table-message : {output output′ : List ℕ} {r : Going} → WrittenOut L ps (l .leafRows) (l .card .leaves) (l .text) output r output′
+        → (output′ ≡ sets output 0 (written L (counted l))) × (r .out ≡ length (written L (counted l))) × (r .lines ≡ length (linesOf L (counted l)))
+    unfolding written
+    table-message {output} w = (
+      w .message ∙ ap (λ (ls : List (List ℕ)). sets output 0 (unlines ls)) lines-same,
+      w .bytes ∙ ap (λ (ls : List (List ℕ)). length (unlines ls)) lines-same,
+      w .lines ∙ ap length lines-same,
+    )

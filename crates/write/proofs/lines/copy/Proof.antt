@@ -1,0 +1,73 @@
+-- `write::lines::copy` meets its contract: what is left to copy gives the whole.
+-- Assumes nothing.
+use Prim.Native.Nat.{_-_}
+use native.Mathlib.Omega.{arith}
+use Rattle.write.proofs.TextLeft.{Copying, copying-begins, copying-more, copying-done}
+use Rattle.write.proofs.lines.copy.Statement.{statement}
+use Rattle.write.proofs.lines.copy.Tie as tie
+
+abbrev Inv-loop : tie.InvT-loop
+Inv-loop text from count output₀ out i₀ output i = Copying text from count output₀ out output i
+
+abbrev μ-loop : tie.MeasureT-loop
+μ-loop text from count output₀ out i₀ output i = count - i
+
+loop-holds : tie.Need-loop-holds Inv-loop μ-loop
+loop-holds c =
+    let at-args = c .args in
+    copying-begins (at-args .text .now) (at-args .from) (at-args .count) (at-args .output .now) (at-args .out)
+
+add-output : tie.Need-add-output Inv-loop μ-loop
+add-output c = omega arith
+
+shared-slice-read-output : tie.Need-shared-slice-read-output Inv-loop μ-loop
+shared-slice-read-output c = omega arith
+
+add-output-2 : tie.Need-add-output-2 Inv-loop μ-loop
+add-output-2 c = omega arith
+
+slice-write-output : tie.Need-slice-write-output Inv-loop μ-loop
+slice-write-output c = omega arith
+
+add-i : tie.Need-add-i Inv-loop μ-loop
+add-i c = omega arith
+
+loop-less : tie.Need-loop-less Inv-loop μ-loop
+loop-less c = omega arith
+
+loop-again : tie.Need-loop-again Inv-loop μ-loop
+loop-again c =
+    let at-loop = c .before .before .loop in
+    let at-pre = c .before .before .before .pre in
+    let at-args = c .before .before .before .args in
+    let at-loop-test = c .before .loop-test in
+    copying-more (at-loop .inv) (at-pre .0) (at-loop-test .taken)
+
+same-length : tie.Need-same-length Inv-loop μ-loop
+same-length c =
+    let at-loop = c .before .loop in
+    at-loop .inv .same
+
+returns : tie.Need-returns Inv-loop μ-loop
+returns c =
+    let at-loop = c .before .loop in
+    let at-args = c .before .before .args in
+    let at-loop-test = c .loop-test in
+    copying-done (at-loop .inv) (at-loop-test .left)
+
+pub copy-spec : {M : Type 1} → statement M
+copy-spec =
+    tie.close
+    (tie.spec
+    Inv-loop
+    μ-loop
+    loop-holds
+    add-output
+    shared-slice-read-output
+    add-output-2
+    slice-write-output
+    add-i
+    loop-less
+    loop-again
+    same-length
+    returns)

@@ -1,0 +1,39 @@
+-- What comes back from writing (document 01, "Numbers that come back"): number, place, bytes and lines, and what the output holds then.
+-- Assumes nothing.
+use mathlib.Core.List.{List, []}
+use mathlib.Core.Bool.{true}
+use mathlib.Core.Path.{_≡_}
+use Prim.Native.Nat.{ℕ}
+use lib.ListN.{length}
+use lib.Seq.{sets}
+use Rattle.form.specs.declared.limits.Limits.{Limits}
+use Rattle.table.specs.declared.Card.{Card}
+use Rattle.table.specs.Back.{linesOf, written}
+use Rattle.write.specs.declared.Written.{Written}
+use Rattle.table.specs.Lent.{Lent, counted}
+use Rattle.write.specs.Writing.{Writing, refuses, writes, isTable}
+
+-- "number, place, bytes, lines": all zero but the number on a refusal
+unfoldable pub answer : Writing → Written
+answer (refuses number) = record { number = number; place = 0; bytes = 0; lines = 0 }
+answer (writes bytes lines) = record { number = 0; place = 0; bytes = length bytes; lines = lines }
+
+-- the message at the front of the output; on a refusal the output is as it was
+unfoldable pub outputAfter : List ℕ → Writing → List ℕ
+outputAfter output (refuses number) = output
+outputAfter output (writes bytes lines) = sets output 0 bytes
+
+-- a lent table
+abbrev pub lent : Card → List ℕ → List ℕ → List ℕ → Lent
+lent card segmentRows leafRows text = record { card = card; segmentRows = segmentRows; leafRows = leafRows; text = text }
+
+-- what is written for a table, which its segment rows do not change
+unfoldable pub message : Limits → Card → List ℕ → List ℕ → Writing
+message L card leafRows text =
+    writes (written L (counted (lent card [] leafRows text))) (length (linesOf L (counted (lent card [] leafRows text))))
+
+-- a card, leaf rows and a text that passed the table test, with some segment rows
+pub record Tested (L : Limits) (card : Card) (leafRows text : List ℕ) : Type 0 where
+  pub levels : ℕ → ℕ → ℕ
+  pub segmentRows : List ℕ
+  pub passed : isTable L levels (lent card segmentRows leafRows text) ≡ true

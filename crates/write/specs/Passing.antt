@@ -1,0 +1,61 @@
+-- The writing pass over leaf rows (document 01, "Writing"): what it asks of the rows and the text, and what it gives.
+-- Assumes nothing.
+use mathlib.Core.List.{List, _∷_}
+use mathlib.Core.Path.{_≡_}
+use Prim.Native.Nat.{ℕ, _+_, _*_, _≤_, _<_}
+use lib.ListN.{length, getD}
+use lib.Seq.{sets}
+use Rattle.laws.specs.Tables.{values}
+use Rattle.form.specs.declared.limits.Limits.{Limits}
+use Rattle.form.specs.declared.separators.Separators.{Separators}
+use Rattle.form.specs.Limits.{Lawful}
+use Rattle.form.specs.Header.{splitting}
+use Rattle.line.specs.Lines.{CR}
+use Rattle.line.specs.Cutting.{cuts, unlines}
+use Rattle.table.specs.Leaves.{split}
+use Rattle.table.specs.Back.{leafAt, unsplit}
+use Rattle.write.specs.Filling.{InSegment}
+use Rattle.write.specs.declared.lines.Going.{Going}
+
+-- the text of the leaf of row i, counted from 0, lies in the text area and has no CR in it
+pub record LeafWithin (rows text : List ℕ) (i : ℕ) : Type 0 where
+  pub within : getD rows (i * 7 + 5) 0 + getD rows (i * 7 + 6) 0 ≤ length text
+  pub inSegment : InSegment (leafAt rows text i .text)
+
+-- the lines that so many leaf rows are written in
+unfoldable pub linesOfRows : Limits → Separators → List ℕ → ℕ → List ℕ → List (List ℕ)
+linesOfRows L ps rows count text =
+    cuts L (ps .field) (split CR (unsplit (CR ∷ splitting ps) (values (leafAt rows text) 0 count)))
+
+-- the separators: the field separator stands on the card, the others are the text of 7.2, the second leaf
+unfoldable pub separatorsOfRows : ℕ → List ℕ → List ℕ → Separators
+separatorsOfRows field rows text =
+    record {
+      field = field;
+      subfield = getD (leafAt rows text 1 .text) 0 0;
+      repeater = getD (leafAt rows text 1 .text) 1 0;
+      escape = getD (leafAt rows text 1 .text) 2 0;
+      subsubfield = getD (leafAt rows text 1 .text) 3 0;
+    }
+
+-- what finding them asks: there is such a row, of four bytes, and these lie in the text area
+pub record FourWithin (rows text : List ℕ) : Type 0 where
+  pub row : 14 ≤ length rows
+  pub four : getD rows 13 0 ≡ 4
+  pub within : getD rows 12 0 + 4 ≤ length text
+
+-- what the pass asks
+pub record Writable (L : Limits) (ps : Separators) (rows : List ℕ) (count : ℕ) (text output : List ℕ) : Type 0 where
+  pub lawful : Lawful L
+  pub some : 1 ≤ count
+  pub long : count * 7 ≤ length rows
+  pub leaves : (i : ℕ) → i < count → LeafWithin rows text i
+  pub fits : length (unlines (linesOfRows L ps rows count text)) ≤ length output
+
+-- what it gives: the lines' bytes at the front of the output, and how many bytes and lines they are
+pub record WrittenOut
+    (L : Limits) (ps : Separators) (rows : List ℕ) (count : ℕ) (text output : List ℕ) (r : Going) (output′ : List ℕ)
+    : Type 0 where
+  pub message : output′ ≡ sets output 0 (unlines (linesOfRows L ps rows count text))
+  pub bytes : r .out ≡ length (unlines (linesOfRows L ps rows count text))
+  pub lines : r .lines ≡ length (linesOfRows L ps rows count text)

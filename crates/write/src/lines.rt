@@ -1,0 +1,144 @@
+// Lines filled byte by byte: each is filled before the next begins, and each byte is written once.
+use form::limits::Limits;
+ghost use mathlib.Core.List.{[], _∷_};
+ghost use mathlib.Core.Path.{_≡_};
+ghost use Prim.Native.Nat.{_+_, _-_, _≤_, _<_, min};
+ghost use lib.ListN.{length, take, drop};
+ghost use lib.Seq.{sets};
+ghost use Rattle.form.specs.Limits.{Lawful};
+ghost use Rattle.write.specs.Filling.{stand, placed, closed, broken, opened, puts, Fits, InSegment};
+
+// CR ends a line.
+pub(crate) const CR: u8 = 13;
+
+// How far the output is written: its bytes, the bytes that the line begun still holds, the lines closed.
+pub struct Going {
+    pub out: usize,
+    pub room: usize,
+    pub lines: usize,
+}
+
+// A byte goes into the line begun, which has room for it.
+fn place(going: Going, byte: u8, output: &mut [u8]) -> Going
+    requires { ⌜ (going .out < length (now output)) × (1 ≤ going .room) ⌝ }
+    ensures { λ r. ⌜ stand (now (output .exit)) r ≡ placed (stand (now (output .entry)) going) byte ⌝ }
+{
+    let at = going.out;
+    output[at] = byte;
+    Going {
+        out: at + 1,
+        room: going.room - 1,
+        lines: going.lines,
+    }
+}
+
+// The line begun ends, and its segment with it.
+fn close(limits: Limits, going: Going, output: &mut [u8]) -> Going
+    requires { ⌜ (going .out < length (now output)) × (going .lines ≤ going .out) ⌝ }
+    ensures { λ r. ⌜ stand (now (output .exit)) r ≡ closed limits (stand (now (output .entry)) going) ⌝ }
+{
+    let at = going.out;
+    output[at] = CR;
+    Going {
+        out: at + 1,
+        room: limits.line,
+        lines: going.lines + 1,
+    }
+}
+
+// The line begun ends, and its segment goes on in an addendum.
+fn break_line(limits: Limits, field: u8, going: Going, output: &mut [u8]) -> Going
+    requires { ⌜ (going .out + 3 ≤ length (now output)) × (going .lines ≤ going .out) ⌝ }
+    ensures { λ r. ⌜ stand (now (output .exit)) r ≡ broken limits field (stand (now (output .entry)) going) ⌝ }
+{
+    let at = going.out;
+    output[at] = CR;
+    output[at + 1] = b'A';
+    output[at + 2] = field;
+    Going {
+        out: at + 3,
+        room: limits.more,
+        lines: going.lines + 1,
+    }
+}
+
+// A line with room for one more byte of the segment: the line begun, or an addendum where that is full.
+fn open_line(limits: Limits, field: u8, going: Going, output: &mut [u8]) -> Going
+    requires { ⌜ (opened limits field (stand (now output) going) .going .out ≤ length (now output)) × (going .lines ≤ going .out) ⌝ }
+    ensures { λ r. ⌜ stand (now (output .exit)) r ≡ opened limits field (stand (now (output .entry)) going) ⌝ }
+{
+    if going.room == 0 {
+        return break_line(limits, field, going, output);
+    }
+    going
+}
+
+// One byte more; CR closes its segment.
+pub(crate) fn put_byte(
+    limits: Limits,
+    field: u8,
+    going: Going,
+    byte: u8,
+    output: &mut [u8],
+) -> Going
+    requires { ⌜ Lawful limits × Fits limits field (stand (now output) going) (byte ∷ []) ⌝ }
+    ensures { λ r. ⌜ stand (now (output .exit)) r ≡ puts limits field (stand (now (output .entry)) going) (byte ∷ []) ⌝ }
+{
+    if byte == CR {
+        return close(limits, going, output);
+    }
+    let open = open_line(limits, field, going, output);
+    place(open, byte, output)
+}
+
+// Copies so many bytes of a text from `from` on into the output.
+fn copy(text: &[u8], from: usize, count: usize, output: &mut [u8], out: usize)
+    requires { ⌜ (from + count ≤ length (now text)) × (out + count ≤ length (now output)) ⌝ }
+    ensures { λ _. ⌜ now (output .exit) ≡ sets (now (output .entry)) out (take count (drop from (now (text .entry)))) ⌝ }
+{
+    let mut i = 0;
+    while i < count {
+        output[out + i] = text[from + i];
+        i += 1;
+    }
+}
+
+// The smaller of two numbers.
+fn smaller(a: usize, b: usize) -> usize
+    ensures { λ r. ⌜ r ≡ min a b ⌝ }
+{
+    if a < b {
+        return a;
+    }
+    b
+}
+
+// The bytes of a text from `from` up to `end`, none of which is CR: as many at a time as the line has room for.
+pub(crate) fn put_text(
+    limits: Limits,
+    field: u8,
+    going: Going,
+    text: &[u8],
+    from: usize,
+    end: usize,
+    output: &mut [u8],
+) -> Going
+    requires { ⌜ Lawful limits × (from ≤ end) × (end ≤ length (now text)) × InSegment (take (end - from) (drop from (now text)))
+        × Fits limits field (stand (now output) going) (take (end - from) (drop from (now text))) ⌝ }
+    ensures { λ r. ⌜ stand (now (output .exit)) r ≡ puts limits field (stand (now (output .entry)) going) (take (end - from) (drop from (now (text .entry)))) ⌝ }
+{
+    let mut going = going;
+    let mut at = from;
+    while at < end {
+        let open = open_line(limits, field, going, output);
+        let count = smaller(open.room, end - at);
+        copy(text, at, count, output, open.out);
+        going = Going {
+            out: open.out + count,
+            room: open.room - count,
+            lines: open.lines,
+        };
+        at += count;
+    }
+    going
+}
