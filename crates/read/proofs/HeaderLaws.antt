@@ -24,6 +24,7 @@ use Rattle.table.specs.Rows.{segmentRowsFrom, kindsOf, contextIn, allLeaves}
 use Rattle.table.specs.Flat.{gluedTo, glued, steps}
 use Rattle.table.specs.Filed.{headerBytes, Filed}
 use Rattle.table.specs.OnePass.{passOver}
+use Rattle.table.proofs.HeaderBytes.{header-bytes}
 use Rattle.table.proofs.Growing.{count-leaves}
 use Rattle.read.specs.declared.letters.Letters.{Letters}
 use Rattle.read.specs.declared.fill.Filling.{Filling}
@@ -38,30 +39,12 @@ use Rattle.read.proofs.LetterLaws.{byte-separator, byte-letter, bytes-s
 use Rattle.read.proofs.LeftLaws.{no-addendum, line-within, left-begins, leaves-line}
 use Rattle.read.proofs.StandLaws.{readable, line-lays, line-on}
 
--- the first seven bytes are the header's
-seven-bytes : (ps : Separators) (m : List ℕ) → 7 ≤ length m → getD m 0 0 ≡ 72 → ps ≡ separatorsOf m → getD m 6 0 ≡ ps .field
-    → take 7 m ≡ headerBytes ps
-unfolding headerBytes separatorsOf
-seven-bytes ps [] long h e again = absurd (omega arith)
-seven-bytes ps (a ∷ []) long h e again = absurd (omega arith)
-seven-bytes ps (a ∷ b ∷ []) long h e again = absurd (omega arith)
-seven-bytes ps (a ∷ b ∷ c ∷ []) long h e again = absurd (omega arith)
-seven-bytes ps (a ∷ b ∷ c ∷ d ∷ []) long h e again = absurd (omega arith)
-seven-bytes ps (a ∷ b ∷ c ∷ d ∷ i ∷ []) long h e again = absurd (omega arith)
-seven-bytes ps (a ∷ b ∷ c ∷ d ∷ i ∷ j ∷ []) long h e again = absurd (omega arith)
-seven-bytes ps (a ∷ b ∷ c ∷ d ∷ i ∷ j ∷ k ∷ r) long h e again =
-    ap₂ (λ (x y : ℕ). x ∷ b ∷ c ∷ d ∷ i ∷ j ∷ y ∷ []) h again
-    ∙ ap (λ (q : Separators). 72 ∷ q .field ∷ q .subfield ∷ q .repeater ∷ q .escape ∷ q .subsubfield ∷ ps .field ∷ []) (sym e)
-
 module _ {m : List ℕ} {ps : Separators} (s : SoundHeader m ps) where
-  pub header-bytes : take 7 m ≡ headerBytes ps
-  header-bytes = seven-bytes ps m (s .long) (s .letter) (s .separators) (s .again)
-
-  -- all seven are text
+  -- all seven header bytes are text
   pub header-run : 7 ≤ textRun m
   unfolding headerBytes
   header-run =
-      let whole : headerBytes ps ++ drop 7 m ≡ m = ap (λ (t : List ℕ). t ++ drop 7 m) (sym header-bytes) ∙ take-append-drop 7 m in
+      let whole : headerBytes ps ++ drop 7 m ≡ m = ap (λ (t : List ℕ). t ++ drop 7 m) (sym (header-bytes ps m s)) ∙ take-append-drop 7 m in
       let r : List ℕ = drop 7 m in
       let a = s .allowed in
       subst (λ (t : List ℕ). 7 ≤ textRun t) whole
@@ -123,7 +106,7 @@ module _ {c : Came} {class levels : List ℕ} {context : ℕ} {ps : Separators} 
   -- the first line goes on after the header
   first-left : Left (c .limits) ps m [] (headerBytes ps ++ lineText class m 7) (lineAfter class m 7)
   first-left =
-      subst (λ (t : List ℕ). Left (c .limits) ps m [] (t ++ lineText class m 7) (lineAfter class m 7)) (header-bytes header)
+      subst (λ (t : List ℕ). Left (c .limits) ps m [] (t ++ lineText class m 7) (lineAfter class m 7)) (header-bytes ps m header)
       (left-begins (readable y) (y .given .sound) (header-run header) (omega (arith, header .long)) (header-first header))
 
   first-within : 7 + run class (drop 7 m) < length m

@@ -23,29 +23,9 @@ use Rattle.line.specs.Finding.{textRun}
 use Rattle.line.proofs.Runs.{textRun-nil, textRun-more, textRun-stop}
 use Rattle.read.specs.Classes.{sortOf, classOf, classTable}
 use Rattle.read.specs.Scan.{run, marks}
+use Rattle.read.proofs.PlainLaws.{run-more, run-none as run-stop, marks-text, marks-more, marks-none as marks-stop}
 
--- a byte of class 5 ends the run; any other goes into it, and is a mark unless its class is 0
-module _ (class : List ℕ) (b : ℕ) (s : List ℕ) where
-  pub run-stop : getD class b 0 ≡ 5 → run class (b ∷ s) ≡ 0
-  unfolding run
-  run-stop h = rw (eq-eqb (getD class b 0) 5 h, run)
-
-  pub run-more : (getD class b 0 ≡ 5 → ⊥) → run class (b ∷ s) ≡ suc (run class s)
-  unfolding run
-  run-more h = rw (ne-eqb (getD class b 0) 5 h, run)
-
-  pub marks-stop : getD class b 0 ≡ 5 → marks class (b ∷ s) ≡ 0
-  unfolding marks
-  marks-stop h = rw (eq-eqb (getD class b 0) 5 h, marks)
-
-  pub marks-text : (getD class b 0 ≡ 5 → ⊥) → getD class b 0 ≡ 0 → marks class (b ∷ s) ≡ marks class s
-  unfolding marks
-  marks-text h z = rw (ne-eqb (getD class b 0) 5 h, eq-eqb (getD class b 0) 0 z, marks)
-
-  pub marks-more : (getD class b 0 ≡ 5 → ⊥) → (getD class b 0 ≡ 0 → ⊥) → marks class (b ∷ s) ≡ suc (marks class s)
-  unfolding marks
-  marks-more h z = rw (ne-eqb (getD class b 0) 5 h, ne-eqb (getD class b 0) 0 z, marks)
-
+-- of no bytes
 pub run-none : (class : List ℕ) → run class [] ≡ 0
 unfolding run
 run-none class = refl
@@ -106,7 +86,7 @@ module _ {class m : List ℕ} {from stop : ℕ} where
           let run-left : run class (between m i stop) ≡ suc (run class (between m (i + 1) stop))
           = ap (run class) turn ∙ run-more class b (between m (i + 1) stop) h in
           let marks-left : marks class (between m i stop) ≡ marks class (between m (i + 1) stop)
-          = ap (marks class) turn ∙ marks-text class b (between m (i + 1) stop) h (omega arith) in
+          = ap (marks class) turn ∙ marks-text class b (between m (i + 1) stop) (omega arith) in
           record { ahead = omega arith; few = omega (arith, w .few); end = omega (arith, w .end); marked = omega (arith, w .marked) }
 
 -- the class of a byte: 5 below 32, else its sort, which is 0 exactly where it is no splitting separator
@@ -167,7 +147,7 @@ module _ (ps : Separators) where
       ∙ ap suc rest
       ∙ rw (y, count))
       (λ (f : among (splitting ps) b ≡ false).
-      marks-text (classTable ps) b s (goes-on b h t) (class-at ps b h ∙ class-high ps b t ∙ sort-none ps b f)
+      marks-text (classTable ps) b s (class-at ps b h ∙ class-high ps b t ∙ sort-none ps b f)
       ∙ rest
       ∙ rw (f, count))
       (either (among (splitting ps) b))

@@ -6,13 +6,12 @@ use mathlib.Core.Logic.{⊎-elim}
 use mathlib.Core.Path.{_≡_, refl, sym, ap, ap₂, _∙_}
 use Prim.Native.Nat.{ℕ, suc, _+_, _-_, _≤_, _<_}
 use native.Mathlib.Omega.{arith}
-use lib.ListN.{length, getD, take, drop, drop-of-length-le}
+use lib.ListN.{length, getD, drop, drop-of-length-le}
 use borrow.Author.Tests.{eqb-true, eq-eqb, ne-eqb}
 use lib.Dec.{eqb}
 use Rattle.laws.proofs.Parts.{left-cons}
 use Rattle.laws.proofs.Tests.{either, never-both, and-first, and-second, and-both, and-fails-first, and-fails-second}
 use Rattle.form.specs.declared.separators.Separators.{Separators}
-use Rattle.form.specs.Header.{separatorsOf}
 use Rattle.form.proofs.HeaderRule.{SoundHeader}
 use Rattle.line.specs.Joining.{letterA, addendum}
 use Rattle.line.specs.Finding.{textRun}
@@ -102,20 +101,7 @@ module _ (f : ℕ) where
             (ap (addendum f) (two h) ∙ addendum-both (getD m at 0) (getD m (at + 1) 0) (drop (at + 1 + 1) m) a k)
             ∙ past
 
--- the seven bytes of a sound header, all of them text
-pub header-bytes : (ps : Separators) (m : List ℕ) → SoundHeader m ps → take 7 m ≡ headerBytes ps
-unfolding headerBytes separatorsOf
-header-bytes ps (a ∷ b ∷ c ∷ d ∷ e ∷ g ∷ h ∷ m) w =
-    let again : h ≡ b = w .again ∙ ap (λ (x : Separators). x .field) (w .separators) in
-    ap₂ (λ (x y : ℕ). x ∷ b ∷ c ∷ d ∷ e ∷ g ∷ y ∷ []) (w .letter) again ∙ ap headerBytes (sym (w .separators))
-header-bytes ps [] w = absurd (omega (arith, w .long))
-header-bytes ps (a ∷ []) w = absurd (omega (arith, w .long))
-header-bytes ps (a ∷ b ∷ []) w = absurd (omega (arith, w .long))
-header-bytes ps (a ∷ b ∷ c ∷ []) w = absurd (omega (arith, w .long))
-header-bytes ps (a ∷ b ∷ c ∷ d ∷ []) w = absurd (omega (arith, w .long))
-header-bytes ps (a ∷ b ∷ c ∷ d ∷ e ∷ []) w = absurd (omega (arith, w .long))
-header-bytes ps (a ∷ b ∷ c ∷ d ∷ e ∷ g ∷ []) w = absurd (omega (arith, w .long))
-
+-- the seven bytes of a sound header are text
 pub header-text : (ps : Separators) (m : List ℕ) → SoundHeader m ps → textRun (headerBytes ps) ≡ 7
 unfolding headerBytes
 header-text ps m w =

@@ -26,6 +26,7 @@ use Rattle.line.proofs.Runs.{textRun-more, textRun-take, textRun-past, textRun-
 use Rattle.line.proofs.Finding.{found-ended, EndedAt, ended-at}
 use Rattle.line.proofs.Handing.{walkFrom-found, line-within}
 use Rattle.table.specs.Filed.{headerBytes}
+use Rattle.table.proofs.HeaderBytes.{header-bytes}
 use Rattle.read.specs.declared.survey.Survey.{Survey}
 use Rattle.read.specs.Classes.{classTable}
 use Rattle.read.specs.Scan.{run, marks}
@@ -33,7 +34,7 @@ use Rattle.read.specs.Seeing.{nothingSeen, withText, closed, nextSegment
 use Rattle.read.specs.Surveying.{Known}
 use Rattle.read.specs.Underway.{Seen, SameFault, Left, Underway, LineBegun}
 use Rattle.read.proofs.ScanLaws.{Bytes, run-text, marks-separators}
-use Rattle.read.proofs.StartLaws.{addendum-other, addendum-view, header-bytes, header-text}
+use Rattle.read.proofs.StartLaws.{addendum-other, addendum-view, header-text}
 use Rattle.read.proofs.SeenLaws.{seen-begins, seen-text, seen-next, seen-closed}
 
 -- what is left of the lines, one line on
