@@ -1,6 +1,6 @@
 // The numbers that belong to the message form itself, and what follows from them.
 ghost use mathlib.Core.Path.{_≡_};
-ghost use Rattle.form.specs.Limits.{form, lineCount, Lawful};
+ghost use Rattle.form.specs.Limits.{form, lineCount, linesUnder, Lawful};
 
 // A form's limits, by value: inner functions take these, and only the public layer names a form.
 pub struct Limits {
@@ -46,6 +46,21 @@ impl Form {
         ensures { λ r. ⌜ r ≡ lineCount form bytes ⌝ }
     {
         line_count(Form::limits(), bytes)
+    }
+}
+
+impl Limits {
+    // The same under any limits; 0 lines under limits that no form has.
+    pub fn lines(self, bytes: usize) -> usize
+        ensures { λ r. ⌜ r ≡ linesUnder self bytes ⌝ }
+    {
+        if self.line < 7 {
+            return 0;
+        }
+        if self.line - 2 != self.more {
+            return 0;
+        }
+        line_count(self, bytes)
     }
 }
 

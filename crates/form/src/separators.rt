@@ -1,4 +1,5 @@
 // The five separators and the header rule.
+ghost use mathlib.Core.Bool.{_&&_};
 ghost use mathlib.Core.Path.{_≡_};
 ghost use Rattle.form.specs.Header.{within, allowed, allAllowed, different, five, headerOf};
 
@@ -49,6 +50,16 @@ impl Header {
 }
 
 impl Separators {
+    // Whether the five keep the header rule.
+    pub fn sound(self) -> bool
+        ensures { λ r. ⌜ r ≡ (allAllowed (five self) && different (five self)) ⌝ }
+    {
+        if !self.allowed() {
+            return false;
+        }
+        self.different()
+    }
+
     // Whether each of the five may be a separator.
     fn allowed(self) -> bool
         ensures { λ r. ⌜ r ≡ allAllowed (five self) ⌝ }

@@ -48,3 +48,7 @@ and-where false t u h = refl
 
 pub not-holds : (t : Bool) → t ≡ false → not t ≡ true
 not-holds t h = rw h
+
+-- what holds on the left leaves the right
+pub and-passed : {s : Bool} (t : Bool) → s ≡ true → (s && t) ≡ t
+and-passed t h = rw h

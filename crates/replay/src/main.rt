@@ -11,6 +11,7 @@ mod reading;
 mod tables;
 mod walking;
 mod watching;
+mod writing;
 
 // More cases than any file has: a loop has to end, and nothing says that an input does.
 const MOST_CASES: u32 = 1000000;

@@ -12,3 +12,14 @@ pub mod LinesFilled
 pub mod LeavesLeft
 pub mod TablesWritten
 pub mod Answers
+pub mod LeafTests
+pub mod PlaceTests
+pub mod SegmentTests
+pub mod GoingOn
+pub mod CountTests
+pub mod Groups
+pub mod Columns
+pub mod Parts
+pub mod Passing
+pub mod TableTest
+pub mod LentTest

@@ -4,3 +4,4 @@ pub mod RowByRow
 pub mod Filling
 pub mod Passing
 pub mod Answer
+pub mod Tests

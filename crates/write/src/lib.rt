@@ -1,7 +1,20 @@
 // The writer: from a table back to the message, and the test whether some message reads to a table.
+use form::limits::Form;
+use form::number::Number;
+use table::Card;
+ghost use mathlib.Core.Path.{_≡_};
+ghost use lib.ListN.{length};
+ghost use Rattle.form.specs.Limits.{form};
+ghost use Rattle.order.specs.Owners.{level};
+ghost use Rattle.write.specs.Writing.{refuses, writing};
+ghost use Rattle.write.specs.Answer.{answer, outputAfter, lent};
+
+mod leaf_rows;
 mod leaves;
 mod lines;
 mod message;
+mod segment_rows;
+pub mod test;
 
 // What comes back: a number, its place, and the bytes and lines written, all zero on a refusal.
 pub struct Written {
@@ -9,4 +22,37 @@ pub struct Written {
     pub place: usize,
     pub bytes: usize,
     pub lines: usize,
+}
+
+// Writes the message of a table at the front of the output: any card and any buffers. An output under 16,384 bytes is refused with 12, a
+// table that no message reads to with 13; output bytes past the message stay as they were.
+pub fn write(
+    card: Card,
+    segments: &[u16],
+    leaves: &[u16],
+    text: &[u8],
+    output: &mut [u8],
+) -> Written
+    ensures { λ r. ⌜ (r ≡ answer (writing form level (lent card (now (segments .entry)) (now (leaves .entry)) (now (text .entry))) (length (now (output .entry)))))
+        × (now (output .exit) ≡ outputAfter (now (output .entry)) (writing form level (lent card (now (segments .entry)) (now (leaves .entry)) (now (text .entry))) (length (now (output .entry))))) ⌝ }
+{
+    if output.len() < Form::BYTES {
+        return refusal(Number::SHORT_OUTPUT);
+    }
+    if test::is_table(card, segments, leaves, text) {
+        return message::write_message(Form::limits(), card, leaves, text, output);
+    }
+    refusal(Number::NO_TABLE)
+}
+
+// A refusal at the place 0, with counts that are zero.
+fn refusal(number: u8) -> Written
+    ensures { λ r. ⌜ r ≡ answer (refuses number) ⌝ }
+{
+    Written {
+        number,
+        place: 0,
+        bytes: 0,
+        lines: 0,
+    }
 }

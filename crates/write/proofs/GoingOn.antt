@@ -1,0 +1,177 @@
+-- Leaf rows that go on soundly, row by row, and the header's two rows.
+-- Assumes nothing.
+use mathlib.Core.Bool.{Bool, true, false, _&&_, and-true}
+use mathlib.Core.List.{List, [], _∷_}
+use mathlib.Core.Path.{_≡_, refl, sym, ap, ap₂, _∙_}
+use Prim.Native.Nat.{ℕ, suc, _+_, _-_, _*_, _≤_, _<_}
+use native.Mathlib.Omega.{arith}
+use lib.Dec.{eqb}
+use lib.ListN.{length, take, drop, getD}
+use lib.Seq.{getD-take, getD-drop}
+use borrow.Author.Tests.{eq-eqb, ne-eqb}
+use Rattle.laws.specs.Lists.{same}
+use Rattle.laws.specs.Tables.{values}
+use Rattle.laws.proofs.Lists.{different-same}
+use Rattle.laws.proofs.Parts.{left-cons}
+use Rattle.laws.proofs.Tests.{and-passed, and-both, and-fails-first, and-fails-second}
+use Rattle.form.specs.declared.separators.Separators.{Separators}
+use Rattle.table.specs.Leaves.{Leaf}
+use Rattle.table.specs.Rows.{leafRowSize}
+use Rattle.table.specs.Back.{leafAt}
+use Rattle.table.specs.RowTests.{nextPlace, leafText, goOn, goOnFrom}
+use Rattle.write.specs.Local.{thirdPlace}
+use Rattle.write.specs.Tests.{leavesFrom, headerLeavesAt, separatorsAt}
+use Rattle.write.proofs.SegmentTests.{row-length, leaves-cons, leaves-none}
+
+-- the rows from the fourth on: those up to i have been passed
+pub record Going (ps rows text : List ℕ) (count i : ℕ) : Type 0 where
+  pub low : 3 ≤ i
+  pub within : i ≤ count
+  pub so : goOn ps (leafAt rows text (i - 1) .place) (leavesFrom rows text i count) ≡ goOn ps (leafAt rows text 2 .place) (leavesFrom rows text 3 count)
+
+pub going-begins : {ps rows text : List ℕ} {count : ℕ} → 3 ≤ count → Going ps rows text count 3
+going-begins h = record { low = omega arith; within = h; so = refl }
+
+module _ {ps rows text : List ℕ} {count i : ℕ} (w : Going ps rows text count i) (h : i < count) where
+  abbrev next : Bool
+  next = nextPlace (take 5 (drop (i * leafRowSize - leafRowSize) rows)) (take 5 (drop (i * leafRowSize) rows))
+
+  abbrev own : Bool
+  own = leafText ps (leafAt rows text i .text)
+
+  abbrev others : Bool
+  others = goOn ps (leafAt rows text i .place) (leavesFrom rows text (i + 1) count)
+
+  going-turn : (next && own && others) ≡ goOn ps (leafAt rows text 2 .place) (leavesFrom rows text 3 count)
+  unfolding goOn leafAt
+  going-turn =
+      ap (λ (k : ℕ). nextPlace (take 5 (drop k rows)) (take 5 (drop (i * leafRowSize) rows)) && own && others)
+      (let e : i * leafRowSize - leafRowSize ≡ (i - 1) * leafRowSize = omega (arith, w .low) in e)
+      ∙ ap (goOn ps (leafAt rows text (i - 1) .place)) (sym (leaves-cons rows text i count h))
+      ∙ w .so
+
+  pub going-misplaced : next ≡ false → false ≡ goOn ps (leafAt rows text 2 .place) (leavesFrom rows text 3 count)
+  going-misplaced e = sym (and-fails-first others (and-fails-first own e)) ∙ going-turn
+
+  pub going-no-text : own ≡ false → false ≡ goOn ps (leafAt rows text 2 .place) (leavesFrom rows text 3 count)
+  going-no-text e = sym (and-fails-first others (and-fails-second next e)) ∙ going-turn
+
+  pub going-further : next ≡ true → own ≡ true → Going ps rows text count (i + 1)
+  going-further e f =
+      record {
+        low = omega (arith, w .low);
+        within = omega arith;
+        so =
+            ap (λ (k : ℕ). goOn ps (leafAt rows text k .place) (leavesFrom rows text (i + 1) count)) (let q : i + 1 - 1 ≡ i = omega arith in q)
+            ∙ sym (and-passed others (and-both e f))
+            ∙ going-turn;
+      }
+
+pub going-done : {ps rows text : List ℕ} {count i : ℕ} → Going ps rows text count i → count ≤ i
+    → true ≡ goOn ps (leafAt rows text 2 .place) (leavesFrom rows text 3 count)
+unfolding goOn
+going-done {ps} {rows} {text} {count} {i} w h =
+    ap (goOn ps (leafAt rows text (i - 1) .place)) (sym (leaves-none rows text i count h)) ∙ w .so
+
+-- the third row: field 3 of the header
+module _ (ps rows text : List ℕ) (count : ℕ) (h : 3 ≤ count) where
+  abbrev third : Bool
+  third = same (take 5 (drop 14 rows)) thirdPlace
+
+  abbrev third-text : Bool
+  third-text = leafText ps (leafAt rows text 2 .text)
+
+  abbrev after-third : Bool
+  after-third = goOn ps (leafAt rows text 2 .place) (leavesFrom rows text 3 count)
+
+  begun : (third && third-text && after-third) ≡ goOnFrom ps thirdPlace (leavesFrom rows text 2 count)
+  unfolding goOnFrom leafAt
+  begun = ap (goOnFrom ps thirdPlace) (sym (leaves-cons rows text 2 count (omega arith)))
+
+  pub third-elsewhere : third ≡ false → false ≡ goOnFrom ps thirdPlace (leavesFrom rows text 2 count)
+  third-elsewhere e = sym (and-fails-first after-third (and-fails-first third-text e)) ∙ begun
+
+  pub third-no-text : third-text ≡ false → false ≡ goOnFrom ps thirdPlace (leavesFrom rows text 2 count)
+  third-no-text e = sym (and-fails-first after-third (and-fails-second third e)) ∙ begun
+
+  pub third-sound : third ≡ true → third-text ≡ true → after-third ≡ goOnFrom ps thirdPlace (leavesFrom rows text 2 count)
+  third-sound e f = sym (and-passed after-third (and-both e f)) ∙ begun
+
+-- the header's two rows
+module _ (rows text : List ℕ) where
+  abbrev first-place : Bool
+  first-place = same (take 5 (drop 0 rows)) (1 ∷ 1 ∷ 1 ∷ 1 ∷ 1 ∷ [])
+
+  abbrev first-text : Bool
+  first-text = same (leafAt rows text 0 .text) (72 ∷ [])
+
+  abbrev second-place : Bool
+  second-place = same (take 5 (drop 7 rows)) (1 ∷ 2 ∷ 1 ∷ 1 ∷ 1 ∷ [])
+
+  abbrev second-text : Bool
+  second-text = eqb (length (leafAt rows text 1 .text)) 4
+
+  parts : (first-place && first-text && second-place && second-text) ≡ headerLeavesAt rows text
+  unfolding headerLeavesAt leafAt
+  parts = refl
+
+  pub head-elsewhere : first-place ≡ false → false ≡ headerLeavesAt rows text
+  head-elsewhere e = sym (and-fails-first second-text (and-fails-first second-place (and-fails-first first-text e))) ∙ parts
+
+  pub head-other : first-text ≡ false → false ≡ headerLeavesAt rows text
+  head-other e = sym (and-fails-first second-text (and-fails-first second-place (and-fails-second first-place e))) ∙ parts
+
+  pub second-elsewhere : second-place ≡ false → false ≡ headerLeavesAt rows text
+  second-elsewhere e = sym (and-fails-first second-text (and-fails-second (first-place && first-text) e)) ∙ parts
+
+  pub head-long : getD rows 5 0 + getD rows 6 0 ≤ length text → (getD rows 6 0 ≡ 1 → ⊥) → first-text ≡ false
+  head-long fits n = different-same (λ e. n (sym (row-length rows text 0 fits) ∙ ap length e))
+
+  head-byte : getD rows 5 0 + getD rows 6 0 ≤ length text → getD rows 6 0 ≡ 1 → leafAt rows text 0 .text ≡ getD text (getD rows 5 0) 0 ∷ []
+  unfolding leafAt
+  head-byte fits e =
+      ap (λ (n : ℕ). take n (drop (getD rows 5 0) text)) e
+      ∙ ap (take 1) (left-cons text (getD rows 5 0) 0 (omega arith))
+
+  pub head-no-h : getD rows 5 0 + getD rows 6 0 ≤ length text → getD rows 6 0 ≡ 1 → (getD text (getD rows 5 0) 0 ≡ 72 → ⊥) → first-text ≡ false
+  unfolding same
+  head-no-h fits e n = ap (λ (s : List ℕ). same s (72 ∷ [])) (head-byte fits e) ∙ and-fails-first true (ne-eqb (getD text (getD rows 5 0) 0) 72 n)
+
+  head-h : getD rows 5 0 + getD rows 6 0 ≤ length text → getD rows 6 0 ≡ 1 → getD text (getD rows 5 0) 0 ≡ 72 → first-text ≡ true
+  unfolding same
+  head-h fits e n = ap (λ (s : List ℕ). same s (72 ∷ [])) (head-byte fits e) ∙ and-passed true (eq-eqb (getD text (getD rows 5 0) 0) 72 n)
+
+  pub second-long : first-place ≡ true → getD rows 5 0 + getD rows 6 0 ≤ length text → getD rows 6 0 ≡ 1 → getD text (getD rows 5 0) 0 ≡ 72
+      → second-place ≡ true → getD rows 12 0 + getD rows 13 0 ≤ length text → eqb (getD rows 13 0) 4 ≡ headerLeavesAt rows text
+  second-long a fits e n b more =
+      ap (λ (k : ℕ). eqb k 4) (sym (row-length rows text 1 more))
+      ∙ sym (and-passed second-text (and-both (and-both a (head-h fits e n)) b))
+      ∙ parts
+
+-- the separators of the second leaf
+module _ (field : ℕ) (rows text : List ℕ) (fits : getD rows 12 0 + getD rows 13 0 ≤ length text) (four : length (leafAt rows text 1 .text) ≡ 4) where
+  pub four-bytes : getD rows 13 0 ≡ 4
+  four-bytes = sym (row-length rows text 1 fits) ∙ four
+
+  byte-at : (k : ℕ) → k < 4 → getD text (getD rows 12 0 + k) 0 ≡ getD (leafAt rows text 1 .text) k 0
+  unfolding leafAt
+  byte-at k h =
+      sym (getD-take (getD rows 13 0) (drop (getD rows 12 0) text) k 0 (omega (arith, four-bytes)) ∙ getD-drop (getD rows 12 0) text k 0)
+
+  pub separators-read : (start : ℕ) → start ≡ getD rows 12 0
+      → record {
+        field = field;
+        subfield = getD text start 0;
+        repeater = getD text (start + 1) 0;
+        escape = getD text (start + 2) 0;
+        subsubfield = getD text (start + 3) 0;
+      }
+      ≡ separatorsAt field rows text
+  unfolding separatorsAt
+  separators-read start e =
+      ap₂ (λ (a b : ℕ). record { field = field; subfield = a; repeater = b; escape = getD text (start + 2) 0; subsubfield = getD text (start + 3) 0 })
+      (ap (λ (k : ℕ). getD text k 0) (let q : start ≡ getD rows 12 0 + 0 = omega arith in q) ∙ byte-at 0 (omega arith))
+      (ap (λ (k : ℕ). getD text (k + 1) 0) e ∙ byte-at 1 (omega arith))
+      ∙ ap₂ (λ (a b : ℕ). record { field = field; subfield = getD (leafAt rows text 1 .text) 0 0; repeater = getD (leafAt rows text 1 .text) 1 0; escape = a; subsubfield = b })
+      (ap (λ (k : ℕ). getD text (k + 2) 0) e ∙ byte-at 2 (omega arith))
+      (ap (λ (k : ℕ). getD text (k + 3) 0) e ∙ byte-at 3 (omega arith))

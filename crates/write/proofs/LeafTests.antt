@@ -1,0 +1,164 @@
+-- The tests of leaf rows as loops make them: what is left of the rows, of a place or of a text gives the whole.
+-- Assumes nothing.
+use mathlib.Core.Bool.{Bool, true, false, not, _&&_}
+use mathlib.Core.List.{List, [], _∷_}
+use mathlib.Core.Path.{_≡_, refl, sym, ap, ap₂, _∙_}
+use Prim.Native.Nat.{ℕ, suc, _+_, _-_, _*_, _≤_, _<_}
+use native.Mathlib.Omega.{arith}
+use native.Mathlib.Numerals.{add-one}
+use lib.Dec.{leb, eqb}
+use lib.ListN.{length, take, drop, getD, replicate}
+use borrow.Author.Tests.{eq-eqb, ne-eqb, le-leb, lt-leb}
+use Rattle.laws.specs.Lists.{same, among}
+use Rattle.laws.proofs.Lists.{among-at, among-miss}
+use Rattle.laws.proofs.Parts.{left-cons, part-cons, part-none}
+use Rattle.laws.proofs.Tests.{and-passed, and-fails-first, and-fails-second}
+use Rattle.form.specs.declared.separators.Separators.{Separators}
+use Rattle.form.specs.Header.{splitting}
+use Rattle.line.specs.Lines.{space}
+use Rattle.table.specs.Rows.{leafRowSize}
+use Rattle.table.specs.Flat.{ones}
+use Rattle.table.specs.RowTests.{endToEnd, nextPlace, leafText}
+use Rattle.table.proofs.RowTests.{next-same, next-raised}
+use Rattle.write.specs.Tests.{leafByte}
+
+-- texts end to end: i rows have been passed, and the next one is to begin at `start`
+pub record Ending (rows : List ℕ) (finish count i start : ℕ) : Type 0 where
+  pub within : i ≤ count
+  pub small : start < 131072
+  pub so : endToEnd rows finish i (count - i) start ≡ endToEnd rows finish 0 count 0
+
+pub ending-begins : (rows : List ℕ) (finish count : ℕ) → Ending rows finish count 0 0
+ending-begins rows finish count =
+    record { within = omega arith; small = omega arith; so = ap (λ (n : ℕ). endToEnd rows finish 0 n 0) (omega arith) }
+
+module _ {rows : List ℕ} {finish count i start : ℕ} (w : Ending rows finish count i start) where
+  ending-turn : i < count
+      → (eqb (getD rows (i * leafRowSize + 5) 0) start
+      && endToEnd rows finish (i + 1) (count - (i + 1)) (start + getD rows (i * leafRowSize + 6) 0))
+      ≡ endToEnd rows finish 0 count 0
+  unfolding endToEnd
+  ending-turn h =
+      ap (λ (k : ℕ). eqb (getD rows (i * leafRowSize + 5) 0) start && endToEnd rows finish k (count - (i + 1)) (start + getD rows (i * leafRowSize + 6) 0)) (add-one i)
+      ∙ ap (λ (n : ℕ). endToEnd rows finish i n start) (let e : suc (count - (i + 1)) ≡ count - i = omega arith in e)
+      ∙ w .so
+
+  pub ending-fails : i < count → (getD rows (i * leafRowSize + 5) 0 ≡ start → ⊥) → false ≡ endToEnd rows finish 0 count 0
+  ending-fails h n =
+      sym (and-fails-first (endToEnd rows finish (i + 1) (count - (i + 1)) (start + getD rows (i * leafRowSize + 6) 0)) (ne-eqb (getD rows (i * leafRowSize + 5) 0) start n))
+      ∙ ending-turn h
+
+  pub ending-on : i < count → getD rows (i * leafRowSize + 5) 0 ≡ start → getD rows (i * leafRowSize + 5) 0 < 65536
+      → {size : ℕ} → size ≡ getD rows (i * leafRowSize + 6) 0 → size < 65536 → Ending rows finish count (i + 1) (start + size)
+  ending-on h e low {size} s few =
+      record {
+        within = omega arith;
+        small = omega arith;
+        so =
+            ap (λ (k : ℕ). endToEnd rows finish (i + 1) (count - (i + 1)) (start + k)) s
+            ∙ sym (and-passed (endToEnd rows finish (i + 1) (count - (i + 1)) (start + getD rows (i * leafRowSize + 6) 0)) (eq-eqb (getD rows (i * leafRowSize + 5) 0) start e))
+            ∙ ending-turn h;
+      }
+
+  pub ending-done : count ≤ i → eqb start finish ≡ endToEnd rows finish 0 count 0
+  unfolding endToEnd
+  ending-done h = ap (λ (n : ℕ). endToEnd rows finish i n start) (let e : 0 ≡ count - i = omega arith in e) ∙ w .so
+
+-- numbers that are all 1, from i up to the end
+pub record Ones (rows : List ℕ) (from end i : ℕ) : Type 0 where
+  pub after : from ≤ i
+  pub within : i ≤ end
+  pub so : same (replicate (end - i) 1) (take (end - i) (drop i rows)) ≡ same (replicate (end - from) 1) (take (end - from) (drop from rows))
+
+pub ones-begin : {rows : List ℕ} {from end : ℕ} → from ≤ end → Ones rows from end from
+ones-begin h = record { after = omega arith; within = h; so = refl }
+
+module _ {rows : List ℕ} {from end i : ℕ} (w : Ones rows from end i) where
+  ones-turn : i < end → end ≤ length rows
+      → (eqb 1 (getD rows i 0) && same (replicate (end - (i + 1)) 1) (take (end - (i + 1)) (drop (i + 1) rows)))
+      ≡ same (replicate (end - from) 1) (take (end - from) (drop from rows))
+  unfolding same
+  ones-turn h long =
+      ap₂ (λ (a b : List ℕ). same a b)
+      (ap (λ (n : ℕ). replicate n 1) (let e : suc (end - (i + 1)) ≡ end - i = omega arith in e))
+      (sym (part-cons rows i end 0 h long))
+      ∙ w .so
+
+  pub ones-fail : i < end → end ≤ length rows → (getD rows i 0 ≡ 1 → ⊥) → false ≡ same (replicate (end - from) 1) (take (end - from) (drop from rows))
+  ones-fail h long n =
+      sym (and-fails-first (same (replicate (end - (i + 1)) 1) (take (end - (i + 1)) (drop (i + 1) rows))) (ne-eqb 1 (getD rows i 0) (λ e. n (sym e))))
+      ∙ ones-turn h long
+
+  pub ones-on : i < end → end ≤ length rows → getD rows i 0 ≡ 1 → Ones rows from end (i + 1)
+  ones-on h long e =
+      record {
+        after = omega (arith, w .after);
+        within = omega arith;
+        so =
+            sym (and-passed (same (replicate (end - (i + 1)) 1) (take (end - (i + 1)) (drop (i + 1) rows))) (eq-eqb 1 (getD rows i 0) (sym e)))
+            ∙ ones-turn h long;
+      }
+
+  pub ones-done : end ≤ i → true ≡ same (replicate (end - from) 1) (take (end - from) (drop from rows))
+  unfolding same
+  ones-done h =
+      ap₂ (λ (a b : List ℕ). same a b)
+      (ap (λ (n : ℕ). replicate n 1) (let e : 0 ≡ end - i = omega arith in e))
+      (sym (part-none rows i end h))
+      ∙ w .so
+
+-- a leaf's text: the bytes from i up to the end are still to be seen
+pub record Reading (ps text : List ℕ) (from end i : ℕ) : Type 0 where
+  pub after : from ≤ i
+  pub within : i ≤ end
+  pub so : leafText ps (take (end - i) (drop i text)) ≡ leafText ps (take (end - from) (drop from text))
+
+pub reading-begins : {ps text : List ℕ} {from end : ℕ} → from ≤ end → Reading ps text from end from
+reading-begins h = record { after = omega arith; within = h; so = refl }
+
+module _ {ps text : List ℕ} {from end i : ℕ} (w : Reading ps text from end i) where
+  reading-turn : i < end → end ≤ length text
+      → (leafByte ps (getD text i 0) && leafText ps (take (end - (i + 1)) (drop (i + 1) text))) ≡ leafText ps (take (end - from) (drop from text))
+  unfolding leafText leafByte
+  reading-turn h long = ap (leafText ps) (sym (part-cons text i end 0 h long)) ∙ w .so
+
+  pub reading-fails : i < end → end ≤ length text → leafByte ps (getD text i 0) ≡ false → false ≡ leafText ps (take (end - from) (drop from text))
+  reading-fails h long e = sym (and-fails-first (leafText ps (take (end - (i + 1)) (drop (i + 1) text))) e) ∙ reading-turn h long
+
+  pub reading-on : i < end → end ≤ length text → leafByte ps (getD text i 0) ≡ true → Reading ps text from end (i + 1)
+  reading-on h long e =
+      record {
+        after = omega (arith, w .after);
+        within = omega arith;
+        so = sym (and-passed (leafText ps (take (end - (i + 1)) (drop (i + 1) text))) e) ∙ reading-turn h long;
+      }
+
+  pub reading-done : end ≤ i → true ≡ leafText ps (take (end - from) (drop from text))
+  unfolding leafText
+  reading-done h = ap (leafText ps) (sym (part-none text i end h)) ∙ w .so
+
+-- a byte of a leaf's text
+pub byte-low : (ps : List ℕ) (b : ℕ) → b < 32 → false ≡ leafByte ps b
+unfolding leafByte
+byte-low ps b h = sym (and-fails-first (not (among ps b)) (lt-leb 32 b h))
+
+pub byte-mark : (ps : List ℕ) (b k : ℕ) → k < length ps → b ≡ getD ps k 0 → false ≡ leafByte ps b
+unfolding leafByte
+byte-mark ps b k h e = sym (and-fails-second (leb 32 b) (ap not (among-at ps b k h e)))
+
+pub byte-plain : (s : Separators) (b : ℕ) → 32 ≤ b → (b ≡ s .field → ⊥) → (b ≡ s .repeater → ⊥) → (b ≡ s .subfield → ⊥)
+    → not (eqb b (s .subsubfield)) ≡ leafByte (splitting s) b
+unfolding leafByte splitting among
+byte-plain s b h f r u =
+    sym (
+    and-passed (not (among (splitting s) b)) (le-leb 32 b h)
+    ∙ ap not
+    (among-miss (s .field) (s .repeater ∷ s .subfield ∷ s .subsubfield ∷ []) b (ne-eqb b (s .field) f)
+    ∙ among-miss (s .repeater) (s .subfield ∷ s .subsubfield ∷ []) b (ne-eqb b (s .repeater) r)
+    ∙ among-miss (s .subfield) (s .subsubfield ∷ []) b (ne-eqb b (s .subfield) u)
+    ∙ only (eqb b (s .subsubfield)))
+    )
+  where
+    only : (t : Bool) → elim t [ true ↦ true | false ↦ false ] ≡ t
+    only true = refl
+    only false = refl

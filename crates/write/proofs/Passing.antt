@@ -1,0 +1,184 @@
+-- The tests that the code makes are passed exactly where the table is sound row by row.
+-- Assumes nothing.
+use mathlib.Core.Bool.{Bool, true, false, not, _&&_}
+use mathlib.Core.List.{List, [], _∷_, map, head-eq-of-cons-eq, tail-eq-of-cons-eq}
+use mathlib.Core.Logic.{_⊎_, inl, inr}
+use mathlib.Core.Path.{_≡_, refl, sym, ap, ap₂, _∙_, subst}
+use Prim.Native.Nat.{ℕ, zero, suc, _+_, _-_, _*_, _≤_, _<_}
+use native.Mathlib.Omega.{arith}
+use lib.Dec.{leb, eqb}
+use lib.ListN.{length, drop, getD, drop-of-length-le}
+use borrow.Author.Tests.{eqb-true, eqb-false, eq-eqb, ne-eqb, leb-true, le-leb, not-true}
+use Rattle.laws.specs.Every.{All, none, also}
+use Rattle.laws.specs.Lists.{same}
+use Rattle.laws.specs.Sums.{sumOf}
+use Rattle.laws.specs.Tables.{values}
+use Rattle.laws.proofs.Cases.{less-or-not}
+use Rattle.laws.proofs.Lists.{same-equal, same-self}
+use Rattle.laws.proofs.Tests.{never-both, and-first, and-second, and-both}
+use Rattle.form.specs.declared.limits.Limits.{Limits}
+use Rattle.form.specs.declared.separators.Separators.{Separators}
+use Rattle.form.specs.Header.{allAllowed, different, five, splitting}
+use Rattle.order.specs.Place.{misplaced}
+use Rattle.order.specs.Owners.{owners}
+use Rattle.table.specs.Leaves.{Leaf}
+use Rattle.table.specs.Flat.{leaf}
+use Rattle.table.specs.Rows.{Table, segmentRowSize, segmentRowsFrom}
+use Rattle.table.specs.Back.{leafAt, leavesOf, separatorsIn}
+use Rattle.table.specs.BySegment.{bySegment, kindAmong, contextAmong, writtenBytes}
+use Rattle.table.specs.RowTests.{endToEnd, goOnFrom, rowsStated}
+use Rattle.table.proofs.SegmentRows.{RowIs, row-states}
+use Rattle.write.specs.Local.{HeaderRows, KindRows, FewRows, groupsOf, kindsAmong, thirdPlace}
+use Rattle.write.specs.RowByRow.{Sized, RowByRow}
+use Rattle.write.specs.Tests.{leavesFrom, separatorsAt, headerLeavesAt, rowStates, groupsStated, kindColumn, ownerColumn, soundLeaves, inOrder}
+
+-- segment rows against their columns
+module _ (segs : List ℕ) where
+  abbrev kindIn : ℕ → ℕ
+  kindIn i = getD segs (i * segmentRowSize) 0
+
+  abbrev ownerIn : ℕ → ℕ
+  ownerIn i = getD segs (i * segmentRowSize + 1) 0
+
+  pub record Stated (i n first : ℕ) (groups : List (List Leaf)) : Type 0 where
+    pub kinds : values kindIn i n ≡ map kindAmong groups
+    pub known : All (λ (k : ℕ). k ≡ 0 → ⊥) (map kindAmong groups)
+    pub rows : drop (i * segmentRowSize) segs ≡ segmentRowsFrom first (map kindAmong groups) (values ownerIn i n) groups
+
+  pub stated-rows : (i n first : ℕ) (groups : List (List Leaf)) → length segs ≡ (i + n) * segmentRowSize → groupsStated segs i n first groups ≡ true
+      → Stated i n first groups
+  unfolding groupsStated values segmentRowsFrom rowStates
+  stated-rows i zero first [] long h = record { kinds = refl; known = none; rows = drop-of-length-le segs {i = i * segmentRowSize} (omega arith) }
+  stated-rows i zero first (g ∷ gs) long h = absurd (never-both h refl)
+  stated-rows i (suc n) first [] long h = absurd (never-both h refl)
+  stated-rows i (suc n) first (g ∷ gs) long h =
+      let a = not (eqb (kindAmong g) 0) in
+      let b = eqb (kindIn i) (kindAmong g) in
+      let d = eqb (getD segs (i * segmentRowSize + 2) 0) first in
+      let e = eqb (getD segs (i * segmentRowSize + 3) 0) (length g) in
+      let later = groupsStated segs (suc i) n (first + length g) gs in
+      let r = and-first (a && b && d && e) later h in
+      let abd = and-first (a && b && d) e r in
+      let ab = and-first (a && b) d abd in
+      let ih = stated-rows (suc i) n (first + length g) gs (omega arith) (and-second (a && b && d && e) later h) in
+      let k = eqb-true (kindIn i) (kindAmong g) (and-second a b ab) in
+      record {
+        kinds = ap₂ (λ (x : ℕ) (s : List ℕ). x ∷ s) k (ih .kinds);
+        known = also (eqb-false (kindAmong g) 0 (not-true (eqb (kindAmong g) 0) (and-first a b ab))) (ih .known);
+        rows =
+            row-states segs i (omega arith) (kindAmong g) (ownerIn i) first (length g)
+            (segmentRowsFrom (first + length g) (map kindAmong gs) (values ownerIn (suc i) n) gs) .1 (
+              record {
+                kind-is = k;
+                owner-is = refl;
+                first-is = eqb-true (getD segs (i * segmentRowSize + 2) 0) first (and-second (a && b) d abd);
+                count-is = eqb-true (getD segs (i * segmentRowSize + 3) 0) (length g) (and-second (a && b && d) e r);
+              },
+              ih .rows,
+            );
+      }
+
+  pub record Again (i n first : ℕ) (groups : List (List Leaf)) (os : List ℕ) : Type 0 where
+    pub stated : groupsStated segs i n first groups ≡ true
+    pub owners-are : values ownerIn i n ≡ os
+    pub kinds-are : values kindIn i n ≡ map kindAmong groups
+
+  pub rows-again : (i n first : ℕ) (groups : List (List Leaf)) (os : List ℕ) → length segs ≡ (i + n) * segmentRowSize → length groups ≡ n
+      → All (λ (k : ℕ). k ≡ 0 → ⊥) (map kindAmong groups) → length os ≡ n
+      → drop (i * segmentRowSize) segs ≡ segmentRowsFrom first (map kindAmong groups) os groups → Again i n first groups os
+  unfolding groupsStated values segmentRowsFrom rowStates
+  rows-again i zero first [] [] long same-many known fit e = record { stated = refl; owners-are = refl; kinds-are = refl }
+  rows-again i zero first [] (o ∷ os) long same-many known fit e = absurd (omega arith)
+  rows-again i zero first (g ∷ gs) os long same-many known fit e = absurd (omega arith)
+  rows-again i (suc n) first [] os long same-many known fit e = absurd (omega arith)
+  rows-again i (suc n) first (g ∷ gs) [] long same-many known fit e = absurd (omega arith)
+  rows-again i (suc n) first (g ∷ gs) (o ∷ os) long same-many (also k ks) fit e =
+      let w = row-states segs i (omega arith) (kindAmong g) o first (length g) (segmentRowsFrom (first + length g) (map kindAmong gs) os gs) .0 e in
+      let ih = rows-again (suc i) n (first + length g) gs os (omega arith) (omega arith) ks (omega arith) (w .1) in
+      record {
+        stated =
+            and-both
+            (and-both
+            (and-both (and-both (ap not (ne-eqb (kindAmong g) 0 k)) (eq-eqb (kindIn i) (kindAmong g) (w .0 .kind-is)))
+            (eq-eqb (getD segs (i * segmentRowSize + 2) 0) first (w .0 .first-is)))
+            (eq-eqb (getD segs (i * segmentRowSize + 3) 0) (length g) (w .0 .count-is)))
+            (ih .stated);
+        owners-are = ap₂ (λ (x : ℕ) (s : List ℕ). x ∷ s) (w .0 .owner-is) (ih .owners-are);
+        kinds-are = ap₂ (λ (x : ℕ) (s : List ℕ). x ∷ s) (w .0 .kind-is) (ih .kinds-are);
+      }
+
+-- the leaves after the header's
+drop-two : (rows text : List ℕ) (n : ℕ) → drop 2 (values (leafAt rows text) 0 n) ≡ leavesFrom rows text 2 n
+unfolding values
+drop-two rows text zero = refl
+drop-two rows text (suc zero) = refl
+drop-two rows text (suc (suc n)) = ap (values (leafAt rows text) 2) (let e : n ≡ suc (suc n) - 2 = omega arith in e)
+
+module _ (t : Table) where
+  abbrev seps : Separators
+  seps = separatorsAt (t .card .separator) (t .leafRows) (t .text)
+
+  abbrev ruled : Bool
+  ruled = allAllowed (five seps) && different (five seps)
+
+  abbrev goes : Bool
+  goes = goOnFrom (splitting seps) thirdPlace (leavesFrom (t .leafRows) (t .text) 2 (t .card .leaves))
+
+  -- the leaf rows
+  pub sound-header : soundLeaves (t .card .separator) (t .leafRows) (t .text) (t .card .leaves) ≡ true → HeaderRows t
+  unfolding soundLeaves headerLeavesAt separatorsIn separatorsAt
+  sound-header h =
+      let hr = and-first (headerLeavesAt (t .leafRows) (t .text) && ruled) goes h in
+      let head = and-first (headerLeavesAt (t .leafRows) (t .text)) ruled hr in
+      let rule = and-second (headerLeavesAt (t .leafRows) (t .text)) ruled hr in
+      let a = same (leafAt (t .leafRows) (t .text) 0 .place) (1 ∷ 1 ∷ 1 ∷ 1 ∷ 1 ∷ []) in
+      let b = same (leafAt (t .leafRows) (t .text) 0 .text) (72 ∷ []) in
+      let d = same (leafAt (t .leafRows) (t .text) 1 .place) (1 ∷ 2 ∷ 1 ∷ 1 ∷ 1 ∷ []) in
+      let e = eqb (length (leafAt (t .leafRows) (t .text) 1 .text)) 4 in
+      let abd = and-first (a && b && d) e head in
+      let ab = and-first (a && b) d abd in
+      record {
+        allowed = and-first (allAllowed (five seps)) (different (five seps)) rule;
+        distinct = and-second (allAllowed (five seps)) (different (five seps)) rule;
+        first =
+            ap₂ (λ (p q : List ℕ). leaf p q) (same-equal (leafAt (t .leafRows) (t .text) 0 .place) (1 ∷ 1 ∷ 1 ∷ 1 ∷ 1 ∷ []) (and-first a b ab))
+            (same-equal (leafAt (t .leafRows) (t .text) 0 .text) (72 ∷ []) (and-second a b ab));
+        second = same-equal (leafAt (t .leafRows) (t .text) 1 .place) (1 ∷ 2 ∷ 1 ∷ 1 ∷ 1 ∷ []) (and-second (a && b) d abd);
+        four = eqb-true (length (leafAt (t .leafRows) (t .text) 1 .text)) 4 (and-second (a && b && d) e head);
+      }
+
+  same-of : (s u : List ℕ) → s ≡ u → same s u ≡ true
+  same-of s u e = subst (λ (v : List ℕ). same s v ≡ true) e (same-self s)
+
+  pub header-sound : HeaderRows t → goOnFrom (splitting (separatorsIn t)) thirdPlace (drop 2 (leavesOf t)) ≡ true
+      → soundLeaves (t .card .separator) (t .leafRows) (t .text) (t .card .leaves) ≡ true
+  unfolding soundLeaves headerLeavesAt separatorsIn separatorsAt leavesOf
+  header-sound w o =
+      and-both
+      (and-both
+      (and-both
+      (and-both
+      (and-both (same-of (leafAt (t .leafRows) (t .text) 0 .place) (1 ∷ 1 ∷ 1 ∷ 1 ∷ 1 ∷ []) (ap (λ (l : Leaf). l .place) (w .first)))
+      (same-of (leafAt (t .leafRows) (t .text) 0 .text) (72 ∷ []) (ap (λ (l : Leaf). l .text) (w .first))))
+      (same-of (leafAt (t .leafRows) (t .text) 1 .place) (1 ∷ 2 ∷ 1 ∷ 1 ∷ 1 ∷ []) (w .second)))
+      (eq-eqb (length (leafAt (t .leafRows) (t .text) 1 .text)) 4 (w .four)))
+      (and-both (w .allowed) (w .distinct)))
+      (ap (goOnFrom (splitting seps) thirdPlace) (sym (drop-two (t .leafRows) (t .text) (t .card .leaves))) ∙ o)
+
+  pub sound-others : soundLeaves (t .card .separator) (t .leafRows) (t .text) (t .card .leaves) ≡ true
+      → goOnFrom (splitting (separatorsIn t)) thirdPlace (drop 2 (leavesOf t)) ≡ true
+  unfolding soundLeaves separatorsIn separatorsAt leavesOf
+  sound-others h =
+      ap (goOnFrom (splitting seps) thirdPlace) (drop-two (t .leafRows) (t .text) (t .card .leaves))
+      ∙ and-second (headerLeavesAt (t .leafRows) (t .text) && ruled) goes h
+
+  pub three-leaves : goOnFrom (splitting (separatorsIn t)) thirdPlace (drop 2 (leavesOf t)) ≡ true → 3 ≤ t .card .leaves
+  unfolding goOnFrom leavesOf values
+  three-leaves o = go (less-or-not (t .card .leaves) 3)
+    where
+      go : (t .card .leaves < 3) ⊎ (3 ≤ t .card .leaves) → 3 ≤ t .card .leaves
+      go (inr h) = h
+      go (inl h) =
+          absurd (never-both o
+          (ap (goOnFrom (splitting (separatorsIn t)) thirdPlace)
+          (drop-two (t .leafRows) (t .text) (t .card .leaves) ∙ ap (values (leafAt (t .leafRows) (t .text)) 2) (let e : t .card .leaves - 2 ≡ 0 = omega arith in e))))

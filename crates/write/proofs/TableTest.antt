@@ -1,0 +1,218 @@
+-- The table test as the code makes it: its tests are passed exactly where some message reads to the table.
+-- Assumes nothing.
+use mathlib.Core.Bool.{Bool, true, false, not, _&&_}
+use mathlib.Core.List.{List, [], _∷_, map}
+use mathlib.Core.Path.{_≡_, refl, sym, ap, ap₂, _∙_, subst}
+use Prim.Native.Nat.{ℕ, zero, suc, _+_, _-_, _*_, _≤_, _<_}
+use native.Mathlib.Nat.{not-suc-le-zero, le-of-suc-le-suc}
+use native.Mathlib.Omega.{arith}
+use lib.Dec.{leb, eqb}
+use lib.ListN.{length, drop, getD, length-map}
+use borrow.Author.Tests.{eqb-true, eqb-false, eq-eqb, ne-eqb, leb-true, le-leb, not-true}
+use Rattle.laws.specs.Lists.{same}
+use Rattle.laws.specs.Sums.{sumOf}
+use Rattle.laws.specs.Tables.{values}
+use Rattle.laws.proofs.Lists.{same-equal, same-self}
+use Rattle.laws.proofs.Tables.{length-values, getD-values-zero}
+use Rattle.laws.proofs.Tests.{Tested, passed, failed, tested, never-both, and-first, and-second, and-both}
+use Rattle.form.specs.declared.limits.Limits.{Limits}
+use Rattle.form.specs.Limits.{Lawful}
+use Rattle.form.specs.Names.{kindNames, kindOf}
+use Rattle.form.proofs.Names.{kind-within}
+use Rattle.table.proofs.FieldNames.{number-one, number-more, number-later}
+use Rattle.order.specs.Place.{misplaced}
+use Rattle.order.specs.Owners.{owners}
+use Rattle.order.proofs.Owner.{length-owners}
+use Rattle.table.specs.Leaves.{Leaf}
+use Rattle.table.specs.Rows.{Table, segmentRowSize, leafRowSize, segmentRowsFrom}
+use Rattle.table.specs.Back.{leafAt, leavesOf}
+use Rattle.table.specs.BySegment.{bySegment, fieldOf, goesOn, numberOfField, kindAmong, contextAmong, writtenBytes}
+use Rattle.table.specs.RowTests.{endToEnd}
+use Rattle.table.proofs.EndToEnd.{ends-start, ends-later, ends-within}
+use Rattle.table.proofs.SegmentRows.{owners-stated}
+use Rattle.write.specs.Local.{groupsOf, kindsAmong}
+use Rattle.write.specs.RowByRow.{Sized, RowByRow}
+use Rattle.write.specs.Tests.{InText, KindsStated, groupsStated, kindColumn, ownerColumn, soundLeaves, inOrder}
+use Rattle.write.specs.Writing.{readsBack}
+use Rattle.write.proofs.RowByRow.{row-by-row, rows-local}
+use Rattle.write.proofs.Passing.{Stated, stated-rows, Again, rows-again, sound-header, header-sound, sound-others, three-leaves}
+
+-- rows that lie end to end state parts of the text
+pub fits-from : (rows : List ℕ) (finish i n start : ℕ) → endToEnd rows finish i n start ≡ true → (k : ℕ) → k < n
+    → getD rows ((i + k) * leafRowSize + 5) 0 + getD rows ((i + k) * leafRowSize + 6) 0 ≤ finish
+fits-from rows finish i zero start h k l = absurd (not-suc-le-zero l)
+fits-from rows finish i (suc n) start h zero l =
+    subst (λ (j : ℕ). getD rows (j * leafRowSize + 5) 0 + getD rows (j * leafRowSize + 6) 0 ≤ finish) (let e : i ≡ i + 0 = omega arith in e)
+    (omega (
+      arith,
+      ends-start rows finish i n start h,
+      ends-within rows finish (suc i) n (start + getD rows (i * leafRowSize + 6) 0) (ends-later rows finish i n start h),
+    ))
+fits-from rows finish i (suc n) start h (suc k) l =
+    subst (λ (j : ℕ). getD rows (j * leafRowSize + 5) 0 + getD rows (j * leafRowSize + 6) 0 ≤ finish) (let e : suc i + k ≡ i + suc k = omega arith in e)
+    (fits-from rows finish (suc i) n (start + getD rows (i * leafRowSize + 6) 0) (ends-later rows finish i n start h) k (le-of-suc-le-suc l))
+
+pub laid-in-text : (rows text : List ℕ) (count finish : ℕ) → length rows ≡ count * leafRowSize → count ≤ 65535 → length text ≡ finish
+    → endToEnd rows finish 0 count 0 ≡ true → InText rows text count
+laid-in-text rows text count finish sized few e h =
+    record {
+      sized = sized;
+      few = few;
+      fits =
+          λ k l.
+          subst (λ (j : ℕ). getD rows (j * leafRowSize + 5) 0 + getD rows (j * leafRowSize + 6) 0 ≤ length text) (let q : 0 + k ≡ k = omega arith in q)
+          (omega (arith, fits-from rows finish 0 count 0 h k l));
+    }
+
+-- every test of the code
+pub record Passed (L : Limits) (levels : ℕ → ℕ → ℕ) (t : Table) : Type 0 where
+  pub three : 3 ≤ t .card .leaves
+  pub laid : endToEnd (t .leafRows) (t .card .text) 0 (t .card .leaves) 0 ≡ true
+  pub sound : soundLeaves (t .card .separator) (t .leafRows) (t .text) (t .card .leaves) ≡ true
+  pub grouped : groupsStated (t .segmentRows) 0 (t .card .segments) 1 (bySegment (values (leafAt (t .leafRows) (t .text)) 0 (t .card .leaves))) ≡ true
+  pub owned : same (ownerColumn (t .segmentRows) (t .card .segments))
+      (owners (levels (t .card .context)) (kindColumn (t .segmentRows) (t .card .segments))) ≡ true
+  pub ordered : inOrder (t .card .context) (t .segmentRows) (t .card .segments) (t .leafRows) (t .text) (t .card .leaves) ≡ true
+  pub short : leb (sumOf (writtenBytes L) (bySegment (values (leafAt (t .leafRows) (t .text)) 0 (t .card .leaves)))) (L .bytes) ≡ true
+
+same-of : (s u : List ℕ) → s ≡ u → same s u ≡ true
+same-of s u e = subst (λ (v : List ℕ). same s v ≡ true) e (same-self s)
+
+module _ (L : Limits) (levels : ℕ → ℕ → ℕ) (t : Table) (sized : Sized t) where
+  abbrev lv : ℕ → ℕ
+  lv = levels (t .card .context)
+
+  abbrev groups : List (List Leaf)
+  groups = bySegment (values (leafAt (t .leafRows) (t .text)) 0 (t .card .leaves))
+
+  abbrev kinds : List ℕ
+  kinds = map kindAmong groups
+
+  abbrev named : ℕ
+  named = contextAmong groups
+
+  pub rows-passed : RowByRow L levels t → Passed L levels t
+  unfolding kindsAmong groupsOf leavesOf kindColumn ownerColumn inOrder
+  rows-passed w =
+      record {
+        three = three-leaves t (w .others);
+        laid = w .laid;
+        sound = header-sound t (w .header) (w .others);
+        grouped = again .stated;
+        owned =
+            same-of (ownerColumn (t .segmentRows) (t .card .segments)) (owners lv (kindColumn (t .segmentRows) (t .card .segments)))
+            (again .owners-are ∙ ap (owners lv) (sym (again .kinds-are)));
+        ordered =
+            and-both (and-both (ap not (ne-eqb (t .card .context) 0 (w .kinds .named))) (eq-eqb named (t .card .context) (sym (w .kinds .context))))
+            (eq-eqb (misplaced (t .card .context) (kindColumn (t .segmentRows) (t .card .segments))) 0
+            (ap (misplaced (t .card .context)) (again .kinds-are) ∙ w .kinds .ordered));
+        short = le-leb (sumOf (writtenBytes L) groups) (L .bytes) (w .few .bytes);
+      }
+    where
+      many : t .card .segments ≡ length groups
+      many = rows-local sized w .segmentCount
+
+      again : Again (t .segmentRows) 0 (t .card .segments) 1 groups (owners lv kinds)
+      again =
+          rows-again (t .segmentRows) 0 (t .card .segments) 1 groups (owners lv kinds) (omega (arith, sized .segmentRows)) (sym many) (w .kinds .known)
+          (length-owners lv kinds ∙ length-map groups kindAmong ∙ sym many)
+          (w .stated ∙ sym (owners-stated lv groups))
+
+  pub passed-rows : t .card .segments ≤ L .segments → t .card .leaves ≤ L .leaves → Passed L levels t → RowByRow L levels t
+  unfolding kindsAmong groupsOf leavesOf kindColumn ownerColumn inOrder
+  passed-rows few-segments few-leaves w =
+      record {
+        header = sound-header t (w .sound);
+        others = sound-others t (w .sound);
+        laid = w .laid;
+        kinds =
+            record {
+              known = st .known;
+              context = sym (eqb-true named (t .card .context) (and-second a b ab));
+              named = eqb-false (t .card .context) 0 (not-true (eqb (t .card .context) 0) (and-first a b ab));
+              ordered = ap (misplaced (t .card .context)) (sym (st .kinds)) ∙ eqb-true (misplaced (t .card .context) (kindColumn (t .segmentRows) (t .card .segments))) 0 (and-second (a && b) d (w .ordered));
+            };
+        stated =
+            st .rows
+            ∙ ap (λ (os : List ℕ). segmentRowsFrom 1 kinds os groups)
+            (same-equal (ownerColumn (t .segmentRows) (t .card .segments)) (owners lv (kindColumn (t .segmentRows) (t .card .segments))) (w .owned)
+            ∙ ap (owners lv) (st .kinds))
+            ∙ owners-stated lv groups;
+        few = record { segments = few-segments; leaves = few-leaves; bytes = leb-true (sumOf (writtenBytes L) groups) (L .bytes) (w .short) };
+      }
+    where
+      st : Stated (t .segmentRows) 0 (t .card .segments) 1 groups
+      st = stated-rows (t .segmentRows) 0 (t .card .segments) 1 groups (omega (arith, sized .segmentRows)) (w .grouped)
+
+      a : Bool
+      a = not (eqb (t .card .context) 0)
+
+      b : Bool
+      b = eqb named (t .card .context)
+
+      d : Bool
+      d = eqb (misplaced (t .card .context) (kindColumn (t .segmentRows) (t .card .segments))) 0
+
+      ab : (a && b) ≡ true
+      ab = and-first (a && b) d (w .ordered)
+
+  -- so the code's answer is the test's
+  pub refused-so : Lawful L → (Passed L levels t → ⊥) → false ≡ readsBack L levels t
+  refused-so lawful n = go (tested (readsBack L levels t))
+    where
+      go : Tested (readsBack L levels t) → false ≡ readsBack L levels t
+      go (passed h) = absurd (n (rows-passed (row-by-row L lawful levels t .0 h .1)))
+      go (failed h) = sym h
+
+  pub accepted-so : Lawful L → t .card .segments ≤ L .segments → t .card .leaves ≤ L .leaves → Passed L levels t → true ≡ readsBack L levels t
+  accepted-so lawful few-segments few-leaves w = sym (row-by-row L lawful levels t .1 (sized, passed-rows few-segments few-leaves w))
+
+-- the kinds that the rows state are kinds
+kind-among-few : (ls : List Leaf) → kindAmong ls ≤ 12
+unfolding kindAmong numberOfField kindOf
+kind-among-few [] = omega arith
+kind-among-few (l ∷ ls) = go (tested (eqb (fieldOf l) 1)) (tested (goesOn 1 ls)) (kind-among-few ls)
+  where
+    go : Tested (eqb (fieldOf l) 1) → Tested (goesOn 1 ls) → numberOfField kindNames 1 ls ≤ 12 → numberOfField kindNames 1 (l ∷ ls) ≤ 12
+    go (passed e) (passed f) ih = subst (λ (n : ℕ). n ≤ 12) (sym (number-more kindNames 1 l ls (eqb-true (fieldOf l) 1 e) f)) (omega arith)
+    go (passed e) (failed f) ih = subst (λ (n : ℕ). n ≤ 12) (sym (number-one kindNames 1 l ls (eqb-true (fieldOf l) 1 e) f)) (kind-within (l .text))
+    go (failed e) g ih = subst (λ (n : ℕ). n ≤ 12) (sym (number-later kindNames 1 l ls (eqb-false (fieldOf l) 1 e))) ih
+
+kinds-few : (groups : List (List Leaf)) (i : ℕ) → getD (map kindAmong groups) i 0 ≤ 12
+kinds-few [] i = omega arith
+kinds-few (g ∷ gs) zero = kind-among-few g
+kinds-few (g ∷ gs) (suc i) = kinds-few gs i
+
+pub grouped-kinds : (segments : List ℕ) (many : ℕ) (groups : List (List Leaf)) → length segments ≡ many * segmentRowSize → many ≤ 65535
+    → groupsStated segments 0 many 1 groups ≡ true → KindsStated segments many
+grouped-kinds segments many groups sized few h =
+    record {
+      sized = sized;
+      few = few;
+      kinds =
+          λ i l.
+          subst (λ (n : ℕ). n ≤ 12)
+          (ap (λ (ks : List ℕ). getD ks i 0) (sym (stated-rows segments 0 many 1 groups (omega arith) h .kinds))
+          ∙ getD-values-zero (λ (k : ℕ). getD segments (k * segmentRowSize) 0) many i 0 l)
+          (kinds-few groups i);
+    }
+
+module _ (L : Limits) (levels : ℕ → ℕ → ℕ) (t : Table) (sized : Sized t) where
+  -- the last test decides where the others are passed
+  pub short-decides : Lawful L → t .card .segments ≤ L .segments → t .card .leaves ≤ L .leaves → 3 ≤ t .card .leaves
+      → endToEnd (t .leafRows) (t .card .text) 0 (t .card .leaves) 0 ≡ true
+      → soundLeaves (t .card .separator) (t .leafRows) (t .text) (t .card .leaves) ≡ true
+      → groupsStated (t .segmentRows) 0 (t .card .segments) 1 (bySegment (values (leafAt (t .leafRows) (t .text)) 0 (t .card .leaves))) ≡ true
+      → same (ownerColumn (t .segmentRows) (t .card .segments)) (owners (levels (t .card .context)) (kindColumn (t .segmentRows) (t .card .segments))) ≡ true
+      → inOrder (t .card .context) (t .segmentRows) (t .card .segments) (t .leafRows) (t .text) (t .card .leaves) ≡ true
+      → leb (sumOf (writtenBytes L) (bySegment (values (leafAt (t .leafRows) (t .text)) 0 (t .card .leaves)))) (L .bytes) ≡ readsBack L levels t
+  short-decides lawful few-segments few-leaves three laid sound grouped owned ordered =
+      go (tested (leb (sumOf (writtenBytes L) (bySegment (values (leafAt (t .leafRows) (t .text)) 0 (t .card .leaves)))) (L .bytes)))
+    where
+      go : Tested (leb (sumOf (writtenBytes L) (bySegment (values (leafAt (t .leafRows) (t .text)) 0 (t .card .leaves)))) (L .bytes))
+          → leb (sumOf (writtenBytes L) (bySegment (values (leafAt (t .leafRows) (t .text)) 0 (t .card .leaves)))) (L .bytes) ≡ readsBack L levels t
+      go (passed h) =
+          h
+          ∙ accepted-so L levels t sized lawful few-segments few-leaves
+          (record { three = three; laid = laid; sound = sound; grouped = grouped; owned = owned; ordered = ordered; short = h })
+      go (failed h) = h ∙ refused-so L levels t sized lawful (λ w. never-both (w .short) h)

@@ -1,0 +1,136 @@
+-- The table test as loops make it (models that antt computes): each is a test of a card, of the counted rows as plain lists of numbers, and of
+-- the counted text.
+-- Assumes nothing.
+use mathlib.Core.Bool.{Bool, true, false, not, _&&_, cond}
+use mathlib.Core.List.{List, [], _∷_}
+use mathlib.Core.Path.{_≡_}
+use Prim.Native.Nat.{ℕ, zero, suc, _+_, _-_, _*_, _≤_, _<_}
+use lib.Dec.{leb, ltb, eqb}
+use lib.ListN.{length, getD}
+use Rattle.laws.specs.Lists.{same, among}
+use Rattle.laws.specs.Tables.{values}
+use Rattle.form.specs.declared.limits.Limits.{Limits}
+use Rattle.form.specs.declared.separators.Separators.{Separators}
+use Rattle.form.specs.Header.{allAllowed, different, five, splitting}
+use Rattle.form.specs.Names.{numberAmong}
+use Rattle.line.specs.Lines.{space}
+use Rattle.table.specs.declared.Card.{Card}
+use Rattle.table.specs.Leaves.{Leaf}
+use Rattle.form.specs.Limits.{Lawful}
+use Rattle.write.specs.RowByRow.{Sized}
+use Rattle.table.specs.Rows.{Table, segmentRowSize, leafRowSize}
+use Rattle.table.specs.Back.{leafAt}
+use Rattle.order.specs.Place.{misplaced}
+use Rattle.table.specs.BySegment.{bySegment, kindAmong, contextAmong, numberOfField}
+use Rattle.table.specs.RowTests.{goOnFrom}
+use Rattle.write.specs.Local.{thirdPlace}
+
+-- limits whose numbers fit the rows' numbers, so that no sum wraps
+pub record Small (L : Limits) : Type 0 where
+  pub segments : L .segments ≤ 65535
+  pub leaves : L .leaves ≤ 65535
+  pub bytes : L .bytes ≤ 4294967295
+
+-- counts within the limits and within lent buffers of some lengths
+unfoldable pub countsWithin : Limits → Card → ℕ → ℕ → ℕ → Bool
+countsWithin L c segmentRows leafRows text =
+    leb (c .segments) (L .segments) && leb (c .leaves) (L .leaves) && leb (c .text) (L .bytes)
+    && (leb (c .segments * segmentRowSize) segmentRows && leb (c .leaves * leafRowSize) leafRows && leb (c .text) text)
+
+-- so many leaf rows, each of which states a part of the text
+pub record InText (rows text : List ℕ) (count : ℕ) : Type 0 where
+  pub sized : length rows ≡ count * leafRowSize
+  pub few : count ≤ 65535
+  pub fits : (k : ℕ) → k < count → getD rows (k * leafRowSize + 5) 0 + getD rows (k * leafRowSize + 6) 0 ≤ length text
+
+-- the leaves that the rows from one up to another state
+abbrev pub leavesFrom : List ℕ → List ℕ → ℕ → ℕ → List Leaf
+leavesFrom rows text first end = values (leafAt rows text) first (end - first)
+
+-- the separators that a field separator and the text of the second leaf name
+unfoldable pub separatorsAt : ℕ → List ℕ → List ℕ → Separators
+separatorsAt field rows text =
+    record {
+      field = field;
+      subfield = getD (leafAt rows text 1 .text) 0 0;
+      repeater = getD (leafAt rows text 1 .text) 1 0;
+      escape = getD (leafAt rows text 1 .text) 2 0;
+      subsubfield = getD (leafAt rows text 1 .text) 3 0;
+    }
+
+-- whether a byte may stand in a leaf's text
+unfoldable pub leafByte : List ℕ → ℕ → Bool
+leafByte ps b = leb space b && not (among ps b)
+
+-- whether the first two leaf rows are a header's: `H`, and four bytes
+unfoldable pub headerLeavesAt : List ℕ → List ℕ → Bool
+headerLeavesAt rows text =
+    same (leafAt rows text 0 .place) (1 ∷ 1 ∷ 1 ∷ 1 ∷ 1 ∷ [])
+    && same (leafAt rows text 0 .text) (72 ∷ [])
+    && same (leafAt rows text 1 .place) (1 ∷ 2 ∷ 1 ∷ 1 ∷ 1 ∷ [])
+    && eqb (length (leafAt rows text 1 .text)) 4
+
+-- the leaf after the last one of the segment that a leaf stands in
+pub record SegmentEnd (rows : List ℕ) (count first end : ℕ) : Type 0 where
+  pub from : first < end
+  pub to : end ≤ count
+  pub within : (k : ℕ) → first ≤ k → k < end → getD rows (k * leafRowSize) 0 ≡ getD rows (first * leafRowSize) 0
+  pub other : end < count → getD rows (end * leafRowSize) 0 ≡ getD rows (first * leafRowSize) 0 → ⊥
+
+-- the one leaf of a field among some leaves, or their end where the field is missing or is more than one leaf
+pub record FieldLeaf (rows : List ℕ) (field first end at : ℕ) : Type 0 where
+  pub from : first ≤ at
+  pub to : at ≤ end
+  pub number : (names : List (List ℕ)) (text : List ℕ)
+      → numberOfField names field (leavesFrom rows text first end) ≡ cond (ltb at end) (numberAmong names (leafAt rows text at .text)) 0
+
+-- whether segment row i states a known kind, a first leaf and a leaf count
+unfoldable pub rowStates : List ℕ → ℕ → ℕ → ℕ → ℕ → Bool
+rowStates rows i kind first count =
+    not (eqb kind 0)
+    && eqb (getD rows (i * segmentRowSize) 0) kind
+    && eqb (getD rows (i * segmentRowSize + 2) 0) first
+    && eqb (getD rows (i * segmentRowSize + 3) 0) count
+
+-- whether the n segment rows from row i on state the kinds, the first leaves and the leaf counts of some segments, owners aside
+unfoldable pub groupsStated : List ℕ → ℕ → ℕ → ℕ → List (List Leaf) → Bool
+groupsStated rows i zero first [] = true
+groupsStated rows i zero first (g ∷ gs) = false
+groupsStated rows i (suc n) first [] = false
+groupsStated rows i (suc n) first (g ∷ gs) = rowStates rows i (kindAmong g) first (length g) && groupsStated rows (suc i) n (first + length g) gs
+
+-- the kinds and the owners that segment rows state
+unfoldable pub kindColumn : List ℕ → ℕ → List ℕ
+kindColumn rows n = values (λ (i : ℕ). getD rows (i * segmentRowSize) 0) 0 n
+
+unfoldable pub ownerColumn : List ℕ → ℕ → List ℕ
+ownerColumn rows n = values (λ (i : ℕ). getD rows (i * segmentRowSize + 1) 0) 0 n
+
+-- segment rows that state kinds
+pub record KindsStated (rows : List ℕ) (n : ℕ) : Type 0 where
+  pub sized : length rows ≡ n * segmentRowSize
+  pub few : n ≤ 65535
+  pub kinds : (i : ℕ) → i < n → getD rows (i * segmentRowSize) 0 ≤ 12
+
+-- whether the header's rows keep the header rule and the leaf rows after them go on soundly
+unfoldable pub soundLeaves : ℕ → List ℕ → List ℕ → ℕ → Bool
+soundLeaves field rows text count =
+    headerLeavesAt rows text
+    && (allAllowed (five (separatorsAt field rows text)) && different (five (separatorsAt field rows text)))
+    && goOnFrom (splitting (separatorsAt field rows text)) thirdPlace (leavesFrom rows text 2 count)
+
+-- whether field 7.7 names the context and the kinds stand where it allows them
+unfoldable pub inOrder : ℕ → List ℕ → ℕ → List ℕ → List ℕ → ℕ → Bool
+inOrder context segments many rows text count =
+    not (eqb context 0)
+    && eqb (contextAmong (bySegment (values (leafAt rows text) 0 count))) context
+    && eqb (misplaced context (kindColumn segments many)) 0
+
+-- a table of the counted entries, as the table test takes it
+pub record Counted (L : Limits) (levels : ℕ → ℕ → ℕ) (t : Table) : Type 0 where
+  pub lawful : Lawful L
+  pub small : Small L
+  pub low : (c k : ℕ) → levels c k < 8
+  pub sized : Sized t
+  pub segments : t .card .segments ≤ L .segments
+  pub leaves : t .card .leaves ≤ L .leaves

@@ -1,0 +1,216 @@
+// The tests of leaf rows: each row against the one before it, each text by its bytes.
+use form::separators::Separators;
+ghost use mathlib.Core.Bool.{_&&_};
+ghost use mathlib.Core.List.{[], _∷_};
+ghost use mathlib.Core.Path.{_≡_};
+ghost use Prim.Native.Nat.{_+_, _-_, _*_, _≤_, _<_};
+ghost use lib.ListN.{length, take, drop, replicate};
+ghost use Rattle.laws.specs.Lists.{same};
+ghost use Rattle.laws.specs.Tables.{values};
+ghost use Rattle.form.specs.Header.{splitting};
+ghost use Rattle.table.specs.Back.{leafAt};
+ghost use Rattle.table.specs.RowTests.{nextPlace, leafText, endToEnd, goOn, goOnFrom};
+ghost use Rattle.write.specs.Local.{thirdPlace};
+ghost use Rattle.write.specs.Tests.{InText, separatorsAt, leafByte, headerLeavesAt};
+
+// Numbers of a leaf row, and where its start and its length stand.
+pub(crate) const SIZE: usize = 7;
+
+pub(crate) const START: usize = 5;
+
+pub(crate) const LENGTH: usize = 6;
+
+// A row's number as a count.
+pub(crate) fn wide(number: u16) -> usize
+    ensures { λ r. ⌜ (r ≡ number) × (r < 65536) ⌝ }
+{
+    number as usize
+}
+
+// Whether the texts of so many leaf rows lie end to end, from 0 up to `finish`.
+pub(crate) fn end_to_end(rows: &[u16], count: usize, finish: usize) -> bool
+    requires { ⌜ length (now rows) ≡ count * 7 ⌝ }
+    ensures { λ r. ⌜ r ≡ endToEnd (now (rows .entry)) finish 0 count 0 ⌝ }
+{
+    let mut start = 0;
+    let mut i = 0;
+    while i < count {
+        let at = i * SIZE;
+        if wide(rows[at + START]) != start {
+            return false;
+        }
+        start += wide(rows[at + LENGTH]);
+        i += 1;
+    }
+    start == finish
+}
+
+// Whether the numbers from `from` up to `end` are all 1.
+fn all_ones(rows: &[u16], from: usize, end: usize) -> bool
+    requires { ⌜ (from ≤ end) × (end ≤ length (now rows)) ⌝ }
+    ensures { λ r. ⌜ r ≡ same (replicate (end - from) 1) (take (end - from) (drop from (now (rows .entry)))) ⌝ }
+{
+    let mut i = from;
+    while i < end {
+        if rows[i] != 1 {
+            return false;
+        }
+        i += 1;
+    }
+    true
+}
+
+// Whether the place at `to` comes next after the one at `from`: some number is one more, the coarser are the same and the finer are 1.
+fn next_place(rows: &[u16], from: usize, to: usize) -> bool
+    requires { ⌜ (from + 5 ≤ length (now rows)) × (to + 5 ≤ length (now rows)) ⌝ }
+    ensures { λ r. ⌜ r ≡ nextPlace (take 5 (drop from (now (rows .entry)))) (take 5 (drop to (now (rows .entry)))) ⌝ }
+{
+    let mut k = 0;
+    while k < START {
+        let before = wide(rows[from + k]);
+        let after = wide(rows[to + k]);
+        if before != after {
+            if before + 1 != after {
+                return false;
+            }
+            return all_ones(rows, to + k + 1, to + START);
+        }
+        k += 1;
+    }
+    false
+}
+
+// Whether the place at `at` is that of the only leaf of a field of segment 1.
+fn stands_at(rows: &[u16], at: usize, field: u16) -> bool
+    requires { ⌜ at + 5 ≤ length (now rows) ⌝ }
+    ensures { λ r. ⌜ r ≡ same (take 5 (drop at (now (rows .entry)))) (1 ∷ field ∷ 1 ∷ 1 ∷ 1 ∷ []) ⌝ }
+{
+    if rows[at] != 1 {
+        return false;
+    }
+    if rows[at + 1] != field {
+        return false;
+    }
+    if rows[at + 2] != 1 {
+        return false;
+    }
+    if rows[at + 3] != 1 {
+        return false;
+    }
+    rows[at + 4] == 1
+}
+
+// Whether a byte may stand in a leaf's text: not below 32, and none of the four separators that split.
+fn leaf_byte(separators: Separators, b: u8) -> bool
+    ensures { λ r. ⌜ r ≡ leafByte (splitting separators) b ⌝ }
+{
+    if b < b' ' {
+        return false;
+    }
+    if b == separators.field {
+        return false;
+    }
+    if b == separators.repeater {
+        return false;
+    }
+    if b == separators.subfield {
+        return false;
+    }
+    b != separators.subsubfield
+}
+
+// Whether the bytes from `from` up to `end` may be a leaf's text.
+fn leaf_text(separators: Separators, text: &[u8], from: usize, end: usize) -> bool
+    requires { ⌜ (from ≤ end) × (end ≤ length (now text)) ⌝ }
+    ensures { λ r. ⌜ r ≡ leafText (splitting separators) (take (end - from) (drop from (now (text .entry)))) ⌝ }
+{
+    let mut i = from;
+    while i < end {
+        if !leaf_byte(separators, text[i]) {
+            return false;
+        }
+        i += 1;
+    }
+    true
+}
+
+// Whether the text that a leaf row states may be a leaf's.
+fn row_text(separators: Separators, rows: &[u16], text: &[u8], count: usize, i: usize) -> bool
+    requires { ⌜ InText (now rows) (now text) count × (i < count) ⌝ }
+    ensures { λ r. ⌜ r ≡ leafText (splitting separators) (leafAt (now (rows .entry)) (now (text .entry)) i .text) ⌝ }
+{
+    let at = i * SIZE;
+    let start = wide(rows[at + START]);
+    let end = start + wide(rows[at + LENGTH]);
+    leaf_text(separators, text, start, end)
+}
+
+// Whether the leaf rows from the fourth on stand each at the next place, with a leaf's text.
+fn go_on(separators: Separators, rows: &[u16], text: &[u8], count: usize) -> bool
+    requires { ⌜ InText (now rows) (now text) count × (3 ≤ count) ⌝ }
+    ensures { λ r. ⌜ r ≡ goOn (splitting separators) (leafAt (now (rows .entry)) (now (text .entry)) 2 .place)
+        (values (leafAt (now (rows .entry)) (now (text .entry))) 3 (count - 3)) ⌝ }
+{
+    let mut i = 3;
+    while i < count {
+        let at = i * SIZE;
+        if !next_place(rows, at - SIZE, at) {
+            return false;
+        }
+        if !row_text(separators, rows, text, count, i) {
+            return false;
+        }
+        i += 1;
+    }
+    true
+}
+
+// Whether the leaf rows from the third on begin at field 3 of the header and go on soundly.
+pub(crate) fn go_on_from(separators: Separators, rows: &[u16], text: &[u8], count: usize) -> bool
+    requires { ⌜ InText (now rows) (now text) count × (3 ≤ count) ⌝ }
+    ensures { λ r. ⌜ r ≡ goOnFrom (splitting separators) thirdPlace
+        (values (leafAt (now (rows .entry)) (now (text .entry))) 2 (count - 2)) ⌝ }
+{
+    if !stands_at(rows, 2 * SIZE, 3) {
+        return false;
+    }
+    if !row_text(separators, rows, text, count, 2) {
+        return false;
+    }
+    go_on(separators, rows, text, count)
+}
+
+// Whether the first two leaf rows are a header's: `H` in field 1, four bytes in field 2.
+pub(crate) fn header_leaves(rows: &[u16], text: &[u8], count: usize) -> bool
+    requires { ⌜ InText (now rows) (now text) count × (3 ≤ count) ⌝ }
+    ensures { λ r. ⌜ r ≡ headerLeavesAt (now (rows .entry)) (now (text .entry)) ⌝ }
+{
+    if !stands_at(rows, 0, 1) {
+        return false;
+    }
+    if rows[LENGTH] != 1 {
+        return false;
+    }
+    if text[wide(rows[START])] != b'H' {
+        return false;
+    }
+    if !stands_at(rows, SIZE, 2) {
+        return false;
+    }
+    rows[SIZE + LENGTH] == 4
+}
+
+// The separators that the card's field separator and the four bytes of the second leaf name.
+pub(crate) fn separators_at(field: u8, rows: &[u16], text: &[u8], count: usize) -> Separators
+    requires { ⌜ InText (now rows) (now text) count × (3 ≤ count) × (length (leafAt (now rows) (now text) 1 .text) ≡ 4) ⌝ }
+    ensures { λ r. ⌜ r ≡ separatorsAt field (now (rows .entry)) (now (text .entry)) ⌝ }
+{
+    let start = wide(rows[SIZE + START]);
+    Separators {
+        field,
+        subfield: text[start],
+        repeater: text[start + 1],
+        escape: text[start + 2],
+        subsubfield: text[start + 3],
+    }
+}
