@@ -2,11 +2,12 @@
 -- reader, `writing` of the writer, `tellOf` of the watcher), and each proof cites one law. Over any lawful limits and any levels; document
 -- 01's are `form` and `level`.
 -- Assumes nothing.
-use mathlib.Core.Bool.{true}
+use mathlib.Core.Bool.{true, false}
 use mathlib.Core.List.{List, [], _∷_, _++_}
 use mathlib.Core.Logic.{_↔_}
 use mathlib.Core.Path.{_≡_}
 use Prim.Native.Nat.{ℕ, _≤_, _<_}
+use lib.Dec.{ltb}
 use lib.ListN.{length}
 use Rattle.laws.specs.Each.{Each}
 use Rattle.form.specs.declared.limits.Limits.{Limits}
@@ -33,10 +34,10 @@ use Rattle.read.proofs.OnlyOne.{only-one, refused-unchanged}
 use Rattle.read.proofs.Acceptance.{accepted-exactly, Read, accepted-read}
 use Rattle.read.proofs.OwnersColumn.{RowOf, owners-column}
 use Rattle.read.proofs.CutAnyhow.{same-joined}
-use Rattle.write.specs.Writing.{ReadTo, stated, Writing, refuses, writing}
+use Rattle.write.specs.Writing.{ReadTo, stated, Writing, refuses, writes, writing}
 use Rattle.write.proofs.RoundTrip.{round-trip}
 use Rattle.write.proofs.Fewest.{least-bytes, least-lines, lines-short}
-use Rattle.write.proofs.LentTables.{refused-none}
+use Rattle.write.proofs.LentTables.{is-table, table-written-out, refused-none}
 
 module _ (L : Limits) (levels : ℕ → ℕ → ℕ) where
   module _ (message : List ℕ) {text segments leaves : List ℕ} where
@@ -84,6 +85,12 @@ module _ (L : Limits) (levels : ℕ → ℕ → ℕ) where
     pub refused-only-where-none-reads : (l : Lent) (output : ℕ) → writing L levels l output ≡ refuses noTable → withinBuffers l ≡ true
         → ReadTo L levels (counted l) → ⊥
     refused-only-where-none-reads l output e within to = refused-none L lawful levels l output e within to
+
+    -- so the table of every accepted message is written, into an output that is not short
+    pub every-table-is-written : (l : Lent) (output : ℕ) → ltb output (L .bytes) ≡ false → withinBuffers l ≡ true → ReadTo L levels (counted l)
+        → writing L levels l output ≡ writes (written L (counted l)) (length (linesOf L (counted l)))
+    every-table-is-written l output h within to =
+        table-written-out L lawful levels l output h (is-table L lawful levels l .1 (within, to))
 
     -- among all messages that read to a table ours has the fewest bytes, so that 'ours passes the limit' refuses soundly, and lines
     pub fewest-bytes : (room : Room) (message : List ℕ) (t : Table) → reading L levels room message ≡ accepted t
