@@ -155,6 +155,9 @@ module _ (L : Limits) (room : Room) (roomy : short L room ≡ false) where
       none-of-three (ltb (room .text) (L .bytes)) (ltb (room .segmentRows) (L .segments * segmentRowSize))
       (ltb (room .leafRows) (L .leaves * leafRowSize)) roomy
 
+  pub roomy-text : L .bytes ≤ room .text
+  roomy-text = ltb-false (room .text) (L .bytes) (sizes .0)
+
   pub roomy-segments : L .segments * segmentRowSize ≤ room .segmentRows
   roomy-segments = ltb-false (room .segmentRows) (L .segments * segmentRowSize) (sizes .1)
 

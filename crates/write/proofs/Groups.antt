@@ -172,10 +172,10 @@ module _ {segments : List ℕ} {many : ℕ} {rows text : List ℕ} {count i firs
       ∙ ap (λ (n : ℕ). groupsStated segments i n (first + 1) (bySegment (leavesFrom rows text first count))) (let q : 0 ≡ many - i = omega arith in q)
       ∙ w .so
 
--- written bytes: those of the segments of the leaves up to `first` have been counted
+-- written bytes: those of the segments of the leaves up to `first` have been counted; a segment has less than 2^34 of them
 pub record Counting (L : Limits) (rows text : List ℕ) (count first total : ℕ) : Type 0 where
   pub to : first ≤ count
-  pub few : total ≤ L .bytes
+  pub few : total ≤ first * 17179869184
   pub so : total + sumOf (writtenBytes L) (bySegment (leavesFrom rows text first count))
       ≡ sumOf (writtenBytes L) (bySegment (values (leafAt rows text) 0 count))
 
@@ -188,24 +188,19 @@ counting-begins {L} {rows} {text} {count} =
     }
 
 module _ {L : Limits} {rows text : List ℕ} {count first total : ℕ} (w : Counting L rows text count first total) where
-  abbrev sum : ℕ
-  sum = sumOf (writtenBytes L) (bySegment (values (leafAt rows text) 0 count))
+  pub counting-on : {end : ℕ} → SegmentEnd rows count first end → {bytes : ℕ} → bytes ≡ writtenBytes L (leavesFrom rows text first end)
+      → bytes ≤ 17179869184 → Counting L rows text count end (total + bytes)
+  unfolding sumOf
+  counting-on v e h =
+      record {
+        to = v .to;
+        few = omega (arith, w .few, v .from);
+        so = omega (arith, e, w .so, ap (sumOf (writtenBytes L)) (first-segment rows text v));
+      }
 
-  module _ {end : ℕ} (v : SegmentEnd rows count first end) {bytes : ℕ} (e : bytes ≡ writtenBytes L (leavesFrom rows text first end)) where
-    counting-turn : total + bytes + sumOf (writtenBytes L) (bySegment (leavesFrom rows text end count)) ≡ sum
-    unfolding sumOf
-    counting-turn = omega (arith, e, w .so, ap (sumOf (writtenBytes L)) (first-segment rows text v))
-
-    pub counting-over : L .bytes < total + bytes → false ≡ leb sum (L .bytes)
-    counting-over h = sym (lt-leb sum (L .bytes) (omega (arith, counting-turn)))
-
-    pub counting-on : total + bytes ≤ L .bytes → Counting L rows text count end (total + bytes)
-    counting-on h = record { to = v .to; few = h; so = counting-turn }
-
-  pub counting-done : count ≤ first → true ≡ leb sum (L .bytes)
+  pub counting-done : count ≤ first → total ≡ sumOf (writtenBytes L) (bySegment (values (leafAt rows text) 0 count))
   unfolding sumOf bySegment
-  counting-done h =
-      sym (le-leb sum (L .bytes) (omega (arith, w .so, w .few, ap (λ (ls : List Leaf). sumOf (writtenBytes L) (bySegment ls)) (leaves-none rows text first count h))))
+  counting-done h = omega (arith, w .so, ap (λ (ls : List Leaf). sumOf (writtenBytes L) (bySegment ls)) (leaves-none rows text first count h))
 
 -- the bytes of one segment, within what a count holds
 pub few-lines : (L : Limits) → Lawful L → (n : ℕ) → lineCount L n ≤ n + 1

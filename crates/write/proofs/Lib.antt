@@ -21,5 +21,6 @@ pub mod Groups
 pub mod Columns
 pub mod Parts
 pub mod Passing
+pub mod Sizes
 pub mod TableTest
 pub mod LentTest

@@ -172,12 +172,17 @@ module _ {L : Limits} {levels : ℕ → ℕ → ℕ} {t : Table} (lawful : Lawfu
       all-worded (separatorsIn t) (segmentsOf t) (subst Known kinds-are (w .kinds .known))
       (text-leaves (separatorsIn t) all-allowed (segmentsOf t) local-filed .1 (subst AllText text-is (w .bytes)))
 
+  -- the bytes of its segments are those that are written
+  pub local-bytes : sumOf (writtenBytes L) (groupsOf t) ≡ length (written L t)
+  unfolding written linesOf separatorsIn
+  local-bytes = same-bytes t (separatorsIn t) all-allowed (segmentsOf t) local-filed local-leaves L lawful
+
   pub local-accepted : Accepted L levels (stated L) (written L t) t
   unfolding written linesOf separatorsIn
   local-accepted =
       written-accepted {ps = separatorsIn t} {segments = segmentsOf t} lawful all-allowed (different-facts (separatorsIn t) (w .header .distinct)) local-filed local-worded local-judged
       (stated-roomy L)
-      (omega (arith, same-bytes t (separatorsIn t) all-allowed (segmentsOf t) local-filed local-leaves L lawful, w .few .bytes))
+      (omega (arith, local-bytes, w .few .bytes))
 
 -- the table of segments that can be filed and were accepted meets them
 module _ (L : Limits) (lawful : Lawful L) (levels : ℕ → ℕ → ℕ) (ps : Separators) (allowed : AllAllowed ps) (unlike : AllDifferent ps) where

@@ -11,7 +11,7 @@ use Rattle.table.specs.declared.Card.{Card}
 use Rattle.table.specs.Back.{linesOf, written}
 use Rattle.write.specs.declared.Written.{Written}
 use Rattle.table.specs.Lent.{Lent, counted}
-use Rattle.write.specs.Writing.{Writing, refuses, writes, isTable}
+use Rattle.write.specs.Writing.{Writing, refuses, writes, isTable, writing}
 
 -- "number, place, bytes, lines": all zero but the number on a refusal
 unfoldable pub answer : Writing → Written
@@ -26,6 +26,10 @@ outputAfter output (writes bytes lines) = sets output 0 bytes
 -- a lent table
 abbrev pub lent : Card → List ℕ → List ℕ → List ℕ → Lent
 lent card segmentRows leafRows text = record { card = card; segmentRows = segmentRows; leafRows = leafRows; text = text }
+
+-- the bytes that are written for a lent table into an output of the stated size; 0 where it is refused
+unfoldable pub writtenSize : Limits → (ℕ → ℕ → ℕ) → Lent → ℕ
+writtenSize L levels l = answer (writing L levels l (L .bytes)) .bytes
 
 -- what is written for a table, which its segment rows do not change
 unfoldable pub message : Limits → Card → List ℕ → List ℕ → Writing

@@ -14,6 +14,7 @@ mod leaves;
 mod lines;
 mod message;
 mod segment_rows;
+pub mod size;
 pub mod test;
 
 // What comes back: a number, its place, and the bytes and lines written, all zero on a refusal.

@@ -226,20 +226,25 @@ fn segment_bytes(
     bytes + 3 * limits.lines(bytes) - 2
 }
 
-// Whether the bytes that are written for all segments keep to the limit.
-pub(crate) fn short(limits: Limits, rows: &[u16], text: &[u8], count: usize) -> bool
-    requires { ⌜ Lawful limits × Small limits × InText (now rows) (now text) count ⌝ }
-    ensures { λ r. ⌜ r ≡ leb (sumOf (writtenBytes limits) (bySegment (values (leafAt (now (rows .entry)) (now (text .entry))) 0 count))) (limits .bytes) ⌝ }
+// The bytes that are written for all segments.
+pub(crate) fn message_bytes(limits: Limits, rows: &[u16], text: &[u8], count: usize) -> usize
+    requires { ⌜ Lawful limits × InText (now rows) (now text) count ⌝ }
+    ensures { λ r. ⌜ r ≡ sumOf (writtenBytes limits) (bySegment (values (leafAt (now (rows .entry)) (now (text .entry))) 0 count)) ⌝ }
 {
     let mut total = 0;
     let mut first = 0;
     while first < count {
         let end = segment_end(rows, count, first);
         total += segment_bytes(limits, rows, text, count, first, end);
-        if limits.bytes < total {
-            return false;
-        }
         first = end;
     }
-    true
+    total
+}
+
+// Whether they keep to the limit.
+pub(crate) fn short(limits: Limits, rows: &[u16], text: &[u8], count: usize) -> bool
+    requires { ⌜ Lawful limits × InText (now rows) (now text) count ⌝ }
+    ensures { λ r. ⌜ r ≡ leb (sumOf (writtenBytes limits) (bySegment (values (leafAt (now (rows .entry)) (now (text .entry))) 0 count))) (limits .bytes) ⌝ }
+{
+    message_bytes(limits, rows, text, count) <= limits.bytes
 }

@@ -1,79 +1,16 @@
--- `write::segment_rows::short` meets its contract. The loop's invariant: the bytes counted and those of the segments left are all.
+-- `write::segment_rows::short` meets its contract: one comparison.
 -- Assumes nothing.
-use mathlib.Core.Path.{_≡_, sym, ap, _∙_}
-use borrow.Author.Tests.{not-true, not-false}
-use Prim.Native.Nat.{ℕ, _+_, _-_}
-use lib.ListN.{getD}
-use Rattle.write.proofs.Groups.{Counting, counting-begins, counting-over, counting-on, counting-done}
-use native.Mathlib.Omega.{arith}
+use mathlib.Core.Path.{ap}
+use lib.Dec.{leb}
 use borrow.Author.Needs.{needs}
 use Rattle.write.proofs.segment_rows.short.Statement.{statement}
 use Rattle.write.proofs.segment_rows.short.Tie as tie
 
-abbrev Inv-loop : tie.InvT-loop
-Inv-loop limits rows text count total₀ first₀ total first = Counting limits rows text count first total
+message-bytes-requires : tie.Need-message-bytes-requires
+message-bytes-requires c κs = search needs
 
-abbrev μ-loop : tie.MeasureT-loop
-μ-loop limits rows text count total₀ first₀ total first = count - first
-
-loop-holds : tie.Need-loop-holds Inv-loop μ-loop
-loop-holds c = counting-begins
-
-segment-end-requires : tie.Need-segment-end-requires Inv-loop μ-loop
-segment-end-requires c κs =
-    let at-pre = c .before .before .before .before .pre in
-    (at-pre .2 .sized, omega arith)
-
-segment-bytes-requires : tie.Need-segment-bytes-requires Inv-loop μ-loop
-segment-bytes-requires c κs =
-    let at-pre = c .before .before .before .before .before .pre in
-    let at-segment-end = c .segment-end in
-    (at-pre .0, at-pre .2, at-segment-end .ensures .from, at-segment-end .ensures .to)
-
-add-total : tie.Need-add-total Inv-loop μ-loop
-add-total c =
-    let at-loop = c .before .before .before .loop in
-    let at-pre = c .before .before .before .before .before .before .pre in
-    let at-segment-bytes = c .segment-bytes in
-    omega (arith, at-loop .inv .few, at-pre .1 .bytes, at-segment-bytes .ensures .1)
-
-returns : tie.Need-returns Inv-loop μ-loop
-returns c =
-    let at-loop = c .before .before .before .before .before .loop in
-    let at-segment-end = c .before .before .before .segment-end in
-    let at-segment-bytes = c .before .before .segment-bytes in
-    let at-if1 = c .if1 in
-    counting-over (at-loop .inv) (at-segment-end .ensures) (at-segment-bytes .ensures .0) (at-if1 .taken)
-
-loop-less : tie.Need-loop-less Inv-loop μ-loop
-loop-less c =
-    let at-segment-end = c .before .before .before .segment-end in
-    omega (arith, at-segment-end .ensures .from, at-segment-end .ensures .to)
-
-loop-again : tie.Need-loop-again Inv-loop μ-loop
-loop-again c =
-    let at-loop = c .before .before .before .before .before .loop in
-    let at-segment-end = c .before .before .before .segment-end in
-    let at-segment-bytes = c .before .before .segment-bytes in
-    let at-if1 = c .if1 in
-    counting-on (at-loop .inv) (at-segment-end .ensures) (at-segment-bytes .ensures .0) (at-if1 .left)
-
-returns-2 : tie.Need-returns-2 Inv-loop μ-loop
-returns-2 c =
-    let at-loop = c .before .loop in
-    counting-done (at-loop .inv) (omega arith)
+returns : tie.Need-returns
+returns c = ap (λ n. leb n (c .before .before .before .before .args .limits .bytes)) (c .before .message-bytes .ensures)
 
 pub short-spec : {M : Type 1} → statement M
-short-spec =
-    tie.close
-    (tie.spec
-    Inv-loop
-    μ-loop
-    loop-holds
-    segment-end-requires
-    segment-bytes-requires
-    add-total
-    returns
-    loop-less
-    loop-again
-    returns-2)
+short-spec = tie.close (tie.spec message-bytes-requires returns)

@@ -107,7 +107,7 @@ short-requires c κs =
     let at-args = c .before .before .before .before .before .before .before .before .before .before .before .before .before .before .args in
     let at-end-to-end = c .before .before .before .before .before .before .before .before .before .end-to-end in
     let at-if2 = c .before .before .before .before .before .before .before .before .if2 in
-    (at-pre .lawful, at-pre .small, (laid-in-text (at-args .leaves .now) (at-args .text .now) (at-args .card .leaves) (at-args .card .text) (at-pre .sized .leafRows) (omega (arith, at-pre .leaves, at-pre .small .leaves)) (at-pre .sized .text) (sym (at-end-to-end .ensures) ∙ not-false (at-end-to-end .result) (at-if2 .left))))
+    (at-pre .lawful, (laid-in-text (at-args .leaves .now) (at-args .text .now) (at-args .card .leaves) (at-args .card .text) (at-pre .sized .leafRows) (omega (arith, at-pre .leaves, at-pre .small .leaves)) (at-pre .sized .text) (sym (at-end-to-end .ensures) ∙ not-false (at-end-to-end .result) (at-if2 .left))))
 
 returns-7 : tie.Need-returns-7
 returns-7 c =

@@ -1,0 +1,137 @@
+-- The table of an accepted message, as it lies in the reader's buffers: what is counted there is the table, and the writer gives its bytes.
+-- Assumes nothing.
+use mathlib.Core.Bool.{true, _&&_}
+use mathlib.Core.List.{List, [], _∷_, _++_}
+use mathlib.Core.Path.{_≡_, refl, sym, ap, _∙_, subst⁻¹}
+use Prim.Native.Nat.{ℕ, _+_, _*_, _≤_, _<_}
+use native.Mathlib.Omega.{arith}
+use lib.ListN.{length, take, drop, getD}
+use lib.Seq.{sets, sets-eq, length-sets}
+use lib.Dec.{leb}
+use borrow.Author.Tests.{le-ltb, leb-true}
+use Rattle.laws.specs.Lists.{concat}
+use Rattle.laws.specs.Tables.{values}
+use Rattle.laws.proofs.Tests.{and-second}
+use Rattle.laws.proofs.Tables.{values-same}
+use Rattle.form.specs.declared.limits.Limits.{Limits}
+use Rattle.form.specs.Limits.{Lawful}
+use Rattle.table.specs.Rows.{Table, segmentRowSize}
+use Rattle.table.specs.Reading.{Room, accepted, reading}
+use Rattle.table.specs.Back.{linesOf, written}
+use Rattle.table.specs.Lent.{Lent, withinLimits, counted}
+use Rattle.table.proofs.Accepting.{Accepted, accepting}
+use Rattle.read.specs.Answering.{roomOf}
+use Rattle.read.proofs.OwnersColumn.{front-at, roomy-text, roomy-segments, roomy-leaves}
+use Rattle.write.specs.RowByRow.{Sized}
+use Rattle.write.specs.Writing.{ReadTo, stated, isTable, writing}
+use Rattle.write.specs.Answer.{answer, lent, writtenSize}
+use Rattle.write.proofs.SameTables.{same-parts}
+use Rattle.write.proofs.RoundTrip.{reads-back}
+use Rattle.write.proofs.RowByRow.{row-by-row}
+use Rattle.write.proofs.LocalTables.{stated-roomy, accepted-local}
+use Rattle.write.proofs.LentTables.{Within, within-buffers, local-within, is-table, table-written-out}
+use Rattle.listing.specs.Listing.{entry, columns, rowLine, rowLines}
+use Rattle.listing.specs.Decimal.{decimal}
+
+-- what is stored at the front is taken from there
+taken-front : (s t : List ℕ) → take (length s) (s ++ t) ≡ s
+taken-front [] t = refl
+taken-front (a ∷ s) t = ap (λ (r : List ℕ). a ∷ r) (taken-front s t)
+
+front-taken : (buffer front : List ℕ) (n : ℕ) → length front ≡ n → length front ≤ length buffer → take n (sets buffer 0 front) ≡ front
+front-taken buffer front n e fits =
+    ap (λ (k : ℕ). take k (sets buffer 0 front)) (sym e)
+    ∙ ap (take (length front)) (sets-eq front buffer 0 (omega arith))
+    ∙ taken-front front (drop (0 + length front) buffer)
+
+-- a row's columns are those of its four numbers
+columns-same : (rows other : List ℕ) (at : ℕ) → getD rows at 0 ≡ getD other at 0 → getD rows (at + 1) 0 ≡ getD other (at + 1) 0
+    → getD rows (at + 2) 0 ≡ getD other (at + 2) 0 → getD rows (at + 3) 0 ≡ getD other (at + 3) 0 → columns rows at ≡ columns other at
+unfolding columns
+columns-same rows other at kind owner first count = rw (kind, owner, first, count, columns)
+
+module _ (L : Limits) (lawful : Lawful L) (levels : ℕ → ℕ → ℕ) (message text segments leaves : List ℕ) (t : Table)
+    (read : reading L levels (roomOf text segments leaves) message ≡ accepted t) where
+  passed : Accepted L levels (roomOf text segments leaves) message t
+  passed = accepting L levels (roomOf text segments leaves) message t .0 read
+
+  -- buffers of the stated sizes would do
+  to-table : ReadTo L levels t
+  to-table = (
+    message,
+    accepting L levels (stated L) message t .1
+        (record {
+          separators = passed .separators;
+          roomy = stated-roomy L;
+          fits = passed .fits;
+          header = passed .header;
+          no-fault = passed .no-fault;
+          segments = passed .segments;
+        }),
+  )
+
+  sized : Sized t
+  sized = row-by-row L lawful levels t .0 (reads-back L lawful levels t .1 to-table) .0
+
+  pub few-segments : t .card .segments ≤ L .segments
+  few-segments = accepted-local lawful passed .few .segments
+
+  segments-fit : length (t .segmentRows) ≤ length segments
+  segments-fit = omega (arith, sized .segmentRows, few-segments, roomy-segments L (roomOf text segments leaves) (passed .roomy))
+
+  leaves-fit : length (t .leafRows) ≤ length leaves
+  leaves-fit = omega (arith, sized .leafRows, accepted-local lawful passed .few .leaves, roomy-leaves L (roomOf text segments leaves) (passed .roomy))
+
+  text-fits : length (t .text) ≤ length text
+  unfolding withinLimits
+  text-fits =
+      omega (
+        arith,
+        sized .text,
+        leb-true (t .card .text) (L .bytes)
+            (and-second (leb (t .card .segments) (L .segments) && leb (t .card .leaves) (L .leaves)) (leb (t .card .text) (L .bytes))
+            (local-within L lawful levels t (accepted-local lawful passed))),
+        roomy-text L (roomOf text segments leaves) (passed .roomy),
+      )
+
+  -- the table as it is lent to a lookup or to the writer
+  abbrev pub filed : Lent
+  filed = lent (t .card) (sets segments 0 (t .segmentRows)) (sets leaves 0 (t .leafRows)) (sets text 0 (t .text))
+
+  pub filed-counted : counted filed ≡ t
+  unfolding counted
+  filed-counted =
+      same-parts (counted filed) t refl (front-taken segments (t .segmentRows) (t .card .segments * segmentRowSize) (sized .segmentRows) segments-fit)
+      (front-taken leaves (t .leafRows) _ (sized .leafRows) leaves-fit) (front-taken text (t .text) (t .card .text) (sized .text) text-fits)
+
+  pub filed-within : Within filed
+  filed-within =
+      record {
+        segmentRows = omega (arith, sized .segmentRows, segments-fit, length-sets segments 0 (t .segmentRows));
+        leafRows = omega (arith, sized .leafRows, leaves-fit, length-sets leaves 0 (t .leafRows));
+        text = omega (arith, sized .text, text-fits, length-sets text 0 (t .text));
+      }
+
+  filed-table : isTable L levels filed ≡ true
+  filed-table = is-table L lawful levels filed .1 (within-buffers filed .1 filed-within, subst⁻¹ (ReadTo L levels) filed-counted to-table)
+
+  pub filed-size : writtenSize L levels filed ≡ length (written L t)
+  unfolding writtenSize answer
+  filed-size =
+      ap (λ w. answer w .bytes) (table-written-out L lawful levels filed (L .bytes) (le-ltb (L .bytes) (L .bytes) (omega arith)) filed-table)
+      ∙ ap (λ (u : Table). length (written L u)) filed-counted
+
+  -- the rows in the buffer are listed as those of the table
+  number-at : (j : ℕ) → j < t .card .segments * segmentRowSize → getD (sets segments 0 (t .segmentRows)) j 0 ≡ getD (t .segmentRows) j 0
+  number-at j h = front-at segments (t .segmentRows) j segments-fit (omega (arith, sized .segmentRows))
+
+  pub filed-rows : rowLines (sets segments 0 (t .segmentRows)) (t .card .segments) ≡ rowLines (t .segmentRows) (t .card .segments)
+  unfolding rowLines rowLine
+  filed-rows = ap concat (values-same (rowLine (sets segments 0 (t .segmentRows))) (rowLine (t .segmentRows)) 0 (t .card .segments) (λ k least most. row k (omega arith)))
+    where
+      row : (k : ℕ) → k < t .card .segments → rowLine (sets segments 0 (t .segmentRows)) k ≡ rowLine (t .segmentRows) k
+      row k h =
+          ap (λ (s : List ℕ). entry "seg=" (decimal (k + 1) ++ s))
+          (columns-same (sets segments 0 (t .segmentRows)) (t .segmentRows) (k * segmentRowSize) (number-at (k * segmentRowSize) (omega arith))
+          (number-at (k * segmentRowSize + 1) (omega arith)) (number-at (k * segmentRowSize + 2) (omega arith))
+          (number-at (k * segmentRowSize + 3) (omega arith)))

@@ -1,0 +1,51 @@
+-- `listing::lines::put_answer` meets its contract: three lines.
+-- Assumes nothing.
+use native.Mathlib.Omega.{arith}
+use Rattle.laws.specs.Texts.{bytes}
+use Rattle.listing.specs.Listing.{entry, answerLines}
+use Rattle.listing.proofs.Putting.{put-then}
+use borrow.Author.Needs.{needs}
+use Rattle.listing.proofs.lines.put_answer.Statement.{statement}
+use Rattle.listing.proofs.lines.put_answer.Tie as tie
+
+slice-aggregate-put-text : tie.Need-slice-aggregate-put-text
+slice-aggregate-put-text c = search needs
+
+put-text-requires : tie.Need-put-text-requires
+put-text-requires c κs = search needs
+
+slice-aggregate-put-entry : tie.Need-slice-aggregate-put-entry
+slice-aggregate-put-entry c = search needs
+
+put-entry-requires : tie.Need-put-entry-requires
+put-entry-requires c κs = search needs
+
+slice-aggregate-put-entry-2 : tie.Need-slice-aggregate-put-entry-2
+slice-aggregate-put-entry-2 c = search needs
+
+put-entry-requires-2 : tie.Need-put-entry-requires-2
+put-entry-requires-2 c κs = search needs
+
+same-length : tie.Need-same-length
+same-length c = search needs
+
+returns : tie.Need-returns
+unfolding answerLines entry bytes
+returns c =
+    let at-put-text = c .before .before .before .before .before .before .before .before .before .before .before .before .put-text in
+    let at-put-entry = c .before .before .before .before .before .before .before .put-entry in
+    let at-put-entry2 = c .before .before .put-entry2 in
+    record { put = put-then (at-put-text .ensures) (put-then (at-put-entry .ensures .put) (at-put-entry2 .ensures .put)); few = omega (arith, at-put-text .ensures .reached, at-put-entry .ensures .few, at-put-entry2 .ensures .few) }
+
+pub put-answer-spec : {M : Type 1} → statement M
+put-answer-spec =
+    tie.close
+    (tie.spec
+    slice-aggregate-put-text
+    put-text-requires
+    slice-aggregate-put-entry
+    put-entry-requires
+    slice-aggregate-put-entry-2
+    put-entry-requires-2
+    same-length
+    returns)

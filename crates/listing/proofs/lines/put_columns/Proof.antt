@@ -1,0 +1,92 @@
+-- `listing::lines::put_columns` meets its contract: comma, kind, and three numbers with their commas.
+-- Assumes nothing.
+use native.Mathlib.Omega.{arith}
+use Rattle.listing.specs.Listing.{columns}
+use Rattle.listing.proofs.Putting.{put-then}
+use borrow.Author.Needs.{needs}
+use Rattle.listing.proofs.lines.put_columns.Statement.{statement}
+use Rattle.listing.proofs.lines.put_columns.Tie as tie
+
+put-byte-requires : tie.Need-put-byte-requires
+put-byte-requires c κs = search needs
+
+mul-put-kind : tie.Need-mul-put-kind
+mul-put-kind c = search needs
+
+shared-slice-read-put-kind : tie.Need-shared-slice-read-put-kind
+shared-slice-read-put-kind c = search needs
+
+put-kind-requires : tie.Need-put-kind-requires
+put-kind-requires c κs = search needs
+
+add-put-next : tie.Need-add-put-next
+add-put-next c = search needs
+
+mul-put-next : tie.Need-mul-put-next
+mul-put-next c = search needs
+
+shared-slice-read-put-next : tie.Need-shared-slice-read-put-next
+shared-slice-read-put-next c = search needs
+
+put-next-requires : tie.Need-put-next-requires
+put-next-requires c κs = search needs
+
+add-put-next-2 : tie.Need-add-put-next-2
+add-put-next-2 c = search needs
+
+mul-put-next-2 : tie.Need-mul-put-next-2
+mul-put-next-2 c = search needs
+
+shared-slice-read-put-next-2 : tie.Need-shared-slice-read-put-next-2
+shared-slice-read-put-next-2 c = search needs
+
+put-next-requires-2 : tie.Need-put-next-requires-2
+put-next-requires-2 c κs = search needs
+
+add-put-next-3 : tie.Need-add-put-next-3
+add-put-next-3 c = search needs
+
+mul-put-next-3 : tie.Need-mul-put-next-3
+mul-put-next-3 c = search needs
+
+shared-slice-read-put-next-3 : tie.Need-shared-slice-read-put-next-3
+shared-slice-read-put-next-3 c = search needs
+
+put-next-requires-3 : tie.Need-put-next-requires-3
+put-next-requires-3 c κs = search needs
+
+same-length : tie.Need-same-length
+same-length c = search needs
+
+returns : tie.Need-returns
+unfolding columns
+returns c =
+    let at-put-byte = c .before .before .before .before .before .before .before .before .before .before .before .before .before .before .before .before .before .before .before .before .before .before .put-byte in
+    let at-put-kind = c .before .before .before .before .before .before .before .before .before .before .before .before .before .before .before .before .before .put-kind in
+    let at-put-next = c .before .before .before .before .before .before .before .before .before .before .before .before .put-next in
+    let at-put-next2 = c .before .before .before .before .before .before .before .put-next2 in
+    let at-put-next3 = c .before .before .put-next3 in
+    record { put = put-then (at-put-byte .ensures) (put-then (at-put-kind .ensures .put) (put-then (at-put-next .ensures .put) (put-then (at-put-next2 .ensures .put) (at-put-next3 .ensures .put)))); few = omega (arith, at-put-byte .ensures .reached, at-put-kind .ensures .few, at-put-next .ensures .few, at-put-next2 .ensures .few, at-put-next3 .ensures .few) }
+
+pub put-columns-spec : {M : Type 1} → statement M
+put-columns-spec =
+    tie.close
+    (tie.spec
+    put-byte-requires
+    mul-put-kind
+    shared-slice-read-put-kind
+    put-kind-requires
+    add-put-next
+    mul-put-next
+    shared-slice-read-put-next
+    put-next-requires
+    add-put-next-2
+    mul-put-next-2
+    shared-slice-read-put-next-2
+    put-next-requires-2
+    add-put-next-3
+    mul-put-next-3
+    shared-slice-read-put-next-3
+    put-next-requires-3
+    same-length
+    returns)

@@ -1,0 +1,4 @@
+pub mod Decimal
+pub mod Names
+pub mod Putting
+pub mod Listing

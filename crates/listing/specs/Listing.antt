@@ -1,0 +1,100 @@
+-- The listing of a message (document 01, "The listing").
+-- Assumes nothing.
+use mathlib.Core.Bool.{true, false}
+use mathlib.Core.List.{List, [], _∷_, _++_}
+use mathlib.Core.Path.{_≡_}
+use Prim.Native.Nat.{ℕ, zero, suc, _+_, _*_}
+use Prim.Native.String.{String}
+use lib.Dec.{ltb}
+use lib.ListN.{length, getD}
+use lib.Seq.{sets}
+use Rattle.laws.specs.Lists.{concat}
+use Rattle.laws.specs.Tables.{values}
+use Rattle.laws.specs.Texts.{bytes}
+use Rattle.form.specs.declared.limits.Limits.{Limits}
+use Rattle.form.specs.Names.{kindNames, contextNames}
+use Rattle.form.specs.Numbers.{shortBuffer}
+use Rattle.table.specs.declared.Card.{Card}
+use Rattle.table.specs.Rows.{Table, segmentRowSize}
+use Rattle.table.specs.Reading.{Outcome, refused, accepted, reading}
+use Rattle.table.specs.Back.{written}
+use Rattle.read.specs.Answering.{roomOf, textPut, segmentsPut, leavesPut}
+use Rattle.listing.specs.Decimal.{decimal}
+
+-- "each line ended by LF": a line of a name, with its `=`, and a value
+unfoldable pub entryOf : List ℕ → List ℕ → List ℕ
+entryOf name value = name ++ (value ++ (10 ∷ []))
+
+unfoldable pub entry : String → List ℕ → List ℕ
+entry name value = entryOf (bytes name) value
+
+-- the name with a number among names, counted from 1; nothing where none has it
+unfoldable pub nameOf : List (List ℕ) → ℕ → List ℕ
+nameOf names zero = []
+nameOf names (suc n) = getD names n []
+
+-- a comma and a number
+unfoldable pub andNumber : ℕ → List ℕ
+andNumber n = 44 ∷ decimal n
+
+-- "`seg` is number, kind, owner, first leaf, leaf count": the last four from the number at `at` of the segment rows on, a comma before each
+unfoldable pub columns : List ℕ → ℕ → List ℕ
+columns rows at =
+    44
+    ∷ (nameOf kindNames (getD rows at 0)
+    ++ (andNumber (getD rows (at + 1) 0) ++ (andNumber (getD rows (at + 2) 0) ++ andNumber (getD rows (at + 3) 0))))
+
+-- the line of row i of the segment rows, counted from 0
+unfoldable pub rowLine : List ℕ → ℕ → List ℕ
+rowLine rows i = entry "seg=" (decimal (i + 1) ++ columns rows (i * segmentRowSize))
+
+-- the lines of so many rows
+unfoldable pub rowLines : List ℕ → ℕ → List ℕ
+rowLines rows count = concat (values (rowLine rows) 0 count)
+
+-- "`form` is the version of this listing": the first three lines
+unfoldable pub answerLines : ℕ → ℕ → List ℕ
+answerLines number place = bytes "form=1\n" ++ (entry "answer=" (decimal number) ++ entry "place=" (decimal place))
+
+-- the lines of a card, and of the bytes that the writer would give
+unfoldable pub contextLine : ℕ → List ℕ
+contextLine context = entry "context=" (nameOf contextNames context)
+
+unfoldable pub countLines : Card → ℕ → List ℕ
+countLines card size =
+    contextLine (card .context)
+    ++ (entry "segments=" (decimal (card .segments))
+    ++ (entry "leaves=" (decimal (card .leaves)) ++ (entry "text=" (decimal (card .text)) ++ entry "written=" (decimal size))))
+
+-- "A refused message prints the first three lines only."
+unfoldable pub listing : Limits → Outcome → List ℕ
+listing L (refused number place) = answerLines number place
+listing L (accepted t) =
+    answerLines 0 0
+    ++ (countLines (t .card) (length (written L t))
+    ++ rowLines (t .segmentRows) (t .card .segments))
+
+-- the bytes that every listing has room in: 256 for the first lines, 32 for each segment
+unfoldable pub listingSize : Limits → ℕ
+listingSize L = 256 + L .segments * 32
+
+-- what is listed of an outcome into a buffer of some length: nothing where that is short
+unfoldable pub listed : Limits → Outcome → ℕ → List ℕ
+listed L o size = elim (ltb size (listingSize L)) [ true ↦ [] | false ↦ listing L o ]
+
+-- the outcome that the reader's buffers show: nothing is read where the listing's buffer is short
+unfoldable pub shown : Limits → Outcome → ℕ → Outcome
+shown L o size = elim (ltb size (listingSize L)) [ true ↦ refused shortBuffer 0 | false ↦ o ]
+
+-- the contract of listing: the listing's bytes, and every lent buffer
+pub record Lists (L : Limits) (o : Outcome) (text segments leaves list : List ℕ) (r : ℕ) (text′ segments′ leaves′ list′ : List ℕ) : Type 0 where
+  pub bytes : r ≡ length (listed L o (length list))
+  pub listing : list′ ≡ sets list 0 (listed L o (length list))
+  pub textArea : text′ ≡ sets text 0 (textPut (shown L o (length list)))
+  pub segmentRows : segments′ ≡ sets segments 0 (segmentsPut (shown L o (length list)))
+  pub leafRows : leaves′ ≡ sets leaves 0 (leavesPut (shown L o (length list)))
+
+abbrev pub ListedAs :
+    Limits → (ℕ → ℕ → ℕ) → (message text segments leaves list : List ℕ) → ℕ → (text′ segments′ leaves′ list′ : List ℕ) → Type 0
+ListedAs L levels message text segments leaves list r text′ segments′ leaves′ list′ =
+    Lists L (reading L levels (roomOf text segments leaves) message) text segments leaves list r text′ segments′ leaves′ list′

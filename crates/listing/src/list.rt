@@ -1,0 +1,59 @@
+// The listing of a message.
+use crate::lines::put_answer;
+use crate::lines::put_counts;
+use crate::lines::put_rows;
+use form::number::Number;
+use table::Card;
+ghost use mathlib.Core.List.{_++_};
+ghost use Prim.Native.Nat.{_+_, _*_, _≤_};
+ghost use lib.ListN.{length};
+ghost use Rattle.form.specs.Limits.{form};
+ghost use Rattle.order.specs.Owners.{level};
+ghost use Rattle.write.specs.Answer.{lent, writtenSize};
+ghost use Rattle.listing.specs.Listing.{ListedAs, countLines, rowLines};
+ghost use Rattle.listing.specs.Putting.{Put};
+
+// The bytes that every listing has room in: 256 for the first lines and 32 for each of 256 segments.
+pub const SIZE: usize = 8448;
+
+// Reads a message as the reader does and puts its listing at the front of `list`: its bytes. Where `list` has under 8,448 bytes it is 0,
+// and nothing is read or written.
+pub fn list(
+    message: &[u8],
+    text: &mut [u8],
+    segments: &mut [u16],
+    leaves: &mut [u16],
+    list: &mut [u8],
+) -> usize
+    ensures { λ r. ⌜ ListedAs form level (now (message .entry)) (now (text .entry)) (now (segments .entry)) (now (leaves .entry)) (now (list .entry))
+        r (now (text .exit)) (now (segments .exit)) (now (leaves .exit)) (now (list .exit)) ⌝ }
+{
+    if list.len() < SIZE {
+        return 0;
+    }
+    let answer = read::read(message, text, segments, leaves);
+    let begun = put_answer(answer.number, answer.place, list);
+    if answer.number != Number::ACCEPTED {
+        return begun;
+    }
+    put_table(answer.card, segments, leaves, text, list, begun)
+}
+
+// The lines of a table behind the first three.
+fn put_table(
+    card: Card,
+    segments: &[u16],
+    leaves: &[u16],
+    text: &[u8],
+    list: &mut [u8],
+    at: usize,
+) -> usize
+    requires { ⌜ (card .segments * 4 ≤ length (now segments)) × (card .segments ≤ 65535) × (at + (128 + card .segments * 32) ≤ length (now list)) ⌝ }
+    ensures { λ r. ⌜ Put (now (list .entry)) at
+        (countLines card (writtenSize form level (lent card (now (segments .entry)) (now (leaves .entry)) (now (text .entry))))
+        ++ rowLines (now (segments .entry)) (card .segments)) (now (list .exit)) r ⌝ }
+{
+    let size = write::size::written_bytes(card, segments, leaves, text);
+    let counted = put_counts(card, size, list, at);
+    put_rows(segments, card.segments, list, counted)
+}
