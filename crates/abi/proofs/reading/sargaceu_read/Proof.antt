@@ -1,0 +1,64 @@
+-- `abi::reading::sargaceu_read` meets its contract: what the reader gives, put into the answer where that has room.
+-- Assumes nothing.
+use Rattle.abi.proofs.ReadAnswers.{read-short, read-whole}
+use borrow.Author.Needs.{needs}
+use Rattle.abi.proofs.reading.sargaceu_read.Statement.{statement}
+use Rattle.abi.proofs.reading.sargaceu_read.Tie as tie
+
+returns : tie.Need-returns
+returns c =
+    let at-args = c .before .before .before .before .before .before .args in
+    let at-if1 = c .if1 in
+    read-short (at-args .message .now) (at-args .text .now) (at-args .segments .now) (at-args .leaves .now) (at-args .answer .now) (at-if1 .taken)
+
+read-requires : tie.Need-read-requires
+read-requires c κs = search needs
+
+cast-t9 : tie.Need-cast-t9
+cast-t9 c = search needs
+
+cast-t17 : tie.Need-cast-t17
+cast-t17 c = search needs
+
+slice-aggregate-put-numbers : tie.Need-slice-aggregate-put-numbers
+slice-aggregate-put-numbers c = search needs
+
+put-numbers-requires : tie.Need-put-numbers-requires
+put-numbers-requires c κs = search needs
+
+same-length : tie.Need-same-length
+same-length c = search needs
+
+same-length-2 : tie.Need-same-length-2
+same-length-2 c = search needs
+
+same-length-3 : tie.Need-same-length-3
+same-length-3 c = search needs
+
+same-length-4 : tie.Need-same-length-4
+same-length-4 c = search needs
+
+returns-2 : tie.Need-returns-2
+returns-2 c =
+    let at-args = c .before .before .before .before .before .before .before .before .before .before .before .before .before .before .before .before .before .before .before .before .before .before .before .before .args in
+    let at-if1 = c .before .before .before .before .before .before .before .before .before .before .before .before .before .before .before .before .before .before .if1 in
+    let at-read = c .before .before .before .before .before .before .before .before .before .before .before .before .before .before .read in
+    let at-put-numbers = c .before .before .put-numbers in
+    read-whole (at-args .message .now) (at-args .text .now) (at-args .segments .now) (at-args .leaves .now) (at-args .answer .now)
+    (at-if1 .left) (at-read .ensures) (at-put-numbers .ensures)
+
+pub sargaceu-read-spec : {M : Type 1} → statement M
+sargaceu-read-spec =
+    tie.close
+    (tie.spec
+    returns
+    read-requires
+    cast-t9
+    cast-t17
+    slice-aggregate-put-numbers
+    put-numbers-requires
+    same-length
+    same-length-2
+    same-length-3
+    same-length-4
+    returns-2)

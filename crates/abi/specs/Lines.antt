@@ -1,0 +1,34 @@
+-- What `sargaceu_line` answers (include/sargaceu.h).
+-- Assumes nothing.
+use mathlib.Core.Bool.{true, false}
+use mathlib.Core.List.{List, [], _∷_}
+use mathlib.Core.Path.{_≡_}
+use Prim.Native.Nat.{ℕ}
+use lib.Dec.{ltb}
+use lib.ListN.{length}
+use Rattle.form.specs.Numbers.{shortBuffer}
+use Rattle.line.specs.declared.finder.Found.{Found}
+use Rattle.line.specs.declared.finder.Found.the-variants.{Line, End, Fault}
+use Rattle.line.specs.Finding.{nextOf}
+use Rattle.abi.specs.Putting.{put}
+
+-- "Returns 0"; "Returns 4, 5 or 6 at a fault"
+unfoldable pub numberOf : Found → ℕ
+numberOf (Line e n) = 0
+numberOf End = 0
+numberOf (Fault number place) = number
+
+-- "where the line ends, without its CR"; "the place itself at the message's end"; "the fault's place"
+unfoldable pub endOf : ℕ → Found → ℕ
+endOf at (Line e n) = e
+endOf at End = at
+endOf at (Fault number place) = place
+
+-- the number that comes back: 1 where the answer has "under two numbers"
+unfoldable pub numberFor : Found → List ℕ → ℕ
+numberFor found answer = elim (ltb (length answer) 2) [ true ↦ shortBuffer | false ↦ numberOf found ]
+
+-- what was found at a place, told by its number and put into the answer: the contract of `sargaceu_line`
+pub record FoundLine (found : Found) (at : ℕ) (answer : List ℕ) (r : ℕ) (answer′ : List ℕ) : Type 0 where
+  pub number : r ≡ numberFor found answer
+  pub places : answer′ ≡ put answer (endOf at found ∷ nextOf at found ∷ [])

@@ -1,0 +1,12 @@
+-- Several numbers that are answered into a buffer of the caller's (include/sargaceu.h).
+-- Assumes nothing.
+use mathlib.Core.Bool.{true, false}
+use mathlib.Core.List.{List}
+use Prim.Native.Nat.{ℕ}
+use lib.Dec.{ltb}
+use lib.ListN.{length}
+use lib.Seq.{sets}
+
+-- a buffer with the numbers at its front; one that is shorter than they are "is left as it was"
+unfoldable pub put : List ℕ → List ℕ → List ℕ
+put buffer numbers = elim (ltb (length buffer) (length numbers)) [ true ↦ buffer | false ↦ sets buffer 0 numbers ]

@@ -1,0 +1,28 @@
+-- What `sargaceu_watch` answers (include/sargaceu.h).
+-- Assumes nothing.
+use mathlib.Core.Bool.{Bool, _&&_}
+use mathlib.Core.List.{List, [], _∷_}
+use mathlib.Core.Path.{_≡_}
+use Prim.Native.Nat.{ℕ}
+use lib.Dec.{leb}
+use lib.ListN.{length, getD}
+use Rattle.order.specs.declared.watcher.Watcher.{Watcher}
+use Rattle.order.specs.Watcher.{tellOf}
+use Rattle.abi.specs.Putting.{put}
+
+-- the two bytes of a watcher
+unfoldable pub watcherBytes : Watcher → List ℕ
+watcherBytes w = w .context ∷ w .last ∷ []
+
+-- the watcher that two bytes are
+unfoldable pub watcherOf : List ℕ → Watcher
+watcherOf bytes = record { context = getD bytes 0 0; last = getD bytes 1 0 }
+
+-- whether a watcher says yes to a kind: one "of under two bytes says no to all"
+unfoldable pub saysYes : List ℕ → ℕ → Bool
+saysYes bytes kind = leb 2 (length bytes) && tellOf (watcherOf bytes) kind .yes
+
+-- what a watcher says, and the watcher after it: the contract of `sargaceu_watch`
+pub record Watched (bytes : List ℕ) (kind : ℕ) (r : Bool) (bytes′ : List ℕ) : Type 0 where
+  pub verdict : r ≡ saysYes bytes kind
+  pub watcher : bytes′ ≡ put bytes (watcherBytes (tellOf (watcherOf bytes) kind .watcher))

@@ -1,0 +1,37 @@
+-- What `sargaceu_write` answers, and what it leaves in the output (include/sargaceu.h).
+-- Assumes nothing.
+use mathlib.Core.Bool.{true, false}
+use mathlib.Core.List.{List, [], _∷_}
+use mathlib.Core.Path.{_≡_}
+use Prim.Native.Nat.{ℕ}
+use lib.Dec.{ltb}
+use lib.ListN.{length}
+use Rattle.form.specs.Limits.{form}
+use Rattle.form.specs.Numbers.{shortBuffer}
+use Rattle.order.specs.Owners.{level}
+use Rattle.table.specs.Lent.{Lent}
+use Rattle.write.specs.Writing.{Writing, refuses, writing}
+use Rattle.write.specs.Answer.{answer, outputAfter}
+use Rattle.abi.specs.Putting.{put}
+
+-- the outcome of writing a table, or 1 where the answer has "under three numbers"
+unfoldable pub writeOutcome : Lent → (output numbers : List ℕ) → Writing
+writeOutcome table output numbers =
+    elim (ltb (length numbers) 3) [
+      | true ↦ refuses shortBuffer
+      | false ↦ writing form level table (length output)
+    ]
+
+-- "answer gets place, bytes and lines"
+unfoldable pub writeNumbers : Writing → List ℕ
+writeNumbers w = answer w .place ∷ answer w .bytes ∷ answer w .lines ∷ []
+
+-- an outcome, told by its number, and put into the answer and the output
+pub record TellsWriting (w : Writing) (output numbers : List ℕ) (r : ℕ) (output′ numbers′ : List ℕ) : Type 0 where
+  pub number : r ≡ answer w .number
+  pub answers : numbers′ ≡ put numbers (writeNumbers w)
+  pub message : output′ ≡ outputAfter output w
+
+-- the contract of `sargaceu_write`
+abbrev pub WroteInto : Lent → (output numbers : List ℕ) → ℕ → (output′ numbers′ : List ℕ) → Type 0
+WroteInto table output numbers r output′ numbers′ = TellsWriting (writeOutcome table output numbers) output numbers r output′ numbers′

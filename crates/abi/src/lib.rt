@@ -1,0 +1,9 @@
+// The functions that C and Rust call, each under the name and with the parameters that include/sargaceu.h states. They take any bytes, any
+// numbers and any lengths: nothing is required of a caller, so every contract says what happens for all of them.
+mod answer;
+mod card;
+pub mod lines;
+pub mod looking;
+pub mod reading;
+pub mod watching;
+pub mod writing;

@@ -1,0 +1,92 @@
+// The lookups.
+use crate::answer;
+use crate::card;
+use look::leaf::Place;
+use look::leaf::Sought;
+ghost use mathlib.Core.Path.{_≡_};
+ghost use Rattle.look.specs.Lending.{lent};
+ghost use Rattle.look.specs.Looking.{rowAfter, sameOrder};
+ghost use Rattle.abi.specs.Cards.{cardOf};
+ghost use Rattle.abi.specs.Looking.{placeOf, FoundLeaf};
+
+// Whether the leaf at a place is there, and where its text lies.
+#[no_mangle]
+pub extern "C" fn sargaceu_find_leaf(
+    card: &[usize],
+    segments: &[u16],
+    leaves: &[u16],
+    text: &[u8],
+    segment: u16,
+    field: u16,
+    repetition: u16,
+    subfield: u16,
+    subsubfield: u16,
+    answer: &mut [usize],
+) -> bool
+    ensures { λ r. ⌜ FoundLeaf (lent (cardOf (now (card .entry))) (now (segments .entry)) (now (leaves .entry)) (now (text .entry)))
+        (placeOf segment field repetition subfield subsubfield) (now (answer .entry)) r (now (answer .exit)) ⌝ }
+{
+    let place = Place {
+        segment,
+        field,
+        repetition,
+        subfield,
+        subsubfield,
+    };
+    let sought = look::leaf::find_leaf(card::card_of(card), segments, leaves, text, place);
+    match sought {
+        Sought::At(start, length) => {
+            let numbers = [start, length];
+            answer::put_numbers(answer, &numbers);
+            true
+        }
+        Sought::Nothing => false,
+    }
+}
+
+// The first row after a given one with a kind and an owner, or 0.
+#[no_mangle]
+pub extern "C" fn sargaceu_next_row(
+    card: &[usize],
+    segments: &[u16],
+    after: usize,
+    kind: u16,
+    owner: u16,
+) -> usize
+    ensures { λ r. ⌜ r ≡ rowAfter (now (segments .entry)) (cardOf (now (card .entry)) .segments) after kind owner ⌝ }
+{
+    look::row::next_row(card::card_of(card), segments, after, kind, owner)
+}
+
+// Whether a row of one table and a row of another are the same order.
+#[no_mangle]
+pub extern "C" fn sargaceu_same_order(
+    card: &[usize],
+    segments: &[u16],
+    leaves: &[u16],
+    text: &[u8],
+    row: u16,
+    other_card: &[usize],
+    other_segments: &[u16],
+    other_leaves: &[u16],
+    other_text: &[u8],
+    other_row: u16,
+) -> bool
+    ensures { λ r.
+        ⌜ r
+        ≡ sameOrder (lent (cardOf (now (card .entry))) (now (segments .entry)) (now (leaves .entry)) (now (text .entry))) row
+        (lent (cardOf (now («other_card» .entry))) (now («other_segments» .entry)) (now («other_leaves» .entry)) (now («other_text» .entry))) «other_row» ⌝ }
+{
+    look::order::same_order(
+        card::card_of(card),
+        segments,
+        leaves,
+        text,
+        row,
+        card::card_of(other_card),
+        other_segments,
+        other_leaves,
+        other_text,
+        other_row,
+    )
+}

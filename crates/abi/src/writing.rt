@@ -1,0 +1,49 @@
+// The writer and the table test.
+use crate::answer;
+use crate::card;
+use form::number::Number;
+ghost use mathlib.Core.Path.{_≡_};
+ghost use Rattle.form.specs.Limits.{form};
+ghost use Rattle.order.specs.Owners.{level};
+ghost use Rattle.write.specs.Writing.{isTable};
+ghost use Rattle.write.specs.Answer.{lent};
+ghost use Rattle.abi.specs.Cards.{cardOf};
+ghost use Rattle.abi.specs.Writing.{WroteInto};
+
+// How many numbers an answer has: place, bytes and lines.
+const ANSWER: usize = 3;
+
+// Writes the message of a table at the front of the output. An answer of under three numbers is refused before anything is written.
+#[no_mangle]
+pub extern "C" fn sargaceu_write(
+    card: &[usize],
+    segments: &[u16],
+    leaves: &[u16],
+    text: &[u8],
+    output: &mut [u8],
+    answer: &mut [usize],
+) -> u8
+    ensures { λ r. ⌜ WroteInto (lent (cardOf (now (card .entry))) (now (segments .entry)) (now (leaves .entry)) (now (text .entry)))
+        (now (output .entry)) (now (answer .entry)) r (now (output .exit)) (now (answer .exit)) ⌝ }
+{
+    if answer.len() < ANSWER {
+        return Number::SHORT_BUFFER;
+    }
+    let written = write::write(card::card_of(card), segments, leaves, text, output);
+    let numbers = [written.place, written.bytes, written.lines];
+    answer::put_numbers(answer, &numbers);
+    written.number
+}
+
+// Whether some message reads to the table.
+#[no_mangle]
+pub extern "C" fn sargaceu_is_table(
+    card: &[usize],
+    segments: &[u16],
+    leaves: &[u16],
+    text: &[u8],
+) -> bool
+    ensures { λ r. ⌜ r ≡ isTable form level (lent (cardOf (now (card .entry))) (now (segments .entry)) (now (leaves .entry)) (now (text .entry))) ⌝ }
+{
+    write::test::is_table(card::card_of(card), segments, leaves, text)
+}
