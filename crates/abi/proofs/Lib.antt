@@ -5,3 +5,6 @@ pub mod WriteAnswers
 pub mod LeafAnswers
 pub mod LineAnswers
 pub mod WatcherBytes
+pub mod OnlyOne
+pub mod Kept
+pub mod ShutOut

@@ -1,0 +1,109 @@
+-- What stays as it was, in the header's words (include/sargaceu.h), for every function that meets the contracts.
+-- Assumes nothing.
+use mathlib.Core.Bool.{Bool, false}
+use mathlib.Core.List.{List, [], _∷_}
+use mathlib.Core.Logic.{⊎-elim}
+use mathlib.Core.Path.{_≡_, refl, sym, ap, _∙_}
+use Prim.Native.Nat.{ℕ, _<_}
+use native.Mathlib.Omega.{arith}
+use borrow.Author.Tests.{le-leb}
+use lib.ListN.{length, getD, set}
+use lib.Seq.{set-getD}
+use Rattle.laws.proofs.Cases.{less-or-not}
+use Rattle.laws.proofs.Tests.{and-passed, never-both}
+use Rattle.line.specs.declared.finder.Found.{Found}
+use Rattle.order.specs.declared.watcher.Watcher.{Watcher}
+use Rattle.order.specs.Watcher.{tellOf}
+use Rattle.order.proofs.Watched.{stays}
+use Rattle.table.specs.Lent.{Lent}
+use Rattle.table.specs.Reading.{Outcome, refused, accepted}
+use Rattle.read.specs.Answering.{answerOf, textPut, segmentsPut, leavesPut}
+use Rattle.write.specs.Writing.{Writing, refuses, writes}
+use Rattle.write.specs.Answer.{answer, outputAfter}
+use Rattle.look.specs.declared.leaf.Sought.{Sought}
+use Rattle.look.specs.declared.leaf.Sought.the-variants.{At, Nothing}
+use Rattle.abi.specs.Cards.{cardNumbers}
+use Rattle.abi.specs.Putting.{put}
+use Rattle.abi.specs.Reading.{readNumbers, TellsOutcome, ReadInto}
+use Rattle.abi.specs.Writing.{writeNumbers, TellsWriting, WroteInto}
+use Rattle.abi.specs.Looking.{isThere, leafNumbers, TellsSought}
+use Rattle.abi.specs.Lines.{FoundLine}
+use Rattle.abi.specs.Watching.{watcherBytes, watcherOf, saysYes, Watched}
+use Rattle.abi.proofs.Puts.{put-short, put-whole}
+use Rattle.abi.proofs.ReadAnswers.{read-short}
+use Rattle.abi.proofs.WriteAnswers.{write-short}
+use Rattle.abi.proofs.LineAnswers.{line-short}
+use Rattle.abi.proofs.WatcherBytes.{watch-short}
+use Rattle.abi.proofs.OnlyOne as only
+
+-- "An answer of under six numbers is refused with 1 and is left as it was": so are the three buffers
+module _ (message text segments leaves answer : List ℕ) {r : ℕ} {text′ segments′ leaves′ answer′ : List ℕ}
+    (read : ReadInto message text segments leaves answer r text′ segments′ leaves′ answer′) where
+  pub read-short-kept : length answer < 6 → (r ≡ 1) × (text′ ≡ text) × (segments′ ≡ segments) × (leaves′ ≡ leaves) × (answer′ ≡ answer)
+  read-short-kept h = only.read message text segments leaves answer read (read-short message text segments leaves answer h)
+
+-- "A refusal changes none of the three buffers, and its card is all zero."
+pub refusal-kept : (o : Outcome) {text segments leaves answer : List ℕ} {r : ℕ} {text′ segments′ leaves′ answer′ : List ℕ}
+    → TellsOutcome o text segments leaves answer r text′ segments′ leaves′ answer′ → (r ≡ 0 → ⊥)
+    → (text′ ≡ text) × (segments′ ≡ segments) × (leaves′ ≡ leaves) × (answer′ ≡ put answer (answerOf o .place ∷ 0 ∷ 0 ∷ 0 ∷ 0 ∷ 0 ∷ []))
+unfolding answerOf textPut segmentsPut leavesPut readNumbers cardNumbers
+refusal-kept (refused n p) g h = (g .textArea, g .segmentRows, g .leafRows, g .numbers)
+refusal-kept (accepted t) g h = absurd (h (g .number))
+
+-- "An answer of under three numbers is refused with 1 and is left as it was": so is the output
+pub write-short-kept : (table : Lent) (output numbers : List ℕ) {r : ℕ} {output′ numbers′ : List ℕ}
+    → WroteInto table output numbers r output′ numbers′ → length numbers < 3 → (r ≡ 1) × (output′ ≡ output) × (numbers′ ≡ numbers)
+write-short-kept table output numbers wrote h = only.write table output numbers wrote (write-short table output numbers h)
+
+-- "A refusal changes no output byte, and its bytes and lines are 0."
+pub write-refusal-kept : (w : Writing) {output numbers : List ℕ} {r : ℕ} {output′ numbers′ : List ℕ}
+    → TellsWriting w output numbers r output′ numbers′ → (r ≡ 0 → ⊥) → (output′ ≡ output) × (numbers′ ≡ put numbers (0 ∷ 0 ∷ 0 ∷ []))
+unfolding answer outputAfter writeNumbers
+write-refusal-kept (refuses n) g h = (g .message, g .answers)
+write-refusal-kept (writes bytes lines) g h = absurd (h (g .number))
+
+-- "Answer is left as it was where the leaf is not there": the answer says so
+pub leaf-not-there-kept : (s : Sought) {numbers numbers′ : List ℕ} → TellsSought s numbers false numbers′ → numbers′ ≡ numbers
+unfolding isThere leafNumbers
+leaf-not-there-kept (At start n) g = absurd (never-both refl (sym (g .found)))
+leaf-not-there-kept Nothing {numbers} g = g .numbers ∙ put-whole numbers [] (omega arith)
+
+-- "and where it has under two numbers"
+pub leaf-short-kept : (s : Sought) {numbers : List ℕ} {r : Bool} {numbers′ : List ℕ}
+    → TellsSought s numbers r numbers′ → length numbers < 2 → numbers′ ≡ numbers
+unfolding leafNumbers
+leaf-short-kept (At start n) {numbers} g h = g .numbers ∙ put-short numbers (start ∷ n ∷ []) h
+leaf-short-kept Nothing {numbers} g h = g .numbers ∙ put-whole numbers [] (omega arith)
+
+-- "An answer of under two numbers is refused with 1 and is left as it was."
+pub line-short-kept : (found : Found) (at : ℕ) (numbers : List ℕ) {r : ℕ} {numbers′ : List ℕ}
+    → FoundLine found at numbers r numbers′ → length numbers < 2 → (r ≡ 1) × (numbers′ ≡ numbers)
+line-short-kept found at numbers g h = only.line found at numbers g (line-short found at numbers h)
+
+-- the bytes of a watcher, put back, are as they were
+bytes-back : (bytes : List ℕ) → put bytes (watcherBytes (watcherOf bytes)) ≡ bytes
+unfolding watcherBytes watcherOf
+bytes-back bytes =
+    ⊎-elim
+    (λ short. put-short bytes (watcherBytes (watcherOf bytes)) short)
+    (λ room.
+    put-whole bytes (watcherBytes (watcherOf bytes)) room
+    ∙ ap (λ (l : List ℕ). set l 1 (getD bytes 1 0)) (set-getD bytes 0 0)
+    ∙ set-getD bytes 1 0)
+    (less-or-not (length bytes) 2)
+
+-- "a no changes nothing in it"
+pub watch-no-kept : (bytes : List ℕ) (kind : ℕ) {bytes′ : List ℕ} → Watched bytes kind false bytes′ → bytes′ ≡ bytes
+unfolding saysYes watcherBytes
+watch-no-kept bytes kind g =
+    ⊎-elim
+    (λ short. g .watcher ∙ put-short bytes (watcherBytes (tellOf (watcherOf bytes) kind .watcher)) short)
+    (λ room.
+    let no = sym (and-passed (tellOf (watcherOf bytes) kind .yes) (le-leb 2 (length bytes) room)) ∙ sym (g .verdict) in
+    g .watcher ∙ ap (λ (w : Watcher). put bytes (watcherBytes w)) (stays (watcherOf bytes) kind no) ∙ bytes-back bytes)
+    (less-or-not (length bytes) 2)
+
+-- "A watcher of under two bytes says no to all."
+pub watch-short-no : (bytes : List ℕ) (kind : ℕ) {r : Bool} {bytes′ : List ℕ} → Watched bytes kind r bytes′ → length bytes < 2
+    → (r ≡ false) × (bytes′ ≡ bytes)
+watch-short-no bytes kind g h = only.watch bytes kind g (watch-short bytes kind h)

@@ -1,0 +1,63 @@
+-- Each exported function's contract has one outcome on all inputs: two that satisfy it are equal, the answer and each buffer.
+-- Assumes nothing.
+use mathlib.Core.Bool.{Bool}
+use mathlib.Core.List.{List}
+use mathlib.Core.Path.{_≡_}
+use Prim.Native.Nat.{ℕ}
+use Rattle.laws.proofs.Equality.{only-one}
+use Rattle.form.specs.Limits.{form}
+use Rattle.line.specs.declared.finder.Found.{Found}
+use Rattle.order.specs.Owners.{level}
+use Rattle.table.specs.Lent.{Lent}
+use Rattle.write.specs.Writing.{isTable}
+use Rattle.look.specs.declared.leaf.Place.{Place}
+use Rattle.look.specs.Looking.{rowAfter, sameOrder}
+use Rattle.abi.specs.Reading.{ReadInto}
+use Rattle.abi.specs.Writing.{WroteInto}
+use Rattle.abi.specs.Looking.{FoundLeaf}
+use Rattle.abi.specs.Lines.{FoundLine}
+use Rattle.abi.specs.Watching.{Watched}
+
+pub read : (message text segments leaves answer : List ℕ) {r s : ℕ} {text₁ segments₁ leaves₁ answer₁ text₂ segments₂ leaves₂ answer₂ : List ℕ}
+    → ReadInto message text segments leaves answer r text₁ segments₁ leaves₁ answer₁
+    → ReadInto message text segments leaves answer s text₂ segments₂ leaves₂ answer₂
+    → (r ≡ s) × (text₁ ≡ text₂) × (segments₁ ≡ segments₂) × (leaves₁ ≡ leaves₂) × (answer₁ ≡ answer₂)
+read message text segments leaves answer g h = (
+  only-one (g .number) (h .number),
+  only-one (g .textArea) (h .textArea),
+  only-one (g .segmentRows) (h .segmentRows),
+  only-one (g .leafRows) (h .leafRows),
+  only-one (g .numbers) (h .numbers),
+)
+
+pub write : (table : Lent) (output answer : List ℕ) {r s : ℕ} {output₁ answer₁ output₂ answer₂ : List ℕ}
+    → WroteInto table output answer r output₁ answer₁ → WroteInto table output answer s output₂ answer₂
+    → (r ≡ s) × (output₁ ≡ output₂) × (answer₁ ≡ answer₂)
+write table output answer g h = (
+  only-one (g .number) (h .number),
+  only-one (g .message) (h .message),
+  only-one (g .answers) (h .answers),
+)
+
+pub is-table : (table : Lent) (r s : Bool) → r ≡ isTable form level table → s ≡ isTable form level table → r ≡ s
+is-table table r s g h = only-one g h
+
+pub find-leaf : (table : Lent) (place : Place) (answer : List ℕ) {r s : Bool} {answer₁ answer₂ : List ℕ}
+    → FoundLeaf table place answer r answer₁ → FoundLeaf table place answer s answer₂ → (r ≡ s) × (answer₁ ≡ answer₂)
+find-leaf table place answer g h = (only-one (g .found) (h .found), only-one (g .numbers) (h .numbers))
+
+pub next-row : (rows : List ℕ) (count after kind owner r s : ℕ)
+    → r ≡ rowAfter rows count after kind owner → s ≡ rowAfter rows count after kind owner → r ≡ s
+next-row rows count after kind owner r s g h = only-one g h
+
+pub same-order : (table : Lent) (row : ℕ) (other : Lent) (other-row : ℕ) (r s : Bool)
+    → r ≡ sameOrder table row other other-row → s ≡ sameOrder table row other other-row → r ≡ s
+same-order table row other other-row r s g h = only-one g h
+
+pub line : (found : Found) (at : ℕ) (answer : List ℕ) {r s : ℕ} {answer₁ answer₂ : List ℕ}
+    → FoundLine found at answer r answer₁ → FoundLine found at answer s answer₂ → (r ≡ s) × (answer₁ ≡ answer₂)
+line found at answer g h = (only-one (g .number) (h .number), only-one (g .places) (h .places))
+
+pub watch : (bytes : List ℕ) (kind : ℕ) {r s : Bool} {bytes₁ bytes₂ : List ℕ}
+    → Watched bytes kind r bytes₁ → Watched bytes kind s bytes₂ → (r ≡ s) × (bytes₁ ≡ bytes₂)
+watch bytes kind g h = (only-one (g .verdict) (h .verdict), only-one (g .watcher) (h .watcher))

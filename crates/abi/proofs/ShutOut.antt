@@ -1,0 +1,39 @@
+-- What the contracts rule out: a reader that fills an answer although it is short, a watcher that goes on after a no, one that takes a
+-- single byte for a watcher.
+-- Assumes nothing.
+use mathlib.Core.Bool.{Bool, true, true≢false}
+use mathlib.Core.List.{List, [], _∷_}
+use mathlib.Core.Path.{_≡_, sym, ap, _∙_}
+use Prim.Native.Nat.{ℕ}
+use native.Mathlib.Omega.{arith}
+use lib.Dec.{lit≤}
+use lib.ListN.{getD}
+use Rattle.order.specs.Contexts.{isContext}
+use Rattle.order.specs.Watcher.{allows, allowsNext, tellBy, tellOf}
+use Rattle.abi.specs.Putting.{put}
+use Rattle.abi.specs.Reading.{ReadInto}
+use Rattle.abi.specs.Watching.{watcherBytes, watcherOf, Watched}
+use Rattle.abi.proofs.Kept.{read-short-kept, watch-short-no}
+
+-- what comes back from a reader in five numbers, whatever it was lent: they are as they were
+module _ (message text segments leaves : List ℕ) {r : ℕ} {text′ segments′ leaves′ answer′ : List ℕ}
+    (read : ReadInto message text segments leaves (7 ∷ 7 ∷ 7 ∷ 7 ∷ 7 ∷ []) r text′ segments′ leaves′ answer′) where
+  pub fills-a-short-answer : getD answer′ 0 0 ≡ 0 → ⊥
+  fills-a-short-answer zero =
+      let kept = read-short-kept message text segments leaves (7 ∷ 7 ∷ 7 ∷ 7 ∷ 7 ∷ []) read (lit≤ tt) in
+      let z : _≡_ {A = ℕ} 0 7 = sym zero ∙ ap (λ (l : List ℕ). getD l 0 0) (kept .4) in
+      omega arith
+
+-- what meets the contract of `sargaceu_watch`
+module _ (says : List ℕ → ℕ → Bool) (after : List ℕ → ℕ → List ℕ)
+    (meets : (bytes : List ℕ) (kind : ℕ) → Watched bytes kind (says bytes kind) (after bytes kind)) where
+  -- P may not begin a message: the next H is heard by a watcher that was told nothing yet
+  pub goes-on-after-a-no : after (1 ∷ 0 ∷ []) 2 ≡ (1 ∷ 2 ∷ []) → ⊥
+  unfolding put watcherBytes watcherOf tellOf tellBy allows allowsNext isContext
+  goes-on-after-a-no went =
+      let z : _≡_ {A = ℕ} 0 2 = ap (λ (l : List ℕ). getD l 1 0) (sym (meets (1 ∷ 0 ∷ []) 2 .watcher) ∙ went) in
+      omega arith
+
+  -- a single byte is no watcher, though H may begin a message of its context
+  pub yes-to-one-byte : says (1 ∷ []) 1 ≡ true → ⊥
+  yes-to-one-byte said = true≢false (sym said ∙ watch-short-no (1 ∷ []) 1 (meets (1 ∷ []) 1) (lit≤ tt) .0)
