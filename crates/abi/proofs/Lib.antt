@@ -8,3 +8,5 @@ pub mod WatcherBytes
 pub mod OnlyOne
 pub mod Kept
 pub mod ShutOut
+pub mod CardBack
+pub mod WalkEnd
