@@ -56,6 +56,13 @@ mod header {
             answer: *mut usize, answer_numbers: usize,
         ) -> u8;
         pub fn sargaceu_watch(watcher: *mut u8, watcher_bytes: usize, kind: u8) -> bool;
+        pub fn sargaceu_list(
+            message: *const u8, message_bytes: usize,
+            text: *mut u8, text_bytes: usize,
+            segments: *mut u16, segments_numbers: usize,
+            leaves: *mut u16, leaves_numbers: usize,
+            listing: *mut u8, listing_bytes: usize,
+        ) -> usize;
     }
 }
 
@@ -88,6 +95,30 @@ pub fn read(
             leaves.len(),
             answer.as_mut_ptr(),
             answer.len(),
+        )
+    }
+}
+
+pub fn list(
+    message: &[u8],
+    text: &mut [u8],
+    segments: &mut [u16],
+    leaves: &mut [u16],
+    listing: &mut [u8],
+) -> usize {
+    // SAFETY: as in `read`.
+    unsafe {
+        header::sargaceu_list(
+            message.as_ptr(),
+            message.len(),
+            text.as_mut_ptr(),
+            text.len(),
+            segments.as_mut_ptr(),
+            segments.len(),
+            leaves.as_mut_ptr(),
+            leaves.len(),
+            listing.as_mut_ptr(),
+            listing.len(),
         )
     }
 }

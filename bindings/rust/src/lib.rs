@@ -22,6 +22,7 @@ mod watcher;
 pub use lines::{lines, Lines};
 pub use number::{Context, Kind, Number, Refusal};
 pub use table::{
-    read, Buffers, Card, Place, Table, Written, BYTES, LEAF_ROW, LEAVES, SEGMENTS, SEGMENT_ROW,
+    read, Buffers, Card, Place, Table, Written, BYTES, LEAF_ROW, LEAVES, LISTING, SEGMENTS,
+    SEGMENT_ROW,
 };
 pub use watcher::Watcher;

@@ -9,6 +9,8 @@ pub const BYTES: usize = 16384;
 pub const SEGMENTS: usize = 1024;
 /// How many numbers the leaf rows have at least: 2,048 rows.
 pub const LEAVES: usize = 14336;
+/// How many bytes every listing has room in.
+pub const LISTING: usize = 8448;
 /// How many numbers a segment row has: kind, owner (a row number, or 0), first leaf, leaf count.
 pub const SEGMENT_ROW: usize = 4;
 /// How many numbers a leaf row has: segment, field, repetition, subfield, sub-subfield, start, length.
@@ -110,6 +112,20 @@ impl Buffers {
             segments: vec![0; SEGMENTS].into_boxed_slice(),
             leaves: vec![0; LEAVES].into_boxed_slice(),
         }
+    }
+
+    /// The listing of a message, as the program `list` prints it; a refused message has one of three lines.
+    pub fn list(&mut self, message: &[u8]) -> Vec<u8> {
+        let mut listing = vec![0; LISTING];
+        let bytes = ffi::list(
+            message,
+            &mut self.text,
+            &mut self.segments,
+            &mut self.leaves,
+            &mut listing,
+        );
+        listing.truncate(bytes);
+        listing
     }
 
     /// The table of a message, which stands in the buffers.

@@ -240,3 +240,13 @@ fn lines_are_walked_up_to_the_end_or_a_fault() {
     let long = b"line\r".repeat(BYTES);
     assert_eq!(lines(&long).filter(Result::is_ok).count(), BYTES);
 }
+
+#[test]
+fn a_message_is_listed_as_the_document_prints_it() {
+    let mut buffers = Buffers::new();
+    let expected =
+        "form=1\nanswer=0\nplace=0\ncontext=ORU\nsegments=5\nleaves=24\ntext=41\nwritten=65\n\
+        seg=1,H,0,1,7\nseg=2,P,1,8,7\nseg=3,OBR,2,15,2\nseg=4,OBX,3,17,6\nseg=5,L,0,23,2\n";
+    assert_eq!(buffers.list(K1), expected.as_bytes());
+    assert_eq!(buffers.list(b""), b"form=1\nanswer=3\nplace=0\n");
+}

@@ -5,5 +5,6 @@ mod card;
 pub mod lines;
 pub mod looking;
 pub mod reading;
+pub mod showing;
 pub mod watching;
 pub mod writing;

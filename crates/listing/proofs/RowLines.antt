@@ -50,5 +50,7 @@ module _ {rows : List ℕ} {count : ℕ} {output₀ : List ℕ} {at : ℕ} {outp
         put = put-as (one-more rows i) (put-then (w .put) (p .put));
       }
 
-  pub rows-done : count ≤ i → Put output₀ at (rowLines rows count) output next
-  rows-done h = put-as (ap (rowLines rows) (let e : i ≡ count = omega (arith, w .upTo) in e)) (w .put)
+  pub rows-done : count ≤ i → PutWithin (count * 32) output₀ at (rowLines rows count) output next
+  rows-done h =
+      let e : i ≡ count = omega (arith, w .upTo) in
+      record { put = put-as (ap (rowLines rows) e) (w .put); few = omega (arith, w .few, e) }

@@ -10,7 +10,7 @@ ghost use Prim.Native.Nat.{_+_, _*_, _≤_, _<_};
 ghost use lib.ListN.{length};
 ghost use Rattle.listing.specs.Decimal.{decimal};
 ghost use Rattle.listing.specs.Listing.{andNumber, columns, rowLine, rowLines, answerLines, contextLine, countLines, entryOf};
-ghost use Rattle.listing.specs.Putting.{Put, PutWithin};
+ghost use Rattle.listing.specs.Putting.{PutWithin};
 
 // Numbers of a segment row.
 const SIZE: usize = 4;
@@ -62,7 +62,7 @@ fn put_row(segments: &[u16], i: usize, output: &mut [u8], at: usize) -> usize
 // The lines of so many rows.
 pub(crate) fn put_rows(segments: &[u16], count: usize, output: &mut [u8], at: usize) -> usize
     requires { ⌜ (count * 4 ≤ length (now segments)) × (count ≤ 65535) × (at + count * 32 ≤ length (now output)) ⌝ }
-    ensures { λ r. ⌜ Put (now (output .entry)) at (rowLines (now (segments .entry)) count) (now (output .exit)) r ⌝ }
+    ensures { λ r. ⌜ PutWithin (count * 32) (now (output .entry)) at (rowLines (now (segments .entry)) count) (now (output .exit)) r ⌝ }
 {
     let mut next = at;
     let mut i = 0;

@@ -11,7 +11,7 @@ ghost use Rattle.form.specs.Limits.{form};
 ghost use Rattle.order.specs.Owners.{level};
 ghost use Rattle.write.specs.Answer.{lent, writtenSize};
 ghost use Rattle.listing.specs.Listing.{ListedAs, countLines, rowLines};
-ghost use Rattle.listing.specs.Putting.{Put};
+ghost use Rattle.listing.specs.Putting.{PutWithin};
 
 // The bytes that every listing has room in: 256 for the first lines and 32 for each of 256 segments.
 pub const SIZE: usize = 8448;
@@ -27,6 +27,7 @@ pub fn list(
 ) -> usize
     ensures { λ r. ⌜ ListedAs form level (now (message .entry)) (now (text .entry)) (now (segments .entry)) (now (leaves .entry)) (now (list .entry))
         r (now (text .exit)) (now (segments .exit)) (now (leaves .exit)) (now (list .exit)) ⌝ }
+    ensures within { λ r. ⌜ r ≤ length (now (list .entry)) ⌝ }
 {
     if list.len() < SIZE {
         return 0;
@@ -49,7 +50,7 @@ fn put_table(
     at: usize,
 ) -> usize
     requires { ⌜ (card .segments * 4 ≤ length (now segments)) × (card .segments ≤ 65535) × (at + (128 + card .segments * 32) ≤ length (now list)) ⌝ }
-    ensures { λ r. ⌜ Put (now (list .entry)) at
+    ensures { λ r. ⌜ PutWithin (128 + card .segments * 32) (now (list .entry)) at
         (countLines card (writtenSize form level (lent card (now (segments .entry)) (now (leaves .entry)) (now (text .entry))))
         ++ rowLines (now (segments .entry)) (card .segments)) (now (list .exit)) r ⌝ }
 {

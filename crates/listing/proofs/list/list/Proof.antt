@@ -8,6 +8,7 @@ use Rattle.table.specs.Reading.{reading}
 use Rattle.read.specs.Answering.{roomOf}
 use Rattle.listing.specs.Listing.{listingSize}
 use Rattle.listing.proofs.Listed.{list-short, list-refused, list-ready, list-accepted}
+use Rattle.listing.proofs.Putting.{put-length}
 use borrow.Author.Needs.{needs}
 use Rattle.listing.proofs.list.list.Statement.{statement}
 use Rattle.listing.proofs.list.list.Tie as tie
@@ -17,7 +18,7 @@ unfolding listingSize
 returns c =
     let at-args = c .before .before .before .before .before .before .args in
     let at-if1 = c .if1 in
-    list-short form (reading form level (roomOf (at-args .text .now) (at-args .segments .now) (at-args .leaves .now)) (at-args .message .now)) (at-args .text .now) (at-args .segments .now) (at-args .leaves .now) (at-args .list .now) (at-if1 .taken)
+    (list-short form (reading form level (roomOf (at-args .text .now) (at-args .segments .now) (at-args .leaves .now)) (at-args .message .now)) (at-args .text .now) (at-args .segments .now) (at-args .leaves .now) (at-args .list .now) (at-if1 .taken), omega arith)
 
 read-requires : tie.Need-read-requires
 read-requires c κs = search needs
@@ -45,7 +46,7 @@ returns-2 c =
     let at-if1 = c .before .before .before .before .before .before .before .before .before .before .before .before .before .before .before .before .if1 in
     let at-if2 = c .if2 in
     let at-put-answer = c .before .before .before .before .put-answer in
-    list-refused form level (at-args .message .now) (at-args .text .now) (at-args .segments .now) (at-args .leaves .now) (at-args .list .now) (at-read .ensures) (at-if1 .left) (at-if2 .taken) (at-put-answer .ensures)
+    (list-refused form level (at-args .message .now) (at-args .text .now) (at-args .segments .now) (at-args .leaves .now) (at-args .list .now) (at-read .ensures) (at-if1 .left) (at-if2 .taken) (at-put-answer .ensures), omega (arith, at-put-answer .ensures .few, at-if1 .left))
 
 put-table-requires : tie.Need-put-table-requires
 unfolding listingSize
@@ -78,7 +79,8 @@ returns-3 c =
     let at-if2 = c .before .before .before .before .before .before .before .if2 in
     let at-put-answer = c .before .before .before .before .before .before .before .before .before .before .before .put-answer in
     let at-put-table = c .before .before .put-table in
-    list-accepted form level (at-args .message .now) (at-args .text .now) (at-args .segments .now) (at-args .leaves .now) (at-args .list .now) (at-read .ensures) (at-if1 .left) form-lawful (at-if2 .left) (at-put-answer .ensures) (at-put-table .ensures)
+    let ready = list-ready form level (at-args .message .now) (at-args .text .now) (at-args .segments .now) (at-args .leaves .now) (at-args .list .now) (at-read .ensures) (at-if1 .left) form-lawful (at-if2 .left) (at-put-answer .ensures) in
+    (list-accepted form level (at-args .message .now) (at-args .text .now) (at-args .segments .now) (at-args .leaves .now) (at-args .list .now) (at-read .ensures) (at-if1 .left) form-lawful (at-if2 .left) (at-put-answer .ensures) (at-put-table .ensures .put), omega (arith, at-put-table .ensures .few, ready .2, put-length (at-put-answer .ensures .put)))
 
 pub list-spec : {M : Type 1} → statement M
 list-spec =

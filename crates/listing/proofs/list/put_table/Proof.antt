@@ -1,6 +1,7 @@
 -- `listing::list::put_table` meets its contract: the counts, and the rows behind them.
 -- Assumes nothing.
 use mathlib.Core.Path.{ap}
+use native.Mathlib.Omega.{arith}
 use Rattle.listing.specs.Listing.{countLines}
 use Rattle.listing.proofs.Putting.{put-as, put-then}
 use borrow.Author.Needs.{needs}
@@ -25,7 +26,10 @@ returns c =
     let at-written-bytes = c .before .before .before .before .before .before .before .before .written-bytes in
     let at-put-counts = c .before .before .before .before .before .before .put-counts in
     let at-put-rows = c .before .before .put-rows in
-    put-then (put-as (ap (countLines (at-args .card)) (at-written-bytes .ensures)) (at-put-counts .ensures .put)) (at-put-rows .ensures)
+    record {
+      put = put-then (put-as (ap (countLines (at-args .card)) (at-written-bytes .ensures)) (at-put-counts .ensures .put)) (at-put-rows .ensures .put);
+      few = omega (arith, at-put-counts .ensures .few, at-put-rows .ensures .few);
+    }
 
 pub put-table-spec : {M : Type 1} → statement M
 put-table-spec =

@@ -1,0 +1,23 @@
+// The listing.
+ghost use Prim.Native.Nat.{_≤_};
+ghost use lib.ListN.{length};
+ghost use Rattle.form.specs.Limits.{form};
+ghost use Rattle.order.specs.Owners.{level};
+ghost use Rattle.listing.specs.Listing.{ListedAs};
+
+// Reads a message and puts its listing at the front of a buffer: the listing's bytes. A buffer that is too short for some listing is
+// refused before anything is read.
+#[no_mangle]
+pub extern "C" fn sargaceu_list(
+    message: &[u8],
+    text: &mut [u8],
+    segments: &mut [u16],
+    leaves: &mut [u16],
+    listing: &mut [u8],
+) -> usize
+    ensures { λ r. ⌜ ListedAs form level (now (message .entry)) (now (text .entry)) (now (segments .entry)) (now (leaves .entry)) (now (listing .entry))
+        r (now (text .exit)) (now (segments .exit)) (now (leaves .exit)) (now (listing .exit)) ⌝ }
+    ensures within { λ r. ⌜ r ≤ length (now (listing .entry)) ⌝ }
+{
+    listing::list::list(message, text, segments, leaves, listing)
+}
