@@ -1,0 +1,24 @@
+/*
+ * The baseline: the reader and the writer of document 01 in plain C, written for speed and with every refusal. The library is measured
+ * against it. Same parameters, same answers and same buffers as sargaceu_read and sargaceu_write of include/sargaceu.h, on every input.
+ */
+#ifndef BASELINE_H
+#define BASELINE_H
+
+#include <stddef.h>
+#include <stdint.h>
+
+uint8_t base_read(const uint8_t *message, size_t message_bytes,
+                  uint8_t *text, size_t text_bytes,
+                  uint16_t *segments, size_t segments_numbers,
+                  uint16_t *leaves, size_t leaves_numbers,
+                  size_t *answer, size_t answer_numbers);
+
+uint8_t base_write(const size_t *card, size_t card_numbers,
+                   const uint16_t *segments, size_t segments_numbers,
+                   const uint16_t *leaves, size_t leaves_numbers,
+                   const uint8_t *text, size_t text_bytes,
+                   uint8_t *output, size_t output_bytes,
+                   size_t *answer, size_t answer_numbers);
+
+#endif

@@ -1,0 +1,568 @@
+/*
+ * One program around both implementations, the library and the baseline:
+ *
+ *   driver compare FILE...                     both give the same on these messages, and on damaged and invented ones
+ *   driver read|write library|baseline FILE N  N readings of a message, or writings of its table
+ *   driver time FILE...                        times of both, interleaved, the least of nine, on x86-64
+ *
+ * Both are called by pointers that the compiler cannot see through, so no call is folded away.
+ */
+#define _POSIX_C_SOURCE 200809L
+#include "../include/sargaceu.h"
+#include "baseline.h"
+
+#include <stdbool.h>
+#include <stdio.h>
+#include <stdlib.h>
+#include <string.h>
+#include <time.h>
+
+/* ---- both implementations ---- */
+
+typedef uint8_t reader(const uint8_t *, size_t, uint8_t *, size_t, uint16_t *, size_t, uint16_t *, size_t, size_t *, size_t);
+typedef uint8_t writer(const size_t *, size_t, const uint16_t *, size_t, const uint16_t *, size_t, const uint8_t *, size_t,
+                       uint8_t *, size_t, size_t *, size_t);
+
+static const char *const names[2] = { "library", "baseline" };
+static reader *volatile readers[2] = { sargaceu_read, base_read };
+static writer *volatile writers[2] = { sargaceu_write, base_write };
+
+/* Some room past each limit, to see that longer buffers are used at their front alone. */
+enum {
+    TEXT = SARGACEU_TEXT + 64,
+    SEGMENTS = SARGACEU_SEGMENTS + 32,
+    LEAVES = SARGACEU_LEAVES + 56,
+    OUTPUT = SARGACEU_OUTPUT + 64,
+    MESSAGE = 3 * SARGACEU_MESSAGE
+};
+
+struct table {
+    uint8_t text[TEXT];
+    uint16_t segments[SEGMENTS];
+    uint16_t leaves[LEAVES];
+    size_t answer[SARGACEU_READ_ANSWER];
+};
+
+struct message {
+    uint8_t bytes[MESSAGE];
+    size_t length;
+};
+
+/* How much of each buffer is lent. */
+struct lent { size_t text, segments, leaves, answer, card, output; };
+
+static const struct lent whole = { TEXT, SEGMENTS, LEAVES, SARGACEU_READ_ANSWER, SARGACEU_CARD, OUTPUT };
+
+static uint8_t read_by(int which, const struct message *m, struct table *t, struct lent lent)
+{
+    return readers[which](m->bytes, m->length, t->text, lent.text, t->segments, lent.segments, t->leaves, lent.leaves,
+                          t->answer, lent.answer);
+}
+
+static uint8_t write_by(int which, const struct table *t, uint8_t *output, size_t *answer, struct lent lent)
+{
+    return writers[which](t->answer + 1, lent.card, t->segments, lent.segments, t->leaves, lent.leaves, t->text, lent.text,
+                          output, lent.output, answer, lent.answer < 3 ? lent.answer : 3);
+}
+
+/* ---- comparing ---- */
+
+static struct table tables[2], held;
+static uint8_t outputs[2][OUTPUT];
+static size_t answers[2][SARGACEU_WRITE_ANSWER];
+static size_t cases, accepted, numbers[14], table_cases, table_accepted;
+
+static uint64_t state = 0x9e3779b97f4a7c15u;
+
+/* Numbers that look random and are the same every time. */
+static size_t below(size_t limit)
+{
+    state ^= state << 13;
+    state ^= state >> 7;
+    state ^= state << 17;
+    return limit ? (state >> 20) % limit : 0;
+}
+
+static void show(const char *what, const struct message *m)
+{
+    fprintf(stderr, "driver: library and baseline differ: %s; the message is in differs.msg\n", what);
+    FILE *file = m ? fopen("differs.msg", "wb") : NULL;
+    if (file) {
+        fwrite(m->bytes, 1, m->length, file);
+        fclose(file);
+    }
+    exit(1);
+}
+
+static void soil(struct table *t, int with)
+{
+    memset(t, with, sizeof *t);
+}
+
+/* Both read the message into buffers that held the same before; answers the number. */
+static uint8_t same_reading(const struct message *m, struct lent lent)
+{
+    int with = (int)below(256);
+    uint8_t given[2];
+    for (int i = 0; i < 2; i++) {
+        soil(&tables[i], with);
+        given[i] = read_by(i, m, &tables[i], lent);
+    }
+    cases++;
+    if (given[0] != given[1] || memcmp(&tables[0], &tables[1], sizeof tables[0]) != 0) {
+        fprintf(stderr, "numbers %u %u, places %zu %zu\n", given[0], given[1], tables[0].answer[0], tables[1].answer[0]);
+        show("reading", m);
+    }
+    if (given[0] > 11)
+        show("a number that no reading gives", m);
+    numbers[given[0]]++;
+    accepted += given[0] == 0;
+    return given[0];
+}
+
+/* Both write the table into outputs that held the same before; answers the number. */
+static uint8_t same_writing(const struct table *t, struct lent lent, const struct message *m)
+{
+    int with = (int)below(256);
+    uint8_t given[2];
+    for (int i = 0; i < 2; i++) {
+        memset(outputs[i], with, OUTPUT);
+        memset(answers[i], with, sizeof answers[i]);
+        given[i] = write_by(i, t, outputs[i], answers[i], lent);
+    }
+    table_cases++;
+    if (given[0] != given[1] || memcmp(answers[0], answers[1], sizeof answers[0]) != 0 || memcmp(outputs[0], outputs[1], OUTPUT) != 0) {
+        fprintf(stderr, "numbers %u %u, bytes %zu %zu, lines %zu %zu\n", given[0], given[1], answers[0][1], answers[1][1],
+                answers[0][2], answers[1][2]);
+        show("writing", m);
+    }
+    table_accepted += given[0] == 0;
+    numbers[given[0]] += given[0] > 11;
+    return given[0];
+}
+
+/* ---- damage to messages ---- */
+
+static void replace(struct message *m, size_t at, size_t gone, const void *by, size_t come)
+{
+    if (at > m->length)
+        at = m->length;
+    if (gone > m->length - at)
+        gone = m->length - at;
+    if (m->length - gone + come > MESSAGE)
+        return;
+    memmove(m->bytes + at + come, m->bytes + at + gone, m->length - at - gone);
+    memcpy(m->bytes + at, by, come);
+    m->length += come - gone;
+}
+
+static uint8_t telling_byte(void)
+{
+    static const uint8_t telling[] = "||~^\\&\r\r\n\0\x1f\x20\x7f\x80\xff" "AHPLCOBXR1";
+    return telling[below(sizeof telling - 1)];
+}
+
+static const char *name(void)
+{
+    static const char *const all[] = { "H", "P", "AP", "AC", "OBR", "OBX", "FAC", "REG", "ACT", "ERR", "L", "C", "A", "", "OB", "XYZ" };
+    return all[below(below(4) ? 12 : 16)];
+}
+
+/* The place after some CR, where a line begins. */
+static size_t some_line(const struct message *m)
+{
+    size_t at = below(m->length + 1);
+    while (at < m->length && at > 0 && m->bytes[at - 1] != 13)
+        at++;
+    return at;
+}
+
+static void change_bytes(struct message *m)
+{
+    size_t at = below(m->length + 1);
+    uint8_t b = below(3) ? telling_byte() : (uint8_t)below(256);
+    switch (below(4)) {
+    case 0: replace(m, at, 1, &b, 1); break;
+    case 1: replace(m, at, 1, &b, 0); break;
+    case 2: replace(m, at, 0, &b, 1); break;
+    default: replace(m, below(8), below(2), &b, 1); break; /* the header */
+    }
+}
+
+/* A line is cut, a cut is mended, bytes that are ignored come in, or a line grows long. */
+static void change_lines(struct message *m)
+{
+    uint8_t much[300];
+    size_t at = below(m->length + 1);
+    uint8_t field = m->length > 1 ? m->bytes[1] : '|';
+    uint8_t cut[3] = { 13, 'A', field };
+    switch (below(6)) {
+    case 0: case 1: replace(m, at, 0, cut, 3); break;
+    case 2: replace(m, some_line(m), 0, cut + 1, 2); break;
+    case 3: replace(m, some_line(m), 0, "\n\r\t", 1 + below(3)); break;
+    case 4: replace(m, some_line(m) - 1, 1, "", 0); break;
+    default:
+        memset(much, below(2) ? 'x' : field, sizeof much);
+        replace(m, at, 0, much, 1 + below(below(2) ? 300 : 30));
+    }
+}
+
+/* Segments come, go, double or are named otherwise. */
+static void change_segments(struct message *m)
+{
+    uint8_t line[400];
+    size_t at = some_line(m), end = at;
+    while (end < m->length && end - at < sizeof line && m->bytes[end++] != 13)
+        ;
+    size_t named = at;
+    while (named < end && m->bytes[named] >= 'A' && m->bytes[named] <= 'Z')
+        named++;
+    const char *other = name();
+    memcpy(line, m->bytes + at, end - at);
+    switch (below(5)) {
+    case 0: replace(m, at, end - at, "", 0); break;
+    case 1: replace(m, at, 0, line, end - at); break;
+    case 2: replace(m, at, named - at, other, strlen(other)); break;
+    case 3: replace(m, at, 0, "\r", 1); replace(m, at, 0, other, strlen(other)); break;
+    default: replace(m, some_line(m), 0, line, end - at); break;
+    }
+}
+
+/* Past a limit: of segments, of leaves, of bytes. */
+static void swell(struct message *m)
+{
+    uint8_t much[2300];
+    size_t at = some_line(m), lines = 200 + below(100), left;
+    switch (below(4)) {
+    case 0:
+        for (size_t i = 0; i < lines; i++)
+            memcpy(much + 2 * i, "C\r", 2);
+        replace(m, at, 0, much, 2 * lines);
+        break;
+    case 1:
+        for (size_t i = 0; i < 11; i++) {
+            memset(much, "|~^&"[below(4)], 200);
+            memcpy(much + 200, "\rA|", 3);
+            replace(m, below(2) ? at : m->length, 0, much, 203);
+        }
+        break;
+    case 2: replace(m, m->length, 0, "\n\n\n", below(4)); break;
+    default:
+        memset(much, '\n', sizeof much);
+        while (m->length + 2200 < SARGACEU_MESSAGE)
+            replace(m, m->length, 0, much, 2200);
+        left = m->length < SARGACEU_MESSAGE ? SARGACEU_MESSAGE - m->length : 0;
+        replace(m, m->length, 0, much, below(2) ? left + below(3) : below(2200));
+    }
+}
+
+static void damage(struct message *m)
+{
+    size_t kind = below(40);
+    if (kind == 0)
+        swell(m);
+    else if (kind < 16)
+        change_bytes(m);
+    else if (kind < 28)
+        change_lines(m);
+    else
+        change_segments(m);
+}
+
+static struct lent some_lent(void)
+{
+    struct lent lent = whole;
+    size_t *const sizes[] = { &lent.text, &lent.segments, &lent.leaves, &lent.answer, &lent.card, &lent.output };
+    static const size_t edges[] = { SARGACEU_TEXT, SARGACEU_SEGMENTS, SARGACEU_LEAVES, 3, SARGACEU_CARD, SARGACEU_OUTPUT };
+    size_t which = below(60);
+    if (which < 6)
+        *sizes[which] = edges[which] - 1 + below(which == 4 ? 2 : 3);
+    return lent;
+}
+
+/* ---- invented messages ---- */
+
+/* Grammar followed mostly: by context, the kinds that may follow each kind, as letters of `order`. */
+static const char order[] = "?HPVWRXFGTELC"; /* V AP, W AC, R OBR, X OBX, F FAC, G REG, T ACT, E ERR */
+static const char *const spelled[] = { "", "H", "P", "AP", "AC", "OBR", "OBX", "FAC", "REG", "ACT", "ERR", "L", "C" };
+static const char *const contexts[8] = { "XXX", "ADM", "ORM", "ORA", "REG", "ERR", "ORU", "FAC" };
+static const char *const after[8][13] = {
+    [1] = { [1] = "P", [2] = "PVL", [3] = "PWL", [4] = "PWL" },
+    [2] = { [1] = "P", [2] = "R", [5] = "PRXL", [6] = "PRXL" },
+    [3] = { [1] = "P", [2] = "V", [3] = "WR", [4] = "WR", [5] = "PRXL", [6] = "PRXL" },
+    [4] = { [1] = "P", [2] = "G", [8] = "PGL" },
+    [5] = { [1] = "E", [10] = "EL" },
+    [6] = { [1] = "P", [2] = "R", [5] = "X", [6] = "PRXL" },
+    [7] = { [1] = "P", [2] = "VF", [3] = "WF", [4] = "WF", [7] = "PFGTL", [8] = "PFGTL", [9] = "PFTL" },
+};
+
+static void add(struct message *m, const char *text)
+{
+    replace(m, m->length, 0, text, strlen(text));
+}
+
+static void invent_fields(struct message *m, const char *split)
+{
+    static const char *const texts[] = { "", "", "a", "12", "TEXT", "\xe9", "a longer text, of some words", "\\" };
+    for (size_t i = below(12); i > 0; i--) {
+        char s[2] = { split[below(3) ? 0 : below(4)], 0 };
+        add(m, s);
+        add(m, texts[below(8)]);
+    }
+}
+
+/* Lines are cut at places that the writer would never choose. */
+static void cut(struct message *m, size_t from)
+{
+    uint8_t piece[3] = { 13, 'A', m->bytes[1] };
+    for (size_t at = from + 1 + below(60); at + 1 < m->length; at += 1 + below(200))
+        replace(m, at, 0, piece, 3);
+}
+
+static void invent(struct message *m)
+{
+    static const char *const headers[] = { "H|~^\\&|", "H!#$%:!", "H\\|~^&\\" };
+    static const char *const splits[] = { "|~^&", "!#$:", "\\|~&" };
+    size_t style = below(3), context = 1 + below(7), kind = 1, most = 1 + below(below(20) ? 30 : 300);
+    char field[2] = { splits[style][0], 0 };
+    bool cuts = below(2);
+    m->length = 0;
+    add(m, headers[style]);
+    for (int i = 0; i < 4; i++)
+        add(m, field);
+    add(m, contexts[below(50) ? context : below(8)]);
+    for (size_t i = 0; kind != 11 && m->length < MESSAGE / 2; i++) {
+        size_t from = i ? m->length : 7;
+        add(m, i ? spelled[kind] : below(2) ? field : "");
+        if (below(8) && (i || m->bytes[m->length - 1] == (uint8_t)field[0]))
+            invent_fields(m, splits[style]);
+        if (i && below(8) == 0) {
+            add(m, "\rC");
+            invent_fields(m, splits[style]);
+        }
+        if (cuts && below(3) == 0)
+            cut(m, from);
+        add(m, below(10) ? "\r" : "\r\n");
+        const char *next = after[context][kind];
+        if (!next)
+            break;
+        kind = (size_t)(strchr(order, i < most ? next[below(strlen(next))] : next[strlen(next) - 1]) - order);
+        if (below(200) == 0)
+            kind = 1 + below(12);
+    }
+    if (kind == 11)
+        add(m, below(3) ? "L\r" : field[0] == '|' ? "L|1|x\rA|y\r" : "L\r");
+}
+
+/* ---- damage to tables ---- */
+
+static void nudge(uint16_t *number)
+{
+    switch (below(4)) {
+    case 0: ++*number; break;
+    case 1: --*number; break;
+    case 2: *number = (uint16_t)below(13); break;
+    default: *number = (uint16_t)below(65536); break;
+    }
+}
+
+/* The border between two texts moves, which keeps a table sound unless a name or the header is hit. */
+static void move_border(struct table *t)
+{
+    size_t many = t->answer[4];
+    if (many < 2 || many > SARGACEU_LEAVES / SARGACEU_LEAF_ROW)
+        return;
+    uint16_t *row = t->leaves + SARGACEU_LEAF_ROW * below(many - 1), *next = row + SARGACEU_LEAF_ROW;
+    if (below(2) && row[6] > 0) {
+        row[6]--, next[5]--, next[6]++;
+    } else if (next[6] > 0) {
+        row[6]++, next[5]++, next[6]--;
+    }
+}
+
+/* The last leaf or the last segment is no longer counted, or one more is. */
+static void move_count(struct table *t)
+{
+    size_t which = 1 + below(5);
+    switch (below(3)) {
+    case 0: t->answer[which]++; break;
+    case 1: t->answer[which]--; break;
+    default: t->answer[which] = below(3) ? below(20000) : (size_t)-1 - below(3); break;
+    }
+}
+
+/* Long texts make a table that no message is short enough for: the last leaf's text goes on to the end of the text area. */
+static void stretch(struct table *t)
+{
+    size_t bytes = below(2) ? SARGACEU_TEXT - below(300) : below(SARGACEU_TEXT), many = t->answer[4];
+    if (bytes <= t->answer[5] || many == 0 || many > SARGACEU_LEAVES / SARGACEU_LEAF_ROW || t->answer[5] > TEXT)
+        return;
+    memset(t->text + t->answer[5], 'x', bytes - t->answer[5]);
+    uint16_t *row = t->leaves + SARGACEU_LEAF_ROW * (many - 1);
+    row[6] = (uint16_t)(row[6] + (bytes - t->answer[5]));
+    t->answer[5] = bytes;
+}
+
+static void damage_table(struct table *t)
+{
+    size_t rows = t->answer[3] > 256 ? 256 : t->answer[3], leaves = t->answer[4] > 2048 ? 2048 : t->answer[4];
+    size_t bytes = t->answer[5] > SARGACEU_TEXT ? SARGACEU_TEXT : t->answer[5];
+    switch (below(12)) {
+    case 0: case 1: nudge(t->segments + below(rows * SARGACEU_SEGMENT_ROW)); break;
+    case 2: case 3: case 4: nudge(t->leaves + below(leaves * SARGACEU_LEAF_ROW)); break;
+    case 5: case 6: t->text[below(below(4) ? bytes : 8)] = below(2) ? telling_byte() : (uint8_t)below(256); break;
+    case 7: case 8: case 9: move_border(t); break;
+    case 10: stretch(t); break;
+    default: move_count(t);
+    }
+}
+
+/* ---- the modes ---- */
+
+/* The table of a message that reads is written, and what was written reads to the same table; then the table is damaged. */
+static void compare_tables(const struct message *m, size_t damaged)
+{
+    static struct message back;
+    held = tables[0];
+    if (same_writing(&held, whole, m) != 0)
+        show("the table of a message is refused", m);
+    back.length = answers[0][1];
+    memcpy(back.bytes, outputs[0], back.length);
+    tables[0] = held;
+    if (read_by(0, &back, &tables[0], whole) != 0 || memcmp(&tables[0], &held, sizeof held) != 0)
+        show("what was written reads to another table", m);
+    for (size_t i = 0; i < damaged; i++) {
+        struct lent lent = some_lent();
+        tables[0] = held;
+        for (size_t n = 1 + below(3); n > 0; n--)
+            damage_table(&tables[0]);
+        same_writing(&tables[0], lent, m);
+    }
+}
+
+static void compare_one(const struct message *m, size_t damaged)
+{
+    if (same_reading(m, some_lent()) == 0)
+        compare_tables(m, damaged);
+}
+
+static void load(struct message *m, const char *path)
+{
+    FILE *file = fopen(path, "rb");
+    if (!file) {
+        perror(path);
+        exit(2);
+    }
+    m->length = fread(m->bytes, 1, MESSAGE, file);
+    fclose(file);
+}
+
+static int compare(int files, char **file)
+{
+    static struct message m, damaged;
+    for (int i = 0; i < files; i++) {
+        load(&m, file[i]);
+        if (same_reading(&m, whole) != 0)
+            show("a measured message is refused", &m);
+        compare_tables(&m, 400);
+        for (size_t n = 0; n < 600; n++) {
+            damaged = m;
+            for (size_t d = 1 + below(3); d > 0; d--)
+                damage(&damaged);
+            compare_one(&damaged, 2);
+        }
+        for (damaged = m; damaged.length > 0 && m.length - damaged.length < 100; damaged.length--)
+            same_reading(&damaged, whole);
+    }
+    for (size_t n = 0; n < 12000; n++) {
+        invent(&m);
+        if (n % 3)
+            damage(&m);
+        compare_one(&m, 4);
+    }
+    printf("library and baseline agree on %zu messages, %zu of them accepted, and on %zu tables, %zu of them written\n",
+           cases, accepted, table_cases, table_accepted);
+    for (int i = 0; i < 14; i++)
+        printf("%s%d: %zu", i ? ", " : "answers by number: ", i, numbers[i]);
+    printf("\n");
+    return 0;
+}
+
+static void repeat(bool writing, int which, const struct message *m, size_t times)
+{
+    size_t answer[3];
+    if (!writing) {
+        for (size_t i = 0; i < times; i++)
+            read_by(which, m, &held, whole);
+        return;
+    }
+    for (size_t i = 0; i < times; i++)
+        write_by(which, &held, outputs[0], answer, whole);
+}
+
+static int run(bool writing, const char *who, const char *path, size_t times)
+{
+    static struct message m;
+    int which = strcmp(who, names[1]) == 0;
+    load(&m, path);
+    if (read_by(1, &m, &held, whole) != 0) {
+        fprintf(stderr, "driver: %s is refused\n", path);
+        return 1;
+    }
+    repeat(writing, which, &m, times);
+    return 0;
+}
+
+static double seconds(void)
+{
+    struct timespec t;
+    clock_gettime(CLOCK_MONOTONIC, &t);
+    return (double)t.tv_sec + 1e-9 * (double)t.tv_nsec;
+}
+
+/* Nanoseconds a byte, of the library and of the baseline. */
+static void time_one(bool writing, const struct message *m)
+{
+    double least[2] = { 1e9, 1e9 };
+    size_t times = 20000000 / (m->length + 100) + 1;
+    for (int round = 0; round < 9; round++) {
+        for (int which = 0; which < 2; which++) {
+            double began = seconds();
+            repeat(writing, which, m, times);
+            double took = (seconds() - began) / (double)times;
+            if (took < least[which])
+                least[which] = took;
+        }
+    }
+    double bytes = (double)m->length;
+    printf(" %8.3f %8.3f %6.2f", 1e9 * least[0] / bytes, 1e9 * least[1] / bytes, least[0] / least[1]);
+}
+
+static int time_all(int files, char **file)
+{
+    static struct message m;
+    printf("%-10s %26s %26s\n", "ns a byte", "reading: library, baseline", "writing: library, baseline");
+    for (int i = 0; i < files; i++) {
+        const char *slash = strrchr(file[i], '/');
+        load(&m, file[i]);
+        if (read_by(1, &m, &held, whole) != 0)
+            return 1;
+        printf("%-10s", slash ? slash + 1 : file[i]);
+        time_one(false, &m);
+        time_one(true, &m);
+        printf("\n");
+    }
+    return 0;
+}
+
+int main(int words, char **word)
+{
+    if (words > 2 && strcmp(word[1], "compare") == 0)
+        return compare(words - 2, word + 2);
+    if (words > 2 && strcmp(word[1], "time") == 0)
+        return time_all(words - 2, word + 2);
+    if (words == 5 && (strcmp(word[1], "read") == 0 || strcmp(word[1], "write") == 0))
+        return run(word[1][0] == 'w', word[2], word[3], strtoul(word[4], NULL, 10));
+    fprintf(stderr, "usage: driver compare FILE... | driver read|write library|baseline FILE N | driver time FILE...\n");
+    return 2;
+}

@@ -1,0 +1,187 @@
+/* Writes the messages that are measured into a folder, one file each. Their content is invented, and the same every time. */
+#include <stdarg.h>
+#include <stdint.h>
+#include <stdio.h>
+#include <stdlib.h>
+#include <string.h>
+
+enum { MOST = 16384, LINE = 219, MORE = 217 };
+
+static char message[MOST + 1];
+static size_t bytes;
+
+static void begin(void)
+{
+    bytes = 0;
+}
+
+static void add(const char *form, ...)
+{
+    va_list words;
+    va_start(words, form);
+    int more = vsnprintf(message + bytes, sizeof message - bytes, form, words);
+    va_end(words);
+    if (more < 0 || bytes + (size_t)more > MOST) {
+        fprintf(stderr, "messages: a message passes %d bytes\n", MOST);
+        exit(2);
+    }
+    bytes += more;
+}
+
+static void save(const char *folder, const char *name)
+{
+    char path[4096];
+    snprintf(path, sizeof path, "%s/%s", folder, name);
+    FILE *file = fopen(path, "wb");
+    if (!file || fwrite(message, 1, bytes, file) != bytes || fclose(file) != 0) {
+        perror(path);
+        exit(2);
+    }
+}
+
+/* Sixteen analyses: code, name, value, unit, range. */
+static const char *const analyses[16][5] = {
+    { "GLY", "Glycemie", "5.12", "mmol/L", "3.90-6.10" }, { "URE", "Uree", "6.4", "mmol/L", "2.5-7.5" },
+    { "CRE", "Creatinine", "78", "umol/L", "60-105" },    { "NA", "Sodium", "140", "mmol/L", "136-145" },
+    { "K", "Potassium", "4.2", "mmol/L", "3.5-5.0" },     { "CL", "Chlore", "102", "mmol/L", "98-107" },
+    { "CA", "Calcium", "2.31", "mmol/L", "2.20-2.60" },   { "HB", "Hemoglobine", "14.1", "g/dL", "13.0-17.0" },
+    { "HT", "Hematocrite", "42", "%", "40-52" },          { "GB", "Leucocytes", "6.8", "G/L", "4.0-10.0" },
+    { "GR", "Hematies", "4.71", "T/L", "4.50-5.70" },     { "PLQ", "Plaquettes", "251", "G/L", "150-400" },
+    { "CRP", "Proteine C", "3", "mg/L", "0-5" },          { "TSH", "Thyreostimuline", "1.85", "mUI/L", "0.40-4.00" },
+    { "FER", "Ferritine", "96", "ug/L", "30-300" },       { "VS", "Sedimentation", "8", "mm", "0-15" },
+};
+
+static void header(const char *context)
+{
+    add("H|~^\\&|A0001||LAB~Laboratoire Essai||%s|||RECEP~Clinique Essai|P|H2.4~L|20240102030405\r", context);
+}
+
+static void patient(int number)
+{
+    add("P|%d|PAT%05d||DOS%05d|ESSAI~PATIENT%d||19700101|M||1 RUE DE L'ESSAI~~VILLE~~00000||||||ENTREE\r",
+        number, number, number, number);
+}
+
+static void order(int number)
+{
+    add("OBR|%d|D%05d~DEMANDE|L%05d~LABO|BIO~Bilan~L||202401020304|||202401020405|SANG VEINEUX||MED%d~ESSAI\r",
+        number, number, number, number);
+}
+
+static void result(int number)
+{
+    const char *const *a = analyses[number % 16];
+    add("OBX|%d|NM|%s~%s||%s|%s|%s|N|F|202401020405\r", number, a[0], a[1], a[2], a[3], a[4]);
+}
+
+/* A laboratory's answer to one order, of the usual size. */
+static void typical(void)
+{
+    begin();
+    header("ORU");
+    patient(1);
+    order(1);
+    for (int i = 1; i <= 20; i++)
+        result(i);
+    add("C|1||Prelevement a jeun~resultats valides\r");
+    add("L|1||1|23\r");
+}
+
+/* As many leaves as the form has, in texts of usual length. */
+static void many_leaves(void)
+{
+    begin();
+    header("ORU");
+    patient(1);
+    for (int i = 0; i < 129; i++) {
+        const char *const *a = analyses[i % 16];
+        if (i % 12 == 0)
+            order(i / 12 + 1);
+        add("OBX|%d|NM|%s~%s||%s|%s|%s, adulte 18+|N|VALIDE le 02/01/2024|F|202401020405~TECH01\r",
+            i % 12 + 1, a[0], a[1], a[2], a[3], a[4]);
+    }
+    add("L|1\r");
+}
+
+/* As many leaves as the form has, of two bytes and less, split by all four separators. */
+static void dense(void)
+{
+    begin();
+    add("H|~^\\&|||LAB||ORU\rP|1||||X~Y\rOBR|1\r");
+    for (int i = 1; i <= 70; i++)
+        add("OBX|%d|CE|A%d~B1^12~2^xyz&yz|||12.5~3|abc||NN^%d~cd&dd|10~23^45~5|eee|FF|gh&hh|777|ii\r", i, i % 10, i % 7);
+    add("L|1\r");
+}
+
+/* One long text in addenda, each line filled, up to the last byte that a message may have. */
+static void long_text(void)
+{
+    static const char words[] = "Le prelevement est conforme, la culture reste sterile a 48 heures et aucun germe n'est retrouve. ";
+    begin();
+    add("H|~^\\&|||LAB||ORU\rP|1||||X~Y\rOBR|1\r");
+    add("OBX|1|TX|CONCL||");
+    for (size_t used = 16, room = LINE, w = 0; bytes < MOST - 5; used++) {
+        if (used == room) {
+            add("\rA|");
+            used = 0;
+            room = MORE;
+        }
+        add("%c", words[w++ % (sizeof words - 1)]);
+    }
+    add("\rL|1\r");
+}
+
+/* One shape at a size: orders of seven results, the last result's text as long as is needed. */
+static void of_size(size_t size)
+{
+    begin();
+    header("ORU");
+    patient(1);
+    for (int i = 0; bytes + 300 < size; i++) {
+        if (i % 8 == 0) {
+            add("OBR|%d|D%05d|L%05d|BIO~Bilan annuel|202401020304|SANG VEINEUX~TUBE SEC\r", i / 8 + 1, i, i);
+        } else {
+            const char *const *a = analyses[i % 16];
+            add("OBX|%d|NM|%s~%s||%s|%s|%s, methode enzymatique, automate 1\r", i, a[0], a[1], a[2], a[3], a[4]);
+        }
+    }
+    add("OBX|1|TX|FIN||");
+    while (bytes < size - 5 - 75)
+        add("x");
+    add("\rOBX|2|TX|FIN||");
+    while (bytes < size - 5)
+        add("y");
+    add("\rL|1\r");
+}
+
+int main(int words, char **word)
+{
+    if (words != 2) {
+        fprintf(stderr, "usage: messages FOLDER\n");
+        return 2;
+    }
+    begin();
+    add("H|~^\\&|||||ADM\rP\rL\r");
+    save(word[1], "least-19");
+    begin();
+    add("H|~^\\&|||||ERR\rERR\rL\r");
+    save(word[1], "least-21");
+    begin();
+    add("H|~^\\&|||LAB||ORU\rP|1||||DUPONT~JEAN\rOBR|1\rOBX|1|NM|GLY||1.2\rL|1\r");
+    save(word[1], "K1");
+    typical();
+    save(word[1], "typical");
+    many_leaves();
+    save(word[1], "many");
+    dense();
+    save(word[1], "dense");
+    long_text();
+    save(word[1], "long");
+    for (size_t size = 1; size <= 16; size *= 2) {
+        char name[16];
+        snprintf(name, sizeof name, "grow-%02zu", size);
+        of_size(size * 1024);
+        save(word[1], name);
+    }
+    return 0;
+}
