@@ -16,7 +16,7 @@ cardNumbers c = c .separator ∷ c .context ∷ c .segments ∷ c .leaves ∷ c 
 unfoldable pub isCard : List ℕ → Bool
 isCard numbers = leb 5 (length numbers) && leb (getD numbers 0 0) 255 && leb (getD numbers 1 0) 255
 
--- "Fewer than five numbers, or a separator or context over 255, are taken as the card that is all zero"
+-- "fewer than five, or a separator or context over 255, are taken as the card that is all zero"
 unfoldable pub cardOf : List ℕ → Card
 cardOf numbers =
     elim (isCard numbers) [

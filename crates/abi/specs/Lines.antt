@@ -18,7 +18,7 @@ numberOf (Line e n) = 0
 numberOf End = 0
 numberOf (Fault number place) = number
 
--- "where the line ends, without its CR"; "the place itself at the message's end"; "the fault's place"
+-- "where the line ends, without its CR"; "At or past the message's end both are the place itself"; "the fault's place"
 unfoldable pub endOf : ℕ → Found → ℕ
 endOf at (Line e n) = e
 endOf at End = at
