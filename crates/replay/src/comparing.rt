@@ -13,30 +13,13 @@ use crate::tables::table_case;
 use look::order::same_order;
 use table::Card;
 
-// Runs the case that follows: the first table and its row.
-pub fn run() -> bool {
-    let mut segments = segment_buffer();
-    let mut leaves = leaf_buffer();
-    let mut text = text_buffer();
-    match table_case(&mut segments, &mut leaves, &mut text) {
-        Came::Whole(lengths) => {
-            let rows = lengths.segments;
-            let leaf_rows = lengths.leaves;
-            let area = lengths.text;
-            let row = number();
-            if MOST < row {
-                return false;
-            }
-            run_with(
-                lengths.card,
-                &segments[0..rows],
-                &leaves[0..leaf_rows],
-                &text[0..area],
-                row as u16,
-            )
-        }
-        Came::Missing => false,
+// Compares a row of a table, which follows, with a row of another table, which follows it.
+pub fn run(card: Card, segments: &[u16], leaves: &[u16], text: &[u8]) -> bool {
+    let row = number();
+    if MOST < row {
+        return false;
     }
+    run_with(card, segments, leaves, text, row as u16)
 }
 
 // The second table and its row, and whether the two are the same order.

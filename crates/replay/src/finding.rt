@@ -1,34 +1,15 @@
 // Operation 4: the row finder.
-use crate::buffers::leaf_buffer;
-use crate::buffers::segment_buffer;
-use crate::buffers::text_buffer;
 use crate::input::MOST;
 use crate::input::number;
 use crate::output::end;
 use crate::output::first;
 use crate::output::new_line;
 use crate::output::then;
-use crate::tables::Came;
-use crate::tables::Lengths;
-use crate::tables::table_case;
 use look::row::next_row;
-
-// Runs the case that follows.
-pub fn run() -> bool {
-    let mut segments = segment_buffer();
-    let mut leaves = leaf_buffer();
-    let mut text = text_buffer();
-    match table_case(&mut segments, &mut leaves, &mut text) {
-        Came::Whole(lengths) => {
-            let rows = lengths.segments;
-            run_on(lengths, &segments[0..rows])
-        }
-        Came::Missing => false,
-    }
-}
+use table::Card;
 
 // Asks for the row after the one that follows, with the kind and the owner that follow.
-fn run_on(lengths: Lengths, segments: &[u16]) -> bool {
+pub fn run(card: Card, segments: &[u16]) -> bool {
     let after = number();
     if MOST < after {
         return false;
@@ -41,7 +22,7 @@ fn run_on(lengths: Lengths, segments: &[u16]) -> bool {
     if MOST < owner {
         return false;
     }
-    let row = next_row(lengths.card, segments, after, kind as u16, owner as u16);
+    let row = next_row(card, segments, after, kind as u16, owner as u16);
     let mut line = new_line();
     let begun = first(&mut line, 4);
     let all = then(&mut line, begun, row);

@@ -1,8 +1,5 @@
 // Operation 3: the leaf lookup.
-use crate::buffers::leaf_buffer;
-use crate::buffers::segment_buffer;
 use crate::buffers::sum_bytes;
-use crate::buffers::text_buffer;
 use crate::input::MOST;
 use crate::input::SUBSTITUTE;
 use crate::input::bytes;
@@ -11,8 +8,6 @@ use crate::output::end;
 use crate::output::first;
 use crate::output::new_line;
 use crate::output::then;
-use crate::tables::Came;
-use crate::tables::table_case;
 use look::leaf::Place;
 use look::leaf::leaf_text;
 use table::Card;
@@ -23,29 +18,8 @@ pub enum Asked {
     Missing,
 }
 
-// Runs the case that follows.
-pub fn run() -> bool {
-    let mut segments = segment_buffer();
-    let mut leaves = leaf_buffer();
-    let mut text = text_buffer();
-    match table_case(&mut segments, &mut leaves, &mut text) {
-        Came::Whole(lengths) => {
-            let rows = lengths.segments;
-            let leaf_rows = lengths.leaves;
-            let area = lengths.text;
-            run_on(
-                lengths.card,
-                &segments[0..rows],
-                &leaves[0..leaf_rows],
-                &text[0..area],
-            )
-        }
-        Came::Missing => false,
-    }
-}
-
 // Looks up the place that follows, with the substitute that follows it.
-fn run_on(card: Card, segments: &[u16], leaves: &[u16], text: &[u8]) -> bool {
+pub fn run(card: Card, segments: &[u16], leaves: &[u16], text: &[u8]) -> bool {
     match place_case() {
         Asked::At(place) => {
             let mut substitute = [0u8; SUBSTITUTE];

@@ -8,6 +8,7 @@ mod input;
 mod looking;
 mod output;
 mod reading;
+mod tabled;
 mod tables;
 mod walking;
 mod watching;

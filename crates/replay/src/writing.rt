@@ -1,7 +1,5 @@
 // Operation 2: a table into its message.
 use crate::buffers::fill_bytes;
-use crate::buffers::leaf_buffer;
-use crate::buffers::segment_buffer;
 use crate::buffers::sum_bytes;
 use crate::buffers::text_buffer;
 use crate::input::TEXT;
@@ -10,34 +8,11 @@ use crate::output::end;
 use crate::output::first;
 use crate::output::new_line;
 use crate::output::then;
-use crate::tables::Came;
-use crate::tables::table_case;
 use table::Card;
 use write::write;
 
-// Runs the case that follows.
-pub fn run() -> bool {
-    let mut segments = segment_buffer();
-    let mut leaves = leaf_buffer();
-    let mut text = text_buffer();
-    match table_case(&mut segments, &mut leaves, &mut text) {
-        Came::Whole(lengths) => {
-            let rows = lengths.segments;
-            let leaf_rows = lengths.leaves;
-            let area = lengths.text;
-            run_with(
-                lengths.card,
-                &segments[0..rows],
-                &leaves[0..leaf_rows],
-                &text[0..area],
-            )
-        }
-        Came::Missing => false,
-    }
-}
-
-// An output of the length that follows.
-fn run_with(card: Card, segments: &[u16], leaves: &[u16], text: &[u8]) -> bool {
+// Writes a table into an output of the length that follows.
+pub fn run(card: Card, segments: &[u16], leaves: &[u16], text: &[u8]) -> bool {
     let mut output = text_buffer();
     let size = number();
     if TEXT < size {

@@ -1,11 +1,11 @@
--- `replay::looking::run` is safe: the table that came lies within its buffers.
+-- `replay::tabled::run` is safe: the table that came lies within its buffers.
 -- Assumes nothing.
 use mathlib.Core.Path.{subst}
 use lib.ListN.{length}
 use Rattle.replay.specs.Sizes.{Within}
 use borrow.Author.Needs.{needs}
-use Rattle.replay.proofs.looking.run.Statement.{statement}
-use Rattle.replay.proofs.looking.run.Tie as tie
+use Rattle.replay.proofs.tabled.run.Statement.{statement}
+use Rattle.replay.proofs.tabled.run.Tie as tie
 
 segment-buffer-requires : tie.Need-segment-buffer-requires
 segment-buffer-requires c κs = search needs
