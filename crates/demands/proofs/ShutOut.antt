@@ -1,17 +1,33 @@
--- Writers that the contract shuts out, whatever the table (document 01, "How strong the statements are").
+-- Writers that the contract shuts out (document 01, "How strong the statements are"): whatever the table, and on K1's.
 -- Assumes nothing.
 use mathlib.Core.Bool.{true, false}
 use mathlib.Core.List.{List}
-use mathlib.Core.Path.{_≡_, sym, ap, _∙_}
-use Prim.Native.Nat.{ℕ, _<_}
+use mathlib.Core.Path.{_≡_, refl, sym, ap, _∙_}
+use Prim.Native.Nat.{ℕ, _≤_, _<_}
 use native.Mathlib.Omega.{arith}
 use lib.Dec.{ltb}
+use lib.ListN.{length, getD}
+use lib.Seq.{sets}
+use Rattle.laws.specs.Lists.{concat}
+use Rattle.laws.specs.Tables.{values}
+use Rattle.laws.specs.Texts.{bytes}
 use Rattle.form.specs.declared.limits.Limits.{Limits}
-use Rattle.form.specs.Limits.{Lawful}
+use Rattle.form.specs.Header.{splitting}
+use Rattle.form.specs.Limits.{form, Lawful, lineCount, roundedUp}
+use Rattle.form.proofs.LineCount.{form-lawful}
+use Rattle.line.specs.Cutting.{pieces, addenda, cut, cuts, unlines}
+use Rattle.order.specs.Owners.{level}
+use Rattle.table.specs.Leaves.{onto, split}
+use Rattle.table.specs.Back.{leafAt, leavesOf, separatorsIn, between, unsplitFrom, unsplit, segmentsOf, linesOf, written}
+use Rattle.table.specs.Examples.{filed, k1}
+use Rattle.table.specs.Examples as says
 use Rattle.table.specs.Lent.{Lent, withinBuffers, counted}
 use Rattle.table.specs.Rows.{Table}
 use Rattle.table.specs.Reading.{Outcome, accepted, reading}
+use Rattle.read.proofs.OwnersColumn.{front-at}
+use Rattle.read.proofs.ShutOut.{K1, k1-read}
 use Rattle.write.specs.Writing.{ReadTo, stated, Writing, refuses, writes, writing}
+use Rattle.write.specs.Answer.{answer, outputAfter, writtenSize}
 use Rattle.write.proofs.LentTables.{writes-back}
 use Rattle.demands.proofs.Demands.{every-table-is-written}
 
@@ -32,3 +48,52 @@ module _ (L : Limits) (lawful : Lawful L) (levels : ℕ → ℕ → ℕ) (l : Le
       let same : t ≡ counted l = cc in
       let z : t .card .leaves ≡ l .card .leaves = ap (λ (u : Table). u .card .leaves) same in
       omega (arith, z, fewer)
+
+-- K1's table, lent in buffers of just its entries, and what is written for it
+unfoldable pub K1-lent : Lent
+K1-lent = record { card = k1 .card; segmentRows = k1 .segmentRows; leafRows = k1 .leafRows; text = k1 .text }
+
+k1-counted : counted K1-lent ≡ k1
+unfolding K1-lent counted k1 filed concat bytes
+k1-counted = refl
+
+k1-within : withinBuffers K1-lent ≡ true
+unfolding K1-lent withinBuffers k1 filed concat bytes
+k1-within = refl
+
+k1-to : ReadTo form level (counted K1-lent)
+unfolding stated says.stated
+k1-to = (K1, k1-read ∙ ap accepted (sym k1-counted))
+
+k1-written : writing form level K1-lent (form .bytes) ≡ writes (written form k1) (length (linesOf form k1))
+k1-written =
+    every-table-is-written form level form-lawful K1-lent (form .bytes) refl k1-within k1-to
+    ∙ ap (λ (t : Table). writes (written form t) (length (linesOf form t))) k1-counted
+
+-- its first byte is H, and there are 65
+k1-message : written form k1 ≡ K1
+unfolding K1 k1 filed concat bytes values lineCount roundedUp splitting pieces addenda cut cuts unlines onto split leafAt leavesOf separatorsIn between unsplitFrom unsplit segmentsOf linesOf written
+k1-message = refl
+
+-- a writer that stores nothing leaves an output of zeros as it was
+pub stores-nothing : (output : List ℕ) → form .bytes ≤ length output → getD output 0 0 ≡ 0
+    → outputAfter output (writing form level K1-lent (form .bytes)) ≡ output → ⊥
+unfolding outputAfter K1 bytes
+stores-nothing output room zero e =
+    let after = ap (outputAfter output) k1-written ∙ ap (sets output 0) k1-message in
+    let first = front-at output K1 0 (omega (arith, room)) (omega arith) in
+    let z : _≡_ {A = ℕ} 72 0 = sym first ∙ ap (λ (s : List ℕ). getD s 0 0) (sym after ∙ e) ∙ zero in
+    omega arith
+
+-- a count of the writer's bytes that leaves the separators and the CRs out, or that answers 0 always
+module _ (r : ℕ) (h : r ≡ writtenSize form level K1-lent) where
+  size-65 : r ≡ 65
+  unfolding writtenSize answer K1 bytes
+  size-65 = h ∙ ap (λ (w : Writing). answer w .bytes) k1-written ∙ ap length k1-message
+
+  pub counts-text-only : r ≡ k1 .card .text → ⊥
+  unfolding k1 filed
+  counts-text-only e = omega (arith, size-65, e)
+
+  pub counts-nothing : r ≡ 0 → ⊥
+  counts-nothing e = omega (arith, size-65, e)
