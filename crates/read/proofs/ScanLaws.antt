@@ -81,10 +81,10 @@ module _ {class m : List ℕ} {from stop : ℕ} where
           = ap (marks class) turn ∙ marks-more class b (between m (i + 1) stop) h (λ e. omega arith) in
           record { ahead = omega arith; few = omega (arith, w .few); end = omega (arith, w .end); marked = omega (arith, w .marked) }
 
-      pub scan-passes : (getD class b 0 ≡ 5 → ⊥) → getD class b 0 ≤ 0 → Scanning class m from stop (i + 1) separators
-      scan-passes h z =
+      pub scan-passes : getD class b 0 ≤ 0 → Scanning class m from stop (i + 1) separators
+      scan-passes z =
           let run-left : run class (between m i stop) ≡ suc (run class (between m (i + 1) stop))
-          = ap (run class) turn ∙ run-more class b (between m (i + 1) stop) h in
+          = ap (run class) turn ∙ run-more class b (between m (i + 1) stop) (λ e. omega arith) in
           let marks-left : marks class (between m i stop) ≡ marks class (between m (i + 1) stop)
           = ap (marks class) turn ∙ marks-text class b (between m (i + 1) stop) (omega arith) in
           record { ahead = omega arith; few = omega (arith, w .few); end = omega (arith, w .end); marked = omega (arith, w .marked) }

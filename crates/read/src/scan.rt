@@ -10,7 +10,7 @@ pub struct Scanned {
     pub separators: usize,
 }
 
-// From `from` on up to the first byte below 32, and at most up to `stop`.
+// From `from` on up to the first byte below 32, and at most up to `stop`. Most bytes are text: only the others are asked what they are.
 pub(crate) fn scan(class: &[u8; 256], message: &[u8], from: usize, stop: usize) -> Scanned
     requires { ⌜ (from ≤ stop) × (stop ≤ length (now message)) ⌝ }
     ensures { λ r. ⌜ (r .end ≡ from + run (now (class .entry)) (take (stop - from) (drop from (now (message .entry)))))
@@ -20,13 +20,13 @@ pub(crate) fn scan(class: &[u8; 256], message: &[u8], from: usize, stop: usize) 
     let mut i = from;
     while i < stop {
         let sort = class[wide(message[i])];
-        if sort == 5 {
-            return Scanned { end: i, separators };
-        }
-        i += 1;
         if sort > 0 {
+            if sort == 5 {
+                return Scanned { end: i, separators };
+            }
             separators += 1;
         }
+        i += 1;
     }
     Scanned { end: i, separators }
 }

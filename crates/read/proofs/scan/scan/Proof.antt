@@ -1,6 +1,8 @@
 -- `read::scan::scan` meets its contract. The loop's invariant: what is left from `i` on gives the whole (`Scanning`).
 -- Assumes nothing.
-use Prim.Native.Nat.{_-_}
+use mathlib.Core.Logic.{⊎-elim}
+use mathlib.Core.Path.{subst⁻¹}
+use Prim.Native.Nat.{_+_, _-_}
 use native.Mathlib.Omega.{arith}
 use borrow.Author.Needs.{needs}
 use Rattle.read.proofs.ScanLaws.{Scanning, scan-begins, scan-stops, scan-marks, scan-passes, scan-ends}
@@ -27,41 +29,36 @@ element-copy-out-sort c = search needs
 
 returns : tie.Need-returns Inv-loop μ-loop
 returns c =
-    let at-loop = c .before .before .before .before .before .loop in
-    let at-wide = c .before .before .wide in
-    let at-if1 = c .if1 in
-    let scanned = scan-stops (at-loop .inv) (omega arith) (omega arith) (at-wide .ensures .0) (at-if1 .taken) in
+    let at-loop = c .before .before .before .before .before .before .loop in
+    let at-wide = c .before .before .before .wide in
+    let at-if2 = c .if2 in
+    let scanned = scan-stops (at-loop .inv) (omega arith) (omega arith) (at-wide .ensures .0) (at-if2 .taken) in
     (scanned .end, scanned .marked)
-
-add-i : tie.Need-add-i Inv-loop μ-loop
-add-i c = omega arith
 
 add-separators : tie.Need-add-separators Inv-loop μ-loop
 add-separators c =
     let at-loop = c .before .before .before .before .before .before .loop in
     omega (arith, at-loop .inv .few)
 
+add-i : tie.Need-add-i Inv-loop μ-loop
+add-i c = omega arith
+
 loop-less : tie.Need-loop-less Inv-loop μ-loop
 loop-less c = omega arith
 
 loop-again : tie.Need-loop-again Inv-loop μ-loop
 loop-again c =
-    let at-loop = c .before .before .before .before .before .before .loop in
-    let at-wide = c .before .before .before .wide in
-    let at-if1 = c .before .if1 in
-    let at-if2 = c .if2 in
-    scan-marks (at-loop .inv) (omega arith) (omega arith) (at-wide .ensures .0) (at-if1 .left) (at-if2 .taken)
-
-loop-less-2 : tie.Need-loop-less-2 Inv-loop μ-loop
-loop-less-2 c = omega arith
-
-loop-again-2 : tie.Need-loop-again-2 Inv-loop μ-loop
-loop-again-2 c =
-    let at-loop = c .before .before .before .before .before .before .loop in
-    let at-wide = c .before .before .before .wide in
-    let at-if1 = c .before .if1 in
-    let at-if2 = c .if2 in
-    scan-passes (at-loop .inv) (omega arith) (omega arith) (at-wide .ensures .0) (at-if1 .left) (at-if2 .left)
+    let at-args = c .before .before .before .before .before .before .before .args in
+    let at-loop = c .before .before .before .before .before .loop in
+    let at-wide = c .before .before .wide in
+    let at-if1 = c .if1 in
+    let a = at-args in
+    ⊎-elim
+    (λ h. subst⁻¹ (Scanning (a .class .now) (a .message .now) (a .from) (a .stop) (at-loop .i + 1)) (h .2)
+    (scan-marks (at-loop .inv) (omega arith) (omega arith) (at-wide .ensures .0) (h .1 .left) (h .0 .taken)))
+    (λ h. subst⁻¹ (Scanning (a .class .now) (a .message .now) (a .from) (a .stop) (at-loop .i + 1)) (h .1)
+    (scan-passes (at-loop .inv) (omega arith) (omega arith) (at-wide .ensures .0) (h .0 .left)))
+    (at-if1 .came)
 
 returns-2 : tie.Need-returns-2 Inv-loop μ-loop
 returns-2 c =
@@ -80,10 +77,8 @@ scan-spec =
     wide-requires
     element-copy-out-sort
     returns
-    add-i
     add-separators
+    add-i
     loop-less
     loop-again
-    loop-less-2
-    loop-again-2
     returns-2)
