@@ -248,7 +248,7 @@ module _ (ps : Separators) (s : Survey) (table : List ℕ) (is : table ≡ follo
         ∙ ap (watched (watcherOf done last)) (sym (kinds-last done last))
 
     -- the open segment closed and the next begun
-    pub seen-next : Seen ps (segmentsOf done last) [] (nextSegment (listed table) s)
+    pub seen-next : Seen ps (segmentsOf done last) [] (nextSegment (closed (listed table) s))
     seen-next =
         record {
           count = omega (arith, w .count, length-append done (last ∷ []));

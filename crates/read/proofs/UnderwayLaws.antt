@@ -30,11 +30,12 @@ use Rattle.table.proofs.HeaderBytes.{header-bytes}
 use Rattle.read.specs.declared.survey.Survey.{Survey}
 use Rattle.read.specs.Classes.{classTable}
 use Rattle.read.specs.Scan.{run, marks}
+use Rattle.read.specs.Starting.{textFrom}
 use Rattle.read.specs.Seeing.{nothingSeen, withText, closed, nextSegment}
 use Rattle.read.specs.Surveying.{Known}
 use Rattle.read.specs.Underway.{Seen, SameFault, Left, Underway, LineBegun}
 use Rattle.read.proofs.ScanLaws.{Bytes, run-text, marks-separators}
-use Rattle.read.proofs.StartLaws.{addendum-other, addendum-view, header-text}
+use Rattle.read.proofs.StartLaws.{addendum-other, addendum-view, begins-segment, carries-on, carried-from, header-text}
 use Rattle.read.proofs.SeenLaws.{seen-begins, seen-text, seen-next, seen-closed}
 
 -- what is left of the lines, one line on
@@ -80,9 +81,9 @@ left-first f whole l ls e a =
 -- a line at `at` of the message m
 module _ (L : Limits) (ps : Separators) (m : List ℕ) (at : ℕ) (s : Survey) where
   -- that is no addendum begins a segment
-  pub segment-begins :
+  segment-begins :
       (table : List ℕ) → table ≡ followers → at < length m → Underway L ps m at s → addendum (ps .field) (drop at m) ≡ false
-      → LineBegun L ps m at at (nextSegment (listed table) s)
+      → LineBegun L ps m at at (nextSegment (closed (listed table) s))
   segment-begins table is some w a =
       record {
         done = w .done ++ w .last ∷ [];
@@ -104,10 +105,10 @@ module _ (L : Limits) (ps : Separators) (m : List ℕ) (at : ℕ) (s : Survey) w
       }
 
   -- an addendum is joined to the open segment from its third byte on
-  pub addendum-begins :
-      33 ≤ ps .field → 7 ≤ L .line → at < length m → Underway L ps m at s → addendum (ps .field) (drop at m) ≡ true
+  addendum-begins :
+      33 ≤ ps .field → 7 ≤ L .line → Underway L ps m at s → addendum (ps .field) (drop at m) ≡ true
       → LineBegun L ps m at (at + 2) s
-  addendum-begins high wide some w a =
+  addendum-begins high wide w a =
       let view : drop at m ≡ letterA ∷ ps .field ∷ drop 2 (drop at m) = addendum-view (ps .field) (drop at m) a in
       let two : at + 2 - at ≡ 2 = omega arith in
       record {
@@ -122,7 +123,7 @@ module _ (L : Limits) (ps : Separators) (m : List ℕ) (at : ℕ) (s : Survey) w
         fault = w .left .fault;
         few-segments = omega (arith, w .few-segments);
         few-separators = omega (arith, w .few-separators);
-        some = some;
+        some = omega (arith, ap length view, length-drop at m);
         text =
             omega (
               arith,
@@ -134,6 +135,24 @@ module _ (L : Limits) (ps : Separators) (m : List ℕ) (at : ℕ) (s : Survey) w
         within = omega (arith, ap length view, length-drop at m);
         short = omega arith;
       }
+
+-- a line has been seen, and where the text of the next is joined from tells which one that is
+module _ {L : Limits} {ps : Separators} {m : List ℕ} {at from : ℕ} {s : Survey}
+    (w : Underway L ps m at s) (is-from : from ≡ textFrom (ps .field) at (drop at m)) where
+  -- an addendum
+  pub goes-on-from : 33 ≤ ps .field → 7 ≤ L .line → (from ≡ at → ⊥) → LineBegun L ps m at from s
+  goes-on-from high wide other =
+      let later : textFrom (ps .field) at (drop at m) ≡ at → ⊥ = λ e. other (is-from ∙ e) in
+      subst⁻¹ (λ (n : ℕ). LineBegun L ps m at n s) (is-from ∙ carried-from (ps .field) at (drop at m) later)
+      (addendum-begins L ps m at s high wide w (carries-on (ps .field) at (drop at m) later))
+
+  -- or one that begins a segment, once the open one is closed
+  pub begins-next : {table : List ℕ} {shut next : Survey} → table ≡ followers → from ≡ at → at < length m
+      → shut ≡ closed (listed table) s → next ≡ nextSegment shut → LineBegun L ps m at from next
+  begins-next {table = table} {next = next} is here some shuts opens =
+      let segment = begins-segment (ps .field) at (drop at m) (sym is-from ∙ here) in
+      subst⁻¹ (λ (n : ℕ). LineBegun L ps m at n next) here
+      (subst⁻¹ (LineBegun L ps m at at) (opens ∙ ap nextSegment shuts) (segment-begins L ps m at s table is some w segment))
 
 -- a run that begins d bytes into a line and is looked at up to the line's last place ends where the line's text does
 run-in-line : (most at d e r stop : ℕ) → d ≤ most → r ≤ e → stop ≡ at + min most (d + e) → (at + d) + min (stop - (at + d)) r ≡ at + min most (d + r)
@@ -285,16 +304,18 @@ message-begins L ps m wide h =
     }
 
 -- the last line has been seen: no fault, and all that is asked of the segments is known
-pub survey-ends : (L : Limits) (ps : Separators) (m : List ℕ) (at : ℕ) (s : Survey) (table : List ℕ)
-    → table ≡ followers → length m ≤ at → Underway L ps m at s
-    → (faultNumber (walk L m) ≡ 0) × Known ps (joined (ps .field) (texts (walk L m))) (closed (listed table) s)
+pub survey-ends : {L : Limits} {ps : Separators} {m : List ℕ} {at : ℕ} {s shut : Survey} {table : List ℕ}
+    → Underway L ps m at s → table ≡ followers → length m ≤ at → shut ≡ closed (listed table) s
+    → (faultNumber (walk L m) ≡ 0) × Known ps (joined (ps .field) (texts (walk L m))) shut
 unfolding texts faultNumber carried joined
-survey-ends L ps m at s table is past w =
+survey-ends {L} {ps} {m} {at} {s} {shut} {table} w is past shuts =
     let over : walkFrom L at (drop at m) ≡ end = ap (walkFrom L at) (drop-of-length-le m past) ∙ walkFrom-nil L at in
     let all : joined (ps .field) (texts (walk L m)) ≡ w .done ++ w .last ∷ []
     = w .left .joins
     ∙ ap (λ (ls : Lines). w .done ++ (w .last ++ carried (ps .field) (texts ls)) ∷ joined (ps .field) (texts ls)) over
     ∙ ap (λ (t : List ℕ). w .done ++ t ∷ []) (append-nil (w .last)) in (
       w .left .fault .number ∙ ap faultNumber over,
-      subst⁻¹ (λ (ss : List (List ℕ)). Known ps ss (closed (listed table) s)) all (seen-closed ps s table is (w .done) (w .last) (w .seen)),
+      subst⁻¹ (Known ps (joined (ps .field) (texts (walk L m)))) shuts
+          (subst⁻¹ (λ (ss : List (List ℕ)). Known ps ss (closed (listed table) s)) all
+          (seen-closed ps s table is (w .done) (w .last) (w .seen))),
     )

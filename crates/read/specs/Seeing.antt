@@ -69,15 +69,15 @@ closed may s =
       context = s .context;
     }
 
--- and the next one begun
-abbrev pub nextSegment : (ℕ → ℕ → ℕ → Bool) → Survey → Survey
-nextSegment may s =
+-- the next one begun behind it
+abbrev pub nextSegment : Survey → Survey
+nextSegment s =
     record {
       segments = s .segments + 1;
       separators = s .separators;
-      unknown = closed may s .unknown;
-      misplaced = closed may s .misplaced;
-      watcher = closed may s .watcher;
+      unknown = s .unknown;
+      misplaced = s .misplaced;
+      watcher = s .watcher;
       kind = fresh 1;
       context = s .context;
     }

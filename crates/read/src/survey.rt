@@ -18,7 +18,7 @@ ghost use Rattle.laws.specs.Lists.{firstOf};
 ghost use Rattle.order.specs.Watcher.{listed};
 ghost use Rattle.read.specs.Classes.{classTable};
 ghost use Rattle.read.specs.Seeing.{nothingSeen, withText, watching, closed, nextSegment};
-ghost use Rattle.read.specs.Underway.{Underway, LineBegun, StepOf};
+ghost use Rattle.read.specs.Underway.{LineBegun, StepOf};
 ghost use Rattle.read.specs.Surveying.{Ready, SurveyOf};
 
 // What is known once some lines have been seen. The last segment begun is open: lines may still carry it on.
@@ -128,12 +128,12 @@ impl Survey {
         self.watcher
     }
 
-    // The open segment is closed and the next one begun.
-    fn next_segment(self, followers: &[u8; 847]) -> Survey
+    // The next segment begun behind a closed one.
+    fn next_segment(self) -> Survey
         requires { ⌜ self .segments + 1 < 18446744073709551616 ⌝ }
-        ensures { λ r. ⌜ r ≡ nextSegment (listed (now (followers .entry))) self ⌝ }
+        ensures { λ r. ⌜ r ≡ nextSegment self ⌝ }
     {
-        let mut next = self.closed(followers);
+        let mut next = self;
         next.segments = self.segments + 1;
         next.kind = Letters::fresh(1);
         next
@@ -175,51 +175,23 @@ fn see_line(
     }
 }
 
-// The next line after some: an addendum carries the open segment on, any other line begins a segment.
-fn next_line(
+// All lines of a message whose header is sound. Each line is seen at one place in the code, the first behind its seven header bytes: the
+// compiler then keeps the survey where it is. An addendum carries the open segment on, any other line closes it and begins the next.
+pub(crate) fn survey_message(
     class: &[u8; 256],
     followers: &[u8; 847],
     limits: Limits,
     separators: Separators,
     message: &[u8],
-    at: usize,
-    seen: Survey,
-) -> Step
-    requires { ⌜ Ready limits separators (now class) (now followers) (now message) × (at < length (now message)) × Underway limits separators (now message) at seen ⌝ }
-    ensures { λ r. ⌜ StepOf limits separators (now (message .entry)) at r ⌝ }
-{
-    let from = text_from(message, at, separators.field);
-    if from == at {
-        return see_line(
-            class,
-            limits,
-            separators,
-            message,
-            at,
-            from,
-            seen.next_segment(followers),
-        );
-    }
-    see_line(class, limits, separators, message, at, from, seen)
-}
-
-// All lines from `first` on.
-fn survey_rest(
-    class: &[u8; 256],
-    followers: &[u8; 847],
-    limits: Limits,
-    separators: Separators,
-    message: &[u8],
-    first: usize,
-    begun: Survey,
 ) -> Surveyed
-    requires { ⌜ Ready limits separators (now class) (now followers) (now message) × Underway limits separators (now message) first begun ⌝ }
+    requires { ⌜ Ready limits separators (now class) (now followers) (now message) ⌝ }
     ensures { λ r. ⌜ SurveyOf limits separators (now (message .entry)) r ⌝ }
 {
-    let mut seen = begun;
-    let mut at = first;
-    while at < message.len() {
-        match next_line(class, followers, limits, separators, message, at, seen) {
+    let mut seen = Survey::begin();
+    let mut at = 0;
+    let mut from = 7;
+    loop {
+        match see_line(class, limits, separators, message, at, from, seen) {
             Step::On {
                 seen: more,
                 at: next,
@@ -231,31 +203,13 @@ fn survey_rest(
                 return Surveyed::Fault { number, place };
             }
         }
-    }
-    Surveyed::Whole(seen.closed(followers))
-}
-
-// All lines of a message whose header is sound.
-pub(crate) fn survey_message(
-    class: &[u8; 256],
-    followers: &[u8; 847],
-    limits: Limits,
-    separators: Separators,
-    message: &[u8],
-) -> Surveyed
-    requires { ⌜ Ready limits separators (now class) (now followers) (now message) ⌝ }
-    ensures { λ r. ⌜ SurveyOf limits separators (now (message .entry)) r ⌝ }
-{
-    match see_line(class, limits, separators, message, 0, 7, Survey::begin()) {
-        Step::On { seen, at } => survey_rest(
-            class,
-            followers,
-            limits,
-            separators,
-            message,
-            at,
-            seen,
-        ),
-        Step::Fault { number, place } => Surveyed::Fault { number, place },
+        from = text_from(message, at, separators.field);
+        if from == at {
+            seen = seen.closed(followers);
+            if message.len() <= at {
+                return Surveyed::Whole(seen);
+            }
+            seen = seen.next_segment();
+        }
     }
 }

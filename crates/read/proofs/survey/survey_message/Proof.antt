@@ -1,63 +1,139 @@
--- `survey_message` meets its contract: the first line is seen from behind its header bytes, and the rest from where it led.
+-- `survey_message` meets its contract. The loop's invariant: at `at` stands a line whose text is joined from `from` on, the first behind its
+-- header bytes; each line leads to a later place, and at the message's end all is known.
 -- Assumes nothing.
 use borrow.Author.Needs.{needs}
-use mathlib.Core.Path.{subst, subst⁻¹}
+use mathlib.Core.Path.{ap, subst, subst⁻¹}
+use Prim.Native.Nat.{_-_, _<_}
 use native.Mathlib.Omega.{arith}
+use lib.ListN.{length}
 use Rattle.form.proofs.HeaderRule.{sound-header}
-use Rattle.read.specs.Underway.{LineBegun, StepOf}
-use Rattle.read.proofs.UnderwayLaws.{message-begins}
+use Rattle.read.specs.declared.survey.Survey.{Survey}
+use Rattle.read.specs.Underway.{Underway, LineBegun, StepOf}
+use Rattle.read.proofs.UnderwayLaws.{message-begins, goes-on-from, begins-next, survey-ends}
 use Rattle.read.proofs.survey.survey_message.Statement.{statement}
 use Rattle.read.proofs.survey.survey_message.Tie as tie
 
-begin-requires : tie.Need-begin-requires
+abbrev Inv-loop : tie.InvT-loop
+Inv-loop class followers limits separators message seen₀ at₀ from₀ seen at from = LineBegun limits separators message at from seen
+
+abbrev μ-loop : tie.MeasureT-loop
+μ-loop class followers limits separators message seen₀ at₀ from₀ seen at from = length message - at
+
+begin-requires : tie.Need-begin-requires Inv-loop μ-loop
 begin-requires c κs = search needs
 
-see-line-requires : tie.Need-see-line-requires
-see-line-requires c κs =
+loop-holds : tie.Need-loop-holds Inv-loop μ-loop
+loop-holds c =
     let at-args = c .before .before .args in
-    let at-pre = c .before .before .pre in
     let at-begin = c .begin in
+    let at-pre = c .before .before .pre in
     let a = at-args in
-    let m = a .message .now in (
-      omega (arith, at-pre .lawful .header),
-      at-pre .classes,
-      subst⁻¹ (LineBegun (a .limits) (a .separators) m 0 7) (at-begin .ensures)
-          (message-begins (a .limits) (a .separators) m (at-pre .lawful .header) (sound-header m (a .separators) (at-pre .header))),
-    )
+    let m = a .message .now in
+    subst⁻¹ (LineBegun (a .limits) (a .separators) m 0 7) (at-begin .ensures)
+    (message-begins (a .limits) (a .separators) m (at-pre .lawful .header) (sound-header m (a .separators) (at-pre .header)))
 
-enum-known-seen : tie.Need-enum-known-seen
-enum-known-seen c = search needs
+see-line-requires : tie.Need-see-line-requires Inv-loop μ-loop
+see-line-requires c κs =
+    let at-pre = c .before .before .before .pre in
+    let at-loop = c .loop in
+    (omega (arith, at-pre .lawful .header), at-pre .classes, at-loop .inv)
 
-survey-rest-requires : tie.Need-survey-rest-requires
-survey-rest-requires c κs =
-    let at-args = c .before .before .before .before .before .before .args in
-    let at-seen = c .before .seen in
-    let at-see-line = c .before .before .before .see-line in
-    let at-pre = c .before .before .before .before .before .before .pre in
-    let on = subst (StepOf (at-args .limits) (at-args .separators) (at-args .message .now) 0) (at-seen .given .1) (at-see-line .ensures) in
-    (at-pre, on .1)
+enum-known-more : tie.Need-enum-known-more Inv-loop μ-loop
+enum-known-more c = search needs
 
-enum-known-number : tie.Need-enum-known-number
+enum-known-number : tie.Need-enum-known-number Inv-loop μ-loop
 enum-known-number c = search needs
 
-returns : tie.Need-returns
-returns c = search needs
-
-returns-2 : tie.Need-returns-2
-returns-2 c =
-    let at-args = c .before .before .before .before .before .before .args in
+returns : tie.Need-returns Inv-loop μ-loop
+returns c =
+    let at-args = c .before .before .before .before .before .before .before .args in
+    let at-loop = c .before .before .before .before .loop in
     let at-number = c .before .number in
     let at-see-line = c .before .before .before .see-line in
-    subst (StepOf (at-args .limits) (at-args .separators) (at-args .message .now) 0) (at-number .given .1) (at-see-line .ensures)
+    subst (StepOf (at-args .limits) (at-args .separators) (at-args .message .now) (at-loop .at)) (at-number .given .1) (at-see-line .ensures)
+
+text-from-requires : tie.Need-text-from-requires Inv-loop μ-loop
+text-from-requires c κs = search needs
+
+-- what the line has led to
+abbrev LedOn : tie.After-known-told Inv-loop μ-loop → Type 0
+LedOn c =
+    let a = c .before .before .before .before .before .before .before .args in
+    let led = c .before .more .given .0 in
+    (c .before .before .before .before .loop .at < led .1 .0) × Underway (a .limits) (a .separators) (a .message .now) (led .1 .0) (led .0)
+
+led-on : (c : tie.After-known-told Inv-loop μ-loop) → LedOn c
+led-on c =
+    let at-args = c .before .before .before .before .before .before .before .args in
+    let at-loop = c .before .before .before .before .loop in
+    let at-more = c .before .more in
+    let at-see-line = c .before .before .before .see-line in
+    subst (StepOf (at-args .limits) (at-args .separators) (at-args .message .now) (at-loop .at)) (at-more .given .1) (at-see-line .ensures)
+
+closed-requires : tie.Need-closed-requires Inv-loop μ-loop
+closed-requires c κs = search needs
+
+returns-2 : tie.Need-returns-2 Inv-loop μ-loop
+returns-2 c =
+    let at-pre = c .before .before .before .before .before .before .before .before .before .before .before .pre in
+    let at-if2 = c .if2 in
+    let at-closed = c .before .closed in
+    survey-ends (led-on (c .before .before .before .before) .1) (at-pre .table) (at-if2 .taken) (at-closed .ensures)
+
+next-segment-requires : tie.Need-next-segment-requires Inv-loop μ-loop
+next-segment-requires c κs =
+    let at-closed = c .before .closed in
+    let at-if2 = c .if2 in
+    let at-good = c .before .before .before .before .before .before .before .before .before .before .before .good in
+    omega (arith, led-on (c .before .before .before .before) .1 .few-segments, ap (λ (s : Survey). s .segments) (at-closed .ensures), at-if2 .left, at-good)
+
+loop-less : tie.Need-loop-less Inv-loop μ-loop
+loop-less c =
+    let at-loop = c .before .before .before .before .before .before .before .before .before .loop in
+    omega (arith, led-on (c .before .before .before .before .before) .0, at-loop .inv .some)
+
+loop-again : tie.Need-loop-again Inv-loop μ-loop
+loop-again c =
+    let at-text-from = c .before .before .before .before .text-from in
+    let at-pre = c .before .before .before .before .before .before .before .before .before .before .before .before .pre in
+    let at-if1 = c .before .before .before .if1 in
+    let at-if2 = c .before .if2 in
+    let at-closed = c .before .before .closed in
+    let at-next-segment = c .next-segment in
+    begins-next (led-on (c .before .before .before .before .before) .1) (at-text-from .ensures) (at-pre .table) (at-if1 .taken) (at-if2 .left) (at-closed .ensures)
+    (at-next-segment .ensures)
+
+loop-less-2 : tie.Need-loop-less-2 Inv-loop μ-loop
+loop-less-2 c =
+    let at-loop = c .before .before .before .before .before .before .loop in
+    omega (arith, led-on (c .before .before) .0, at-loop .inv .some)
+
+loop-again-2 : tie.Need-loop-again-2 Inv-loop μ-loop
+loop-again-2 c =
+    let at-args = c .before .before .before .before .before .before .before .before .before .args in
+    let at-pre = c .before .before .before .before .before .before .before .before .before .pre in
+    let at-text-from = c .before .text-from in
+    let at-if1 = c .if1 in
+    let sound = sound-header (at-args .message .now) (at-args .separators) (at-pre .header) in
+    goes-on-from (led-on (c .before .before) .1) (at-text-from .ensures) (sound .allowed .field .low) (at-pre .lawful .header) (at-if1 .left)
 
 pub survey-message-spec : {M : Type 1} → statement M
 survey-message-spec =
     tie.close
     (tie.spec
+    Inv-loop
+    μ-loop
     begin-requires
+    loop-holds
     see-line-requires
-    enum-known-seen
-    survey-rest-requires
+    enum-known-more
     enum-known-number
     returns
-    returns-2)
+    text-from-requires
+    closed-requires
+    returns-2
+    next-segment-requires
+    loop-less
+    loop-again
+    loop-less-2
+    loop-again-2)
