@@ -3,7 +3,7 @@
 use mathlib.Core.Bool.{false}
 use mathlib.Core.List.{List, _∷_}
 use mathlib.Core.Path.{_≡_, refl, sym, ap, _∙_, subst⁻¹}
-use Prim.Native.Nat.{ℕ, _+_, _*_, _-_, _≤_, _<_}
+use Prim.Native.Nat.{ℕ, _+_, _*_, _≤_, _<_}
 use native.Mathlib.Omega.{arith}
 use lib.ListN.{length, drop, getD}
 use lib.Seq.{sets, length-sets}
@@ -26,29 +26,35 @@ use Rattle.read.proofs.HeldLaws.{outTo, leaf-closes, leaf-segment, held
 abbrev pub Bytes : List ℕ → Type 0
 Bytes message = All (λ (b : ℕ). b < 256) message
 
--- the text from the byte i on is copied: up to where it stops, behind the text so far
+-- the n bytes of text from the byte i on are copied, behind the text so far
 abbrev pub Copied : List ℕ → List ℕ → ℕ → Laying → List ℕ → ℕ → List ℕ → Type 0
-Copied class message i l text stop text₁ =
-    (stop ≡ i + plain class (drop i message)) × (text₁ ≡ sets text (l .out) (textFrom class message i))
+Copied class message i l text n text₁ =
+    (n ≡ plain class (drop i message)) × (text₁ ≡ sets text (l .out) (textFrom class message i))
 
 -- the state there
-abbrev pub outAt : Laying → ℕ → ℕ → Laying
-outAt l i stop = outTo l (l .out + (stop - i))
+abbrev pub outBy : Laying → ℕ → Laying
+outBy l n = outTo l (l .out + n)
 
-module _ {class message : List ℕ} {i : ℕ} {l : Laying} {text leaves : List ℕ} {stop : ℕ} {text₁ : List ℕ}
-    (bytes : Bytes message) (asked : Lays class message i l text leaves) (copied : Copied class message i l text stop text₁) where
+module _ {class message : List ℕ} {i : ℕ} {l : Laying} {text leaves : List ℕ} {n : ℕ} {text₁ : List ℕ}
+    (bytes : Bytes message) (asked : Lays class message i l text leaves) (copied : Copied class message i l text n text₁) where
+  abbrev stop : ℕ
+  stop = i + n
+
+  stops : stop ≡ i + plain class (drop i message)
+  stops = ap (λ (k : ℕ). i + k) (copied .0)
+
   runs : run class (drop i message) ≡ plain class (drop i message) + run class (drop stop message)
-  runs = run-split class message i stop (copied .0)
+  runs = run-split class message i stop stops
 
   same-text : length text₁ ≡ length text
   same-text = ap length (copied .1) ∙ length-sets text (l .out) (textFrom class message i)
 
-  pub lays-text : Lays class message stop (outAt l i stop) text₁ leaves
+  pub lays-text : Lays class message stop (outBy l n) text₁ leaves
   lays-text =
       let split = runs in
-      let marked = marks-split class message i stop (copied .0) in
+      let marked = marks-split class message i stop stops in
       let kept = same-text in
-      let stops = copied .0 in
+      let count = copied .0 in
       record {
         ahead = omega arith;
         room = omega arith;
@@ -59,11 +65,11 @@ module _ {class message : List ℕ} {i : ℕ} {l : Laying} {text leaves : List �
       }
 
   pub laid-text : {r : Laid} {text′ leaves′ : List ℕ}
-      → LaidBy class message stop (outAt l i stop) text₁ leaves r text′ leaves′ → LaidBy class message i l text leaves r text′ leaves′
+      → LaidBy class message stop (outBy l n) text₁ leaves r text′ leaves′ → LaidBy class message i l text leaves r text′ leaves′
   laid-text d =
       let split = runs in
-      let marked = marks-split class message i stop (copied .0) in
-      let stops = copied .0 in
+      let marked = marks-split class message i stop stops in
+      let count = copied .0 in
       record {
         ends = omega arith;
         row = omega arith;
@@ -74,15 +80,15 @@ module _ {class message : List ℕ} {i : ℕ} {l : Laying} {text leaves : List �
         leaves-length = d .leaves-length;
         held = λ ps text₀ leaves₀ pass is h.
             rw (
-              line-split class message i stop (copied .0),
+              line-split class message i stop stops,
               steps-append (CR ∷ splitting ps) pass (textFrom class message i) (lineFrom class message stop),
             )
             (d .held ps text₀ leaves₀ (steps (CR ∷ splitting ps) pass (textFrom class message i)) is
-            (subst⁻¹ (λ (t : List ℕ). Held text₀ leaves₀ (steps (CR ∷ splitting ps) pass (textFrom class message i)) (outAt l i stop) t leaves) (copied .1)
-            (held-text h (CR ∷ splitting ps) (l .out + (stop - i))
+            (subst⁻¹ (λ (t : List ℕ). Held text₀ leaves₀ (steps (CR ∷ splitting ps) pass (textFrom class message i)) (outBy l n) t leaves) (copied .1)
+            (held-text h (CR ∷ splitting ps) (l .out + n)
             (subst⁻¹ (λ (k : List ℕ). All (λ (b : ℕ). among (CR ∷ splitting ps) b ≡ false) (textFrom k message i)) is
             (plain-passes ps (all-drop i bytes)))
-            (omega (arith, length-text class message i stop (copied .0) (omega arith))))));
+            (omega (arith, length-text class message i stop stops (omega arith))))));
       }
 
 -- the byte at `stop` is a separator: its row is put, and the next leaf begins
@@ -181,8 +187,8 @@ going-begins known a = record { bytes = known; asked = a; text-length = refl; le
 module _ {class message : List ℕ} {from : ℕ} {l₀ : Laying} {text₀ leaves₀ text leaves : List ℕ} {l : Laying} {i : ℕ}
     (g : Going class message from l₀ text₀ leaves₀ text leaves l i) where
   -- text is copied
-  pub going-text : {stop : ℕ} {text₁ : List ℕ} → Copied class message i l text stop text₁
-      → Going class message from l₀ text₀ leaves₀ text₁ leaves (outAt l i stop) stop
+  pub going-text : {n : ℕ} {text₁ : List ℕ} → Copied class message i l text n text₁
+      → Going class message from l₀ text₀ leaves₀ text₁ leaves (outBy l n) (i + n)
   going-text copied =
       record {
         bytes = g .bytes;
@@ -193,10 +199,10 @@ module _ {class message : List ℕ} {from : ℕ} {l₀ : Laying} {text₀ leaves
       }
 
   -- it stops at a byte that is none
-  pub going-stops : {stop : ℕ} {text₁ : List ℕ} → Copied class message i l text stop text₁ → getD class (getD message stop 0) 0 ≡ 0 → ⊥
-  going-stops {stop} copied =
+  pub going-stops : {n : ℕ} {text₁ : List ℕ} → Copied class message i l text n text₁ → getD class (getD message (i + n) 0) 0 ≡ 0 → ⊥
+  going-stops {n} copied =
       let ahead = lays-text (g .bytes) (g .asked) copied .ahead in
-      no-text class message i stop (copied .0) (omega arith)
+      no-text class message i (i + n) (stops (g .bytes) (g .asked) copied) (omega arith)
 
   -- the line ends here
   pub going-done : (n : ℕ) → n ≡ getD message i 0 → getD class n 0 ≡ 5

@@ -71,24 +71,22 @@ impl Laying {
     }
 }
 
-// Copies text from `from` on into the text area, up to the first byte that is none, and answers where that lies.
-// One lies ahead, so the loop tests no bound.
+// Copies text from `from` on into the text area, up to the first byte that is none, and answers how many bytes it copied.
+// Such a byte lies ahead, so the loop tests no bound; one number counts both places.
 fn copy_text(class: &[u8; 256], message: &[u8], from: usize, text: &mut [u8], out: usize) -> usize
     requires { ⌜ (from + plain (now class) (drop from (now message)) < length (now message))
         × (out + plain (now class) (drop from (now message)) ≤ length (now text)) ⌝ }
-    ensures { λ r. ⌜ (r ≡ from + plain (now (class .entry)) (drop from (now (message .entry))))
+    ensures { λ r. ⌜ (r ≡ plain (now (class .entry)) (drop from (now (message .entry))))
         × (now (text .exit) ≡ sets (now (text .entry)) out (take (plain (now (class .entry)) (drop from (now (message .entry)))) (drop from (now (message .entry))))) ⌝ }
 {
-    let mut i = from;
-    let mut o = out;
-    let mut b = message[i];
+    let mut n = 0;
+    let mut b = message[from];
     while class[wide(b)] == 0 {
-        text[o] = b;
-        o += 1;
-        i += 1;
-        b = message[i];
+        text[out + n] = b;
+        n += 1;
+        b = message[from + n];
     }
-    i
+    n
 }
 
 // The row of the leaf begun, which is closed here.
@@ -121,8 +119,9 @@ pub(crate) fn lay_line(
     let mut now = laying;
     let mut i = from;
     loop {
-        let stop = copy_text(class, message, i, text, now.out);
-        now.out = now.out + (stop - i);
+        let n = copy_text(class, message, i, text, now.out);
+        let stop = i + n;
+        now.out = now.out + n;
         let sort = class[wide(message[stop])];
         if sort == 5 {
             return Laid {

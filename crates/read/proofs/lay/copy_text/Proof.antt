@@ -1,7 +1,7 @@
 -- `read::lay::copy_text` meets its contract: what is left to copy gives the whole.
 -- Assumes nothing.
 use mathlib.Core.Path.{refl}
-use Prim.Native.Nat.{_-_}
+use Prim.Native.Nat.{_+_, _-_}
 use native.Mathlib.Omega.{arith}
 use lib.ListN.{length}
 use borrow.Author.Needs.{needs}
@@ -10,10 +10,10 @@ use Rattle.read.proofs.lay.copy_text.Statement.{statement}
 use Rattle.read.proofs.lay.copy_text.Tie as tie
 
 abbrev Inv-loop : tie.InvT-loop
-Inv-loop class message from text₀ out i₀ o₀ b₀ text i o b = Copying class message from text₀ out text i o b
+Inv-loop class message from text₀ out n₀ b₀ text n b = Copying class message from text₀ out text n b
 
 abbrev μ-loop : tie.MeasureT-loop
-μ-loop class message from text₀ out i₀ o₀ b₀ text i o b = length message - i
+μ-loop class message from text₀ out n₀ b₀ text n b = length message - (from + n)
 
 shared-slice-read-b : tie.Need-shared-slice-read-b Inv-loop μ-loop
 shared-slice-read-b c = omega arith
@@ -29,6 +29,13 @@ wide-requires c κs = search needs
 element-copy-out-if1 : tie.Need-element-copy-out-if1 Inv-loop μ-loop
 element-copy-out-if1 c = omega arith
 
+add-text : tie.Need-add-text Inv-loop μ-loop
+add-text c =
+    let at-loop = c .before .before .before .loop in
+    let at-wide = c .before .before .wide in
+    let at-if1 = c .if1 in
+    omega (arith, at-loop .inv, copying-left (at-loop .inv) (at-wide .result) (at-wide .ensures .0) (at-if1 .taken))
+
 slice-write-text : tie.Need-slice-write-text Inv-loop μ-loop
 slice-write-text c =
     let at-loop = c .before .before .before .loop in
@@ -36,15 +43,11 @@ slice-write-text c =
     let at-if1 = c .if1 in
     let one = copying-left (at-loop .inv) (at-wide .result) (at-wide .ensures .0) (at-if1 .taken) in omega arith
 
-add-o : tie.Need-add-o Inv-loop μ-loop
-add-o c =
-    let at-loop = c .before .before .before .loop in
-    let at-wide = c .before .before .wide in
-    let at-if1 = c .if1 in
-    let one = copying-left (at-loop .inv) (at-wide .result) (at-wide .ensures .0) (at-if1 .taken) in omega arith
+add-n : tie.Need-add-n Inv-loop μ-loop
+add-n c = omega arith
 
-add-i : tie.Need-add-i Inv-loop μ-loop
-add-i c = omega arith
+add-b : tie.Need-add-b Inv-loop μ-loop
+add-b c = omega arith
 
 shared-slice-read-b-2 : tie.Need-shared-slice-read-b-2 Inv-loop μ-loop
 shared-slice-read-b-2 c =
@@ -85,9 +88,10 @@ copy-text-spec =
     loop-holds
     wide-requires
     element-copy-out-if1
+    add-text
     slice-write-text
-    add-o
-    add-i
+    add-n
+    add-b
     shared-slice-read-b-2
     loop-less
     loop-again

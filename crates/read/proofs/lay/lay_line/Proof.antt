@@ -27,11 +27,13 @@ copy-text-requires c κs =
     let at-loop = c .before .loop in
     text-fits (at-loop .inv .asked)
 
-sub-now : tie.Need-sub-now Inv-loop μ-loop
-sub-now c =
+add-stop : tie.Need-add-stop Inv-loop μ-loop
+add-stop c =
+    let at-loop = c .before .before .before .before .loop in
     let at-copy-text = c .before .before .copy-text in
-    let copied = at-copy-text .ensures in
-    omega arith
+    let at-good = c .before .before .before .before .before .before .before .before .good in
+    let stopped = going-text (at-loop .inv) (at-copy-text .ensures) in
+    omega (arith, stopped .asked .ahead, at-good)
 
 add-now : tie.Need-add-now Inv-loop μ-loop
 add-now c =
@@ -125,7 +127,7 @@ lay-line-spec =
     μ-loop
     loop-holds
     copy-text-requires
-    sub-now
+    add-stop
     add-now
     shared-slice-read-wide
     wide-requires
