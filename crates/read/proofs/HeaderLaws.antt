@@ -28,16 +28,14 @@ use Rattle.table.proofs.HeaderBytes.{header-bytes}
 use Rattle.table.proofs.Growing.{count-leaves}
 use Rattle.read.specs.declared.letters.Letters.{Letters}
 use Rattle.read.specs.declared.fill.Filling.{Filling}
-use Rattle.read.specs.declared.fill.Line.{Line}
 use Rattle.read.specs.Scan.{run}
 use Rattle.read.specs.Letters.{fresh, withLetter, withByte, withBytes}
-use Rattle.read.specs.Laying.{Lays}
 use Rattle.read.specs.Filling.{segmentsIn, Fillable}
-use Rattle.read.specs.Segments.{HeaderPut, lineText, lineAfter, LineFilled, closedRows, Begun, Left, Came, LevelsBelow, Surveyed, Stands}
+use Rattle.read.specs.Segments.{HeaderPut, lineText, lineAfter, closedRows, Begun, Left, Came, LevelsBelow, Surveyed, AtLine}
 use Rattle.read.proofs.ScanLaws.{Bytes}
 use Rattle.read.proofs.LetterLaws.{byte-separator, byte-letter, bytes-settled}
 use Rattle.read.proofs.LeftLaws.{no-addendum, line-within, left-begins, leaves-line}
-use Rattle.read.proofs.StandLaws.{readable, line-lays, line-on}
+use Rattle.read.proofs.StandLaws.{readable}
 
 module _ {m : List ℕ} {ps : Separators} (s : SoundHeader m ps) where
   -- all seven header bytes are text
@@ -137,13 +135,15 @@ module _ {c : Came} {class levels : List ℕ} {context : ℕ} {ps : Separators} 
           known = rows;
         }
 
-    behind-header : r .laying .out ≤ 7
-    behind-header = omega (arith, put .out)
-
-    -- the rest of the first line
-    pub first-lays : Lays class m 7 (r .laying) text leaves
-    first-lays = line-lays y header-begun 7 first-left first-within behind-header
-
-    pub first-stands : {l : Line} {text′ leaves′ : List ℕ} → LineFilled class (ps .field) m 7 r text leaves l text′ leaves′
-        → Stands c class levels context ps m (l .next) (l .filling) nearest text′ (c .segments) leaves′
-    first-stands filled = line-on y header-begun 7 first-left first-within behind-header filled
+    -- the rest of the first line goes to the first segment
+    pub header-line : AtLine c class levels context ps m 7 r nearest text (c .segments) leaves
+    header-line =
+        record {
+          surveyed = y;
+          closed = [];
+          begun = headerBytes ps;
+          begins = header-begun;
+          left = first-left;
+          inside = first-within;
+          behind = omega (arith, put .out);
+        }

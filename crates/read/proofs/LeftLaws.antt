@@ -36,7 +36,6 @@ use Rattle.table.specs.Filed.{Filed}
 use Rattle.table.proofs.Growing.{filed-grows, leaves-grow}
 use Rattle.read.specs.Classes.{classTable}
 use Rattle.read.specs.Scan.{run, marks}
-use Rattle.read.specs.Starting.{textFrom}
 use Rattle.read.specs.Filling.{segmentsIn}
 use Rattle.read.specs.Segments.{lineText, lineAfter, Left}
 use Rattle.read.proofs.ScanLaws.{Bytes, run-text, marks-separators}
@@ -73,30 +72,6 @@ module _ (L : Limits) (f : ℕ) where
       go : Tested (addendum f l) → All (Without CR) (joined f ls) → All (Without CR) (joined f (l ∷ ls))
       go (passed e) ih = rw (joined-addendum f l ls e) ih
       go (failed e) ih = rw (joined-segment f l ls e) (also (all-append (text-clear l (h .0 .text)) (carried-clear ls (h .1))) ih)
-
--- where the text of a line begins tells whether it is an addendum
-module _ (f at : ℕ) (s : List ℕ) where
-  from-past : addendum f s ≡ true → textFrom f at s ≡ at + 2
-  unfolding textFrom
-  from-past h = rw (h, textFrom)
-
-  from-here : addendum f s ≡ false → textFrom f at s ≡ at
-  unfolding textFrom
-  from-here h = rw (h, textFrom)
-
-  pub from-addendum : (from : ℕ) → from ≡ textFrom f at s → at < from → (addendum f s ≡ true) × (from ≡ at + 2)
-  from-addendum from e past = go (tested (addendum f s))
-    where
-      go : Tested (addendum f s) → (addendum f s ≡ true) × (from ≡ at + 2)
-      go (passed h) = (h, e ∙ from-past h)
-      go (failed h) = absurd (omega (arith, from-here h))
-
-  pub from-segment : (from : ℕ) → from ≡ textFrom f at s → from ≤ at → addendum f s ≡ false
-  from-segment from e here = go (tested (addendum f s))
-    where
-      go : Tested (addendum f s) → addendum f s ≡ false
-      go (passed h) = absurd (omega (arith, from-past h))
-      go (failed h) = h
 
 -- a byte that is no `A` begins no addendum
 pub no-addendum : (f : ℕ) (s : List ℕ) → (getD s 0 0 ≡ letterA → ⊥) → addendum f s ≡ false

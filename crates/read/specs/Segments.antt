@@ -24,7 +24,7 @@ use Rattle.read.specs.declared.fill.Line.{Line}
 use Rattle.read.specs.Scan.{run}
 use Rattle.read.specs.Letters.{fresh, withBytes}
 use Rattle.read.specs.Laying.{rowOf, nextSegment, Counted, Held, LaidBy}
-use Rattle.read.specs.Filling.{segmentsIn, tableIn, Fillable, Filled}
+use Rattle.read.specs.Filling.{segmentsIn, Fillable}
 
 -- "kind, owner, first leaf, leaf count"
 abbrev pub segmentRow : (kind owner first count : ℕ) → List ℕ
@@ -148,28 +148,25 @@ pub record Stands
   pub behind : f .laying .out ≤ at
   pub within : f .laying .out ≤ length message
 
--- it stands so for some limits and some buffers as they came
-pub record GoesOn
-    (class levels : List ℕ) (context : ℕ) (ps : Separators) (message : List ℕ) (at : ℕ) (f : Filling)
+-- the second pass is about to fill a line from `from` on, whose text goes to the segment begun: the line's end lies ahead, and with
+-- its text the lines after it give the rest
+pub record AtLine
+    (c : Came) (class levels : List ℕ) (context : ℕ) (ps : Separators) (message : List ℕ) (from : ℕ) (f : Filling)
     (nearest text segments leaves : List ℕ)
     : Type 0 where
-  pub came : Came
-  pub stands : Stands came class levels context ps message at f nearest text segments leaves
+  pub surveyed : Surveyed c class levels context ps message
+  pub closed : List (List ℕ)
+  pub begun : List ℕ
+  pub begins : Begun (levelIn levels context) ps (c .text) (c .segments) (c .leaves) closed begun f nearest text segments leaves
+  pub left : Left (c .limits) ps message closed (begun ++ lineText class message from) (lineAfter class message from)
+  pub inside : from + run class (drop from message) < length message
+  pub behind : f .laying .out ≤ from
 
--- one line on: the place lies ahead, and the pass stands there whatever it came from
-pub record OneLineOn
-    (class levels : List ℕ) (context : ℕ) (ps : Separators) (message : List ℕ) (at : ℕ) (f : Filling)
-    (nearest text segments leaves : List ℕ) (r : Line) (nearest′ text′ segments′ leaves′ : List ℕ)
-    : Type 0 where
-  pub ahead : at < r .next
-  pub stands :
-      (c : Came) → Stands c class levels context ps message at f nearest text segments leaves
-      → Stands c class levels context ps message (r .next) (r .filling) nearest′ text′ segments′ leaves′
-
--- all lines on: the buffers hold the message's table over what they came with
-abbrev pub AllFilled :
-    (class levels : List ℕ) (context : ℕ) (ps : Separators) (message : List ℕ) (at : ℕ) (f : Filling)
-    (nearest text segments leaves text′ segments′ leaves′ : List ℕ) (r : ℕ) → Type 0
-AllFilled class levels context ps message at f nearest text segments leaves text′ segments′ leaves′ r =
-    (c : Came) → Stands c class levels context ps message at f nearest text segments leaves
-    → Filled (tableIn (c .limits) levels ps message) (c .text) (c .segments) (c .leaves) text′ segments′ leaves′ r
+-- the lines from one place on to another: whatever the pass came with, from the one it comes to the other
+abbrev pub Onward :
+    (class levels : List ℕ) (context : ℕ) (ps : Separators) (message : List ℕ)
+    (from : ℕ) (f : Filling) (nearest text segments leaves : List ℕ)
+    (from′ : ℕ) (f′ : Filling) (nearest′ text′ segments′ leaves′ : List ℕ) → Type 0
+Onward class levels context ps message from f nearest text segments leaves from′ f′ nearest′ text′ segments′ leaves′ =
+    (c : Came) → AtLine c class levels context ps message from f nearest text segments leaves
+    → AtLine c class levels context ps message from′ f′ nearest′ text′ segments′ leaves′

@@ -19,7 +19,7 @@ ghost use lib.Seq.{sets};
 ghost use Rattle.table.specs.Rows.{contextIn};
 ghost use Rattle.read.specs.Laying.{Counted, Lays};
 ghost use Rattle.read.specs.Filling.{segmentsIn, tableIn, Fillable, Filled};
-ghost use Rattle.read.specs.Segments.{segmentRow, Closable, ClosedBy, begunAfter, HeaderPut, LineFilled, LevelsBelow, GoesOn, OneLineOn, AllFilled};
+ghost use Rattle.read.specs.Segments.{segmentRow, Closable, ClosedBy, begunAfter, HeaderPut, LineFilled, LevelsBelow};
 
 // How far the second pass has come: its leaves, and the first leaf and the kind of the open segment.
 pub struct Filling {
@@ -166,79 +166,8 @@ fn next_segment(filling: Filling) -> Filling
     }
 }
 
-// The line at `at`: an addendum is joined to the open segment, any other closes it and begins the next.
-fn fill_next(
-    class: &[u8; 256],
-    levels: &[u8; 84],
-    context: u8,
-    separators: Separators,
-    message: &[u8],
-    at: usize,
-    filling: Filling,
-    nearest: &mut [u16; 9],
-    text: &mut [u8],
-    segments: &mut [u16],
-    leaves: &mut [u16],
-) -> Line
-    requires { ⌜ (at < length (now message))
-        × GoesOn (now class) (now levels) context separators (now message) at filling (now nearest) (now text) (now segments) (now leaves) ⌝ }
-    ensures { λ r. ⌜ OneLineOn (now (class .entry)) (now (levels .entry)) context separators (now (message .entry)) at filling
-        (now (nearest .entry)) (now (text .entry)) (now (segments .entry)) (now (leaves .entry))
-        r (now (nearest .exit)) (now (text .exit)) (now (segments .exit)) (now (leaves .exit)) ⌝ }
-{
-    let field = separators.field;
-    let from = text_from(message, at, field);
-    if at < from {
-        return fill_line(class, field, message, from, filling, text, leaves);
-    }
-    close_segment(filling, levels, context, nearest, segments, leaves);
-    let begun = next_segment(filling);
-    fill_line(class, field, message, at, begun, text, leaves)
-}
-
-// All lines from `first` on; answers how many bytes of text there are in all.
-fn fill_rest(
-    class: &[u8; 256],
-    levels: &[u8; 84],
-    context: u8,
-    separators: Separators,
-    message: &[u8],
-    first: Line,
-    nearest: &mut [u16; 9],
-    text: &mut [u8],
-    segments: &mut [u16],
-    leaves: &mut [u16],
-) -> usize
-    requires { ⌜ GoesOn (now class) (now levels) context separators (now message) (first .next) (first .filling)
-        (now nearest) (now text) (now segments) (now leaves) ⌝ }
-    ensures { λ r. ⌜ AllFilled (now (class .entry)) (now (levels .entry)) context separators (now (message .entry)) (first .next) (first .filling)
-        (now (nearest .entry)) (now (text .entry)) (now (segments .entry)) (now (leaves .entry))
-        (now (text .exit)) (now (segments .exit)) (now (leaves .exit)) r ⌝ }
-{
-    let mut filling = first.filling;
-    let mut at = first.next;
-    while at < message.len() {
-        let line = fill_next(
-            class,
-            levels,
-            context,
-            separators,
-            message,
-            at,
-            filling,
-            nearest,
-            text,
-            segments,
-            leaves,
-        );
-        filling = line.filling;
-        at = line.next;
-    }
-    close_segment(filling, levels, context, nearest, segments, leaves);
-    filling.laying.out
-}
-
-// The whole message, whose survey refused nothing; answers how many bytes of text it has.
+// The whole message, whose survey refused nothing; answers how many bytes of text it has. Each turn fills one line, the header's rest
+// the first: an addendum then carries the open segment on, anything else closes it.
 pub(crate) fn fill(
     class: &[u8; 256],
     levels: &[u8; 84],
@@ -258,18 +187,20 @@ pub(crate) fn fill(
         (now (text .exit)) (now (segments .exit)) (now (leaves .exit)) r ⌝ }
 {
     let mut nearest = no_rows();
-    let header = put_header(separators, text, leaves);
-    let line = fill_line(class, separators.field, message, 7, header, text, leaves);
-    fill_rest(
-        class,
-        levels,
-        context,
-        separators,
-        message,
-        line,
-        &mut nearest,
-        text,
-        segments,
-        leaves,
-    )
+    let mut filling = put_header(separators, text, leaves);
+    let mut from = 7;
+    loop {
+        let field = separators.field;
+        let line = fill_line(class, field, message, from, filling, text, leaves);
+        filling = line.filling;
+        let at = line.next;
+        from = text_from(message, at, field);
+        if from == at {
+            close_segment(filling, levels, context, &mut nearest, segments, leaves);
+            if message.len() <= at {
+                return filling.laying.out;
+            }
+            filling = next_segment(filling);
+        }
+    }
 }
