@@ -17,7 +17,7 @@ use Rattle.laws.proofs.Cases.{less-or-not}
 use Rattle.laws.proofs.Tables.{changed, changed-here, changed-other, values-same, set-values, replicate-values, getD-values-zero, length-values}
 use Rattle.form.specs.declared.separators.Separators.{Separators}
 use Rattle.form.specs.Header.{splitting}
-use Rattle.read.specs.Classes.{sortOf, classOf, sortTable, classTable}
+use Rattle.read.specs.Classes.{sortOf, classOf, classTable}
 
 -- four stores into an empty table give the sorts: the coarsest, stored last, counts where two are the same byte
 pub sorts-stored : (ps : Separators) (n : ℕ) → set (set (set (set (replicate n 0) (ps .subsubfield) 4) (ps .subfield) 3) (ps .repeater) 2) (ps .field) 1 ≡ values (sortOf ps) 0 n

@@ -16,9 +16,6 @@ sortOf ps b = firstFrom (eqb b) 1 (splitting ps)
 unfoldable pub classOf : Separators → ℕ → ℕ
 classOf ps b = elim (ltb b 32) [ true ↦ 5 | false ↦ sortOf ps b ]
 
--- the tables of all bytes
-unfoldable pub sortTable : Separators → List ℕ
-sortTable ps = values (sortOf ps) 0 256
-
+-- the table of all bytes
 unfoldable pub classTable : Separators → List ℕ
 classTable ps = values (classOf ps) 0 256

@@ -2,31 +2,24 @@
 use form::separators::Separators;
 ghost use mathlib.Core.Path.{_≡_};
 ghost use Prim.Native.Nat.{_<_};
-ghost use Rattle.read.specs.Classes.{sortTable, classTable};
+ghost use lib.ListN.{replicate};
+ghost use Rattle.read.specs.Classes.{classTable};
 
-// The classes under these separators: 0 text, 1 to 4 the splitting separators, the coarsest first, 5 below 32.
-pub(crate) fn classes(separators: Separators) -> [u8; 256]
-    ensures { λ r. ⌜ r ≡ classTable separators ⌝ }
+// The classes under these separators, set in a lent table of zeros: 0 text, 1 to 4 the splitting separators, the coarsest first, 5 below
+// 32. The finest is set first, so that of two that are the same byte the coarser counts.
+pub(crate) fn set_classes(class: &mut [u8; 256], separators: Separators)
+    requires { ⌜ now class ≡ replicate 256 0 ⌝ }
+    ensures { λ _. ⌜ now (class .exit) ≡ classTable separators ⌝ }
 {
-    let mut class = sorts(separators);
+    class[separators.subsubfield as usize] = 4;
+    class[separators.subfield as usize] = 3;
+    class[separators.repeater as usize] = 2;
+    class[separators.field as usize] = 1;
     let mut b = 0;
     while b < 32 {
         class[b] = 5;
         b += 1;
     }
-    class
-}
-
-// The sorts of the splitting separators; set from the finest on, so that of two that are the same byte the coarser counts.
-fn sorts(separators: Separators) -> [u8; 256]
-    ensures { λ r. ⌜ r ≡ sortTable separators ⌝ }
-{
-    let mut sort = [0u8; 256];
-    sort[separators.subsubfield as usize] = 4;
-    sort[separators.subfield as usize] = 3;
-    sort[separators.repeater as usize] = 2;
-    sort[separators.field as usize] = 1;
-    sort
 }
 
 // A byte as an index.

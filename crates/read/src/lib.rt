@@ -109,7 +109,8 @@ fn read_sound(
         (now (text .entry)) (now (segments .entry)) (now (leaves .entry))
         r (now (text .exit)) (now (segments .exit)) (now (leaves .exit)) ⌝ }
 {
-    let class = class::classes(separators);
+    let mut class = [0u8; 256];
+    class::set_classes(&mut class, separators);
     let followers = order::followers::table();
     match survey::survey_message(&class, &followers, limits, separators, message) {
         Surveyed::Whole(seen) => file(

@@ -9,8 +9,8 @@ use Rattle.read.proofs.Answering.{gives-refusal, message-judged, messag
 use Rattle.read.proofs.read_sound.Statement.{statement}
 use Rattle.read.proofs.read_sound.Tie as tie
 
-classes-requires : tie.Need-classes-requires
-classes-requires c κs = search needs
+set-classes-requires : tie.Need-set-classes-requires
+set-classes-requires c κs = search needs
 
 table-requires : tie.Need-table-requires
 table-requires c κs = search needs
@@ -23,13 +23,13 @@ enum-known-seen c = search needs
 
 file-requires : tie.Need-file-requires
 file-requires c κs =
-    let at-args = c .before .before .before .before .before .before .before .before .before .before .before .before .before .before .before .before .args in
+    let at-args = c .before .before .before .before .before .before .before .before .before .before .before .before .before .before .before .before .before .args in
     let at-seen = c .before .before .before .before .before .seen in
     let at-survey-message = c .before .before .before .before .before .before .before .survey-message in
-    let at-pre = c .before .before .before .before .before .before .before .before .before .before .before .before .before .before .before .before .pre in
-    let at-classes = c .before .before .before .before .before .before .before .before .before .before .before .classes in
+    let at-pre = c .before .before .before .before .before .before .before .before .before .before .before .before .before .before .before .before .before .pre in
+    let at-set-classes = c .before .before .before .before .before .before .before .before .before .before .before .set-classes in
     let known = subst (SurveyOf (at-args .limits) (at-args .separators) (at-args .message .now)) (at-seen .given .1) (at-survey-message .ensures) in
-    (at-pre .0, (at-pre .1, (at-classes .ensures, (known .0, known .1))))
+    (at-pre .0, (at-pre .1, (at-set-classes .ensures, (known .0, known .1))))
 
 enum-known-number : tie.Need-enum-known-number
 enum-known-number c = search needs
@@ -48,7 +48,7 @@ same-length-3 c = search needs
 
 returns : tie.Need-returns
 returns c =
-    let at-args = c .before .before .before .before .before .before .before .before .before .before .before .before .before .before .before .before .before .before .before .before .before .before .before .args in
+    let at-args = c .before .before .before .before .before .before .before .before .before .before .before .before .before .before .before .before .before .before .before .before .before .before .before .before .args in
     let at-seen = c .before .before .before .before .before .before .before .before .before .before .before .before .seen in
     let at-survey-message = c .before .before .before .before .before .before .before .before .before .before .before .before .before .before .survey-message in
     let at-file = c .before .before .before .before .before .before .file in
@@ -57,7 +57,7 @@ returns c =
 
 returns-2 : tie.Need-returns-2
 returns-2 c =
-    let at-args = c .before .before .before .before .before .before .before .before .before .before .before .before .before .args in
+    let at-args = c .before .before .before .before .before .before .before .before .before .before .before .before .before .before .args in
     let at-number = c .before .before .number in
     let at-survey-message = c .before .before .before .before .survey-message in
     let at-refusal = c .refusal in
@@ -68,7 +68,7 @@ pub read-sound-spec : {M : Type 1} → statement M
 read-sound-spec =
     tie.close
     (tie.spec
-    classes-requires
+    set-classes-requires
     table-requires
     survey-message-requires
     enum-known-seen
