@@ -2,7 +2,7 @@
 -- Assumes nothing.
 use mathlib.Core.List.{List, [], _∷_, _++_}
 use mathlib.Core.Path.{_≡_, sym, ap, ap₂, _∙_, subst, subst⁻¹}
-use Prim.Native.Nat.{ℕ, _+_, _*_, _-_, _≤_}
+use Prim.Native.Nat.{ℕ, _+_, _*_, _-_, _/_, _≤_}
 use native.Mathlib.Omega.{arith}
 use lib.ListN.{length, getD, length-append}
 use lib.Seq.{sets}
@@ -70,8 +70,8 @@ module _ {lv : ℕ → ℕ} {ps : Separators} {text₀ segments₀ leaves₀ : L
   abbrev so-far : List (List ℕ)
   so-far = closed ++ (begun ∷ [])
 
-  -- how many leaves there are, the one begun among them
-  pub begun-leaves : f .laying .row + 1 ≡ length (allLeaves ps so-far)
+  -- how many leaves there are, the one begun among them, seven numbers each
+  pub begun-leaves : f .laying .row + 7 ≡ length (allLeaves ps so-far) * 7
   unfolding ended
   begun-leaves =
       omega (
@@ -82,7 +82,7 @@ module _ {lv : ℕ → ℕ} {ps : Separators} {text₀ segments₀ leaves₀ : L
       )
 
   -- and how many of them are the segment's own
-  pub begun-own : f .laying .row + 1 ≡ length (allLeaves ps closed) + length (leavesBehind ps closed begun)
+  pub begun-own : f .laying .row + 7 ≡ length (allLeaves ps closed) * 7 + length (leavesBehind ps closed begun) * 7
   begun-own =
       omega (
         arith,
@@ -130,13 +130,14 @@ module _ {lv : ℕ → ℕ} {ps : Separators} {text₀ segments₀ leaves₀ : L
 
     pub closed-rows : segments′ ≡ sets segments₀ 0 (closedRows lv ps so-far)
     closed-rows =
-        let count : f .laying .row + 2 - f .first ≡ length (leavesBehind ps closed begun) = omega (arith, begun-own, b .first) in
+        let count : (f .laying .row + 7 - f .first) / 7 ≡ length (leavesBehind ps closed begun) = omega (arith, begun-own, b .first) in
+        let first : f .first / 7 + 1 ≡ 1 + length (allLeaves ps closed) = omega (arith, b .first) in
         let place : (f .laying .segment - 1) * 4 ≡ length (closedRows lv ps closed)
         = omega (arith, length-closedRows lv ps closed, b .number) in
         w .row
         ∙ ap₂ (λ (s r : List ℕ). sets s ((f .laying .segment - 1) * 4) r) (b .rows)
-        (ap₂ (λ (x o : ℕ). segmentRow x o (f .first) (f .laying .row + 2 - f .first)) begun-kind owner-by
-        ∙ ap₂ (λ (n m : ℕ). segmentRow (kindOfSegment ps begun) (ownerBehind lv ps closed (kindOfSegment ps begun)) n m) (b .first) count)
+        (ap₂ (λ (x o : ℕ). segmentRow x o (f .first / 7 + 1) ((f .laying .row + 7 - f .first) / 7)) begun-kind owner-by
+        ∙ ap₂ (λ (n m : ℕ). segmentRow (kindOfSegment ps begun) (ownerBehind lv ps closed (kindOfSegment ps begun)) n m) first count)
         ∙ sets-behind segments₀ (closedRows lv ps closed)
         (segmentRow (kindOfSegment ps begun) (ownerBehind lv ps closed (kindOfSegment ps begun)) (1 + length (allLeaves ps closed))
         (length (leavesBehind ps closed begun)))
@@ -172,8 +173,8 @@ module _ {lv : ℕ → ℕ} {ps : Separators} {text₀ segments₀ leaves₀ : L
         }
 
     -- the message ends
-    pub begun-ends : Ends text₀ leaves₀ (allLeaves ps so-far) (f .laying .row + 1) (f .laying .out) text leaves′
+    pub begun-ends : Ends text₀ leaves₀ (allLeaves ps so-far) (f .laying .out) text leaves′
     begun-ends =
-        subst (λ (ls : List Leaf). Ends text₀ leaves₀ ls (f .laying .row + 1) (f .laying .out) text leaves′) (pass-ended ps so-far (b .filed))
-        (subst⁻¹ (λ (v : List ℕ). Ends text₀ leaves₀ (ended (passOver ps so-far)) (f .laying .row + 1) (f .laying .out) text v) (w .leafRow)
+        subst (λ (ls : List Leaf). Ends text₀ leaves₀ ls (f .laying .out) text leaves′) (pass-ended ps so-far (b .filed))
+        (subst⁻¹ (λ (v : List ℕ). Ends text₀ leaves₀ (ended (passOver ps so-far)) (f .laying .out) text v) (w .leafRow)
         (held-ended (b .held)))

@@ -3,7 +3,7 @@
 use mathlib.Core.Bool.{true, false}
 use mathlib.Core.List.{List, [], _∷_, _++_, append-assoc, append-nil}
 use mathlib.Core.Path.{_≡_, refl, sym, ap, ap₂, _∙_, subst⁻¹}
-use Prim.Native.Nat.{ℕ, _+_, _*_, _-_, _≤_, _<_}
+use Prim.Native.Nat.{ℕ, _+_, _-_, _≤_, _<_}
 use native.Mathlib.Numerals.{add-one}
 use native.Mathlib.Omega.{arith}
 use lib.Dec.{eqb}
@@ -46,7 +46,7 @@ outTo l out =
 
 -- the leaf begun is closed: one row more, and the next leaf begins where the text ends
 pub record Closes (l next : Laying) : Type 0 where
-  pub row : next .row ≡ l .row + 1
+  pub row : next .row ≡ l .row + 7
   pub begin : next .begin ≡ l .out
   pub out : next .out ≡ l .out
   pub counted : Counted l → Counted next
@@ -107,9 +107,8 @@ leafBegun pass = leaf (pass .place) (pass .text)
 abbrev pub closing : Pass → List ℕ → Pass
 closing pass place = record { place = place; text = []; closed = pass .closed ++ (leafBegun pass ∷ []) }
 
--- the leaves of a whole pass: how many there are, the length of their text, and what the two buffers hold of them
-pub record Ends (text₀ leaves₀ : List ℕ) (leaves : List Leaf) (count out : ℕ) (text rows : List ℕ) : Type 0 where
-  pub counted : length leaves ≡ count
+-- the leaves of a whole pass: the length of their text, and what the two buffers hold of them
+pub record Ends (text₀ leaves₀ : List ℕ) (leaves : List Leaf) (out : ℕ) (text rows : List ℕ) : Type 0 where
   pub reaches : length (textOf leaves) ≡ out
   pub texts : text ≡ sets text₀ 0 (textOf leaves)
   pub stored : rows ≡ sets leaves₀ 0 (leafRowsFrom 0 leaves)
@@ -150,7 +149,7 @@ module _ {text₀ leaves₀ : List ℕ} {pass : Pass} {l : Laying} {text leaves 
 
   -- the leaf begun is closed, and its row goes behind the rows
   pub held-put : {next : Laying} → Closes l next
-      → Held text₀ leaves₀ (closing pass (placeOf next)) next text (sets leaves (l .row * 7) (rowOf l))
+      → Held text₀ leaves₀ (closing pass (placeOf next)) next text (sets leaves (l .row) (rowOf l))
   held-put k =
       record {
         place = refl;
@@ -162,23 +161,23 @@ module _ {text₀ leaves₀ : List ℕ} {pass : Pass} {l : Laying} {text leaves 
             h .texts
             ∙ ap (sets text₀ 0) (sym (text-last (pass .closed) (leafBegun pass)) ∙ sym (append-nil (textOf (pass .closed ++ (leafBegun pass ∷ [])))));
         rows =
-            ap₂ (λ (r s : List ℕ). sets r (l .row * 7) s) (h .rows) row-begun
+            ap₂ (λ (r s : List ℕ). sets r (l .row) s) (h .rows) row-begun
             ∙ sets-behind leaves₀ (leafRowsFrom 0 (pass .closed)) (leafRow (leafBegun pass) (0 + length (textOf (pass .closed))))
-            (l .row * 7) (ap (λ (n : ℕ). n * 7) (h .closed) ∙ sym (length-rows 0 (h .placed)))
+            (l .row) (h .closed ∙ sym (length-rows 0 (h .placed)))
             ∙ ap (sets leaves₀ 0) (sym (rows-last 0 (pass .closed) (leafBegun pass)));
         placed = all-append (h .placed) (also five none);
       }
 
   pub held-closes : (ps : List ℕ) (b : ℕ) (next : Laying) → among ps b ≡ true → raised ps b (placeOf l) ≡ placeOf next → Closes l next
-      → Held text₀ leaves₀ (step ps pass b) next text (sets leaves (l .row * 7) (rowOf l))
+      → Held text₀ leaves₀ (step ps pass b) next text (sets leaves (l .row) (rowOf l))
   held-closes ps b next is place k =
-      subst⁻¹ (λ (c : Pass). Held text₀ leaves₀ c next text (sets leaves (l .row * 7) (rowOf l)))
+      subst⁻¹ (λ (c : Pass). Held text₀ leaves₀ c next text (sets leaves (l .row) (rowOf l)))
       (step-separator ps pass b is ∙ ap (closing pass) (ap (raised ps b) (h .place) ∙ place)) (held-put k)
 
   -- a byte of a class from 1 to 4
   pub held-separator : (ps : Separators) (class : List ℕ) (b : ℕ) → class ≡ classTable ps → b < 256
       → (getD class b 0 ≡ 5 → ⊥) → (getD class b 0 ≡ 0 → ⊥)
-      → Held text₀ leaves₀ (step (CR ∷ splitting ps) pass b) (nextLeaf l (getD class b 0)) text (sets leaves (l .row * 7) (rowOf l))
+      → Held text₀ leaves₀ (step (CR ∷ splitting ps) pass b) (nextLeaf l (getD class b 0)) text (sets leaves (l .row) (rowOf l))
   held-separator ps class b is byte no-end no-text =
       let at : getD class b 0 ≡ getD (classTable ps) b 0 = ap (λ (k : List ℕ). getD k b 0) is in
       let no-five : getD (classTable ps) b 0 ≡ 5 → ⊥ = λ z. no-end (at ∙ z) in
@@ -188,7 +187,7 @@ module _ {text₀ leaves₀ : List ℕ} {pass : Pass} {l : Laying} {text leaves 
 
   -- the CR that stands for the end of a segment
   pub held-segment : (ps : Separators)
-      → Held text₀ leaves₀ (step (CR ∷ splitting ps) pass CR) (nextSegment l) text (sets leaves (l .row * 7) (rowOf l))
+      → Held text₀ leaves₀ (step (CR ∷ splitting ps) pass CR) (nextSegment l) text (sets leaves (l .row) (rowOf l))
   unfolding placeOf nextSegment splitting ones
   held-segment ps =
       held-closes (CR ∷ splitting ps) CR (nextSegment l) (among-hit CR (splitting ps) CR (eq-eqb CR CR refl))
@@ -197,12 +196,11 @@ module _ {text₀ leaves₀ : List ℕ} {pass : Pass} {l : Laying} {text leaves 
       (segment-closes l)
 
   -- the message ends: with the row of the leaf begun the buffers hold the leaves of the whole pass
-  pub held-ended : Ends text₀ leaves₀ (ended pass) (l .row + 1) (l .out) text (sets leaves (l .row * 7) (rowOf l))
+  pub held-ended : Ends text₀ leaves₀ (ended pass) (l .out) text (sets leaves (l .row) (rowOf l))
   unfolding ended nextSegment
   held-ended =
       let last = held-put (segment-closes l) in
       record {
-        counted = sym (last .closed);
         reaches = sym (last .begins);
         texts = last .texts ∙ ap (sets text₀ 0) (append-nil (textOf (ended pass)));
         stored = last .rows;

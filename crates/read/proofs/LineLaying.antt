@@ -95,12 +95,12 @@ module _ {class message : List ℕ} {i : ℕ} {l : Laying} {text leaves : List �
 module _ {class message : List ℕ} {l : Laying} {text leaves : List ℕ} {stop : ℕ} {leaves₁ : List ℕ}
     (bytes : Bytes message) (asked : Lays class message stop l text leaves)
     (no-end : getD class (getD message stop 0) 0 ≡ 5 → ⊥) (other : getD class (getD message stop 0) 0 ≡ 0 → ⊥)
-    (put : leaves₁ ≡ sets leaves (l .row * 7) (rowOf l)) where
+    (put : leaves₁ ≡ sets leaves (l .row) (rowOf l)) where
   within : stop < length message
   within = omega arith
 
   same-rows : length leaves₁ ≡ length leaves
-  same-rows = ap length put ∙ length-sets leaves (l .row * 7) (rowOf l)
+  same-rows = ap length put ∙ length-sets leaves (l .row) (rowOf l)
 
   pub lays-leaf : Lays class message (stop + 1) (nextLeaf l (getD class (getD message stop 0) 0)) text leaves₁
   lays-leaf =
@@ -147,7 +147,7 @@ text-fits {class} {message} {i} asked = let split = run-split class message i (i
 
 pub row-fits : {class message : List ℕ} {i : ℕ} {l : Laying} {text leaves : List ℕ} → Lays class message i l text leaves
     → (n : ℕ) → n ≡ getD message i 0 → (getD class n 0 ≡ 5 → ⊥) → (getD class (getD message i 0) 0 ≡ 0 → ⊥)
-    → (l .row * 7 + 7 ≤ length leaves) × (l .row < 65535) × (l .out < 65536) × Counted l
+    → (l .row + 7 ≤ length leaves) × (l .row < 65535 * 7) × (l .out < 65536) × Counted l
 row-fits {class} {message} {i} asked n e no-end other =
     let mark = marks-turn class message i (omega arith) (λ z. no-end (ap (λ (b : ℕ). getD class b 0) e ∙ z)) other in
     (omega arith, omega arith, omega arith, asked .counted)
@@ -212,7 +212,7 @@ module _ {class message : List ℕ} {from : ℕ} {l₀ : Laying} {text₀ leaves
 
   -- a separator stands here
   pub going-leaf : {leaves₁ : List ℕ} {next : Laying} (n : ℕ) → n ≡ getD message i 0 → (getD class n 0 ≡ 5 → ⊥)
-      → (getD class (getD message i 0) 0 ≡ 0 → ⊥) → leaves₁ ≡ sets leaves (l .row * 7) (rowOf l) → next ≡ nextLeaf l (getD class n 0)
+      → (getD class (getD message i 0) 0 ≡ 0 → ⊥) → leaves₁ ≡ sets leaves (l .row) (rowOf l) → next ≡ nextLeaf l (getD class n 0)
       → Going class message from l₀ text₀ leaves₀ text leaves₁ next (i + 1)
   going-leaf {leaves₁} {next} n e no-end other put to =
       let here : getD class n 0 ≡ getD class (getD message i 0) 0 = ap (λ (b : ℕ). getD class b 0) e in

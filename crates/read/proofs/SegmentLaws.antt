@@ -2,7 +2,7 @@
 -- Assumes nothing.
 use mathlib.Core.List.{List, [], _∷_}
 use mathlib.Core.Path.{_≡_, refl, ap, ap₂, _∙_, subst, subst⁻¹}
-use Prim.Native.Nat.{ℕ, _+_, _*_, _-_}
+use Prim.Native.Nat.{ℕ, _+_, _*_, _-_, _/_}
 use native.Mathlib.Omega.{arith}
 use lib.ListN.{take, drop}
 use lib.Seq.{sets}
@@ -25,8 +25,8 @@ use Rattle.read.proofs.HeldLaws.{leaf-closes, held-begins, held-copied,
 -- a segment closed, from the kind, the level and the owner that were told
 pub closed-by : {f : Filling} {levels : List ℕ} {context : ℕ} {nearest segments leaves nearest′ segments′ leaves′ : List ℕ} {kind level owner : ℕ}
     → kind ≡ kindSpelled (f .kind) → level ≡ levelIn levels context kind → Owned nearest nearest′ (f .laying .segment) kind level owner
-    → leaves′ ≡ sets leaves (f .laying .row * 7) (rowOf (f .laying))
-    → segments′ ≡ sets segments ((f .laying .segment - 1) * 4) (segmentRow kind owner (f .first) (f .laying .row + 2 - f .first))
+    → leaves′ ≡ sets leaves (f .laying .row) (rowOf (f .laying))
+    → segments′ ≡ sets segments ((f .laying .segment - 1) * 4) (segmentRow kind owner (f .first / 7 + 1) ((f .laying .row + 7 - f .first) / 7))
     → ClosedBy f levels context nearest segments leaves nearest′ segments′ leaves′
 closed-by {f} {levels} {context} {nearest} {segments} {nearest′ = nearest′} {kind = kind} {owner = owner} is told owns leaf row =
     record {
@@ -37,13 +37,13 @@ closed-by {f} {levels} {context} {nearest} {segments} {nearest′ = nearest′} 
           (subst (λ (l : ℕ). Owned nearest nearest′ (f .laying .segment) kind l owner) told owns);
       row =
           row
-          ∙ ap (λ (k : ℕ). sets segments ((f .laying .segment - 1) * 4) (segmentRow k owner (f .first) (f .laying .row + 2 - f .first))) is;
+          ∙ ap (λ (k : ℕ). sets segments ((f .laying .segment - 1) * 4) (segmentRow k owner (f .first / 7 + 1) ((f .laying .row + 7 - f .first) / 7))) is;
     }
 
 -- the segment after it
 pub begun-after : (f : Filling) {l : Laying} {k : Letters} → l ≡ nextSegment (f .laying) → k ≡ fresh 1
-    → record { laying = l; first = f .laying .row + 2; kind = k } ≡ begunAfter f
-begun-after f e g = ap₂ {C = Filling} (λ (l : Laying) (k : Letters). record { laying = l; first = f .laying .row + 2; kind = k }) e g
+    → record { laying = l; first = f .laying .row + 7; kind = k } ≡ begunAfter f
+begun-after f e g = ap₂ {C = Filling} (λ (l : Laying) (k : Letters). record { laying = l; first = f .laying .row + 7; kind = k }) e g
 
 -- a line
 pub line-filled : {class : List ℕ} {field : ℕ} {message : List ℕ} {from : ℕ} {f : Filling} {text leaves text′ leaves′ : List ℕ}
@@ -69,13 +69,13 @@ abbrev pub nameLeaf : Laying
 nameLeaf = record { row = 0; segment = 1; field = 1; repetition = 1; subfield = 1; subsubfield = 1; begin = 0; out = 1 }
 
 abbrev pub statedLeaf : Laying
-statedLeaf = record { row = 1; segment = 1; field = 2; repetition = 1; subfield = 1; subsubfield = 1; begin = 1; out = 5 }
+statedLeaf = record { row = 7; segment = 1; field = 2; repetition = 1; subfield = 1; subsubfield = 1; begin = 1; out = 5 }
 
 abbrev pub beforeHeader : Laying
 beforeHeader = record { row = 0; segment = 1; field = 1; repetition = 1; subfield = 1; subsubfield = 1; begin = 0; out = 0 }
 
 abbrev pub afterName : Laying
-afterName = record { row = 1; segment = 1; field = 2; repetition = 1; subfield = 1; subsubfield = 1; begin = 1; out = 1 }
+afterName = record { row = 7; segment = 1; field = 2; repetition = 1; subfield = 1; subsubfield = 1; begin = 1; out = 1 }
 
 module _ (ps : Separators) (text leaves : List ℕ) where
   abbrev stated : List ℕ
@@ -91,7 +91,7 @@ module _ (ps : Separators) (text leaves : List ℕ) where
 
   pub header-put : {leaves₁ leaves₂ : List ℕ} {l : Laying} → leaves₁ ≡ sets leaves 0 (rowOf nameLeaf)
       → leaves₂ ≡ sets leaves₁ 7 (rowOf statedLeaf) → l ≡ nextLeaf statedLeaf 1
-      → HeaderPut ps text leaves (record { laying = l; first = 1; kind = record { left = 0; length = 1; first = 72; second = 0; third = 0 } })
+      → HeaderPut ps text leaves (record { laying = l; first = 0; kind = record { left = 0; length = 1; first = 72; second = 0; third = 0 } })
       (sets text 0 (72 ∷ stated)) leaves₂
   unfolding nextLeaf
   header-put {leaves₁} {leaves₂} {l} name rest is =

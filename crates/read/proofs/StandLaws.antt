@@ -4,7 +4,7 @@
 use mathlib.Core.List.{List, [], _∷_, _++_}
 use mathlib.Core.Logic.{⊎-elim}
 use mathlib.Core.Path.{_≡_, refl, sym, ap, _∙_, subst, subst⁻¹}
-use Prim.Native.Nat.{ℕ, _+_, _≤_, _<_}
+use Prim.Native.Nat.{ℕ, _+_, _*_, _≤_, _<_}
 use native.Mathlib.Omega.{arith}
 use lib.ListN.{length, drop}
 use lib.Seq.{sets, length-sets}
@@ -92,7 +92,7 @@ module _ {c : Came} {class levels : List ℕ} {context : ℕ} {ps : Separators} 
 -- closing the segment begun
 module _ {c : Came} {class levels : List ℕ} {context : ℕ} {ps : Separators} {m : List ℕ} {at : ℕ} {f : Filling}
     {nearest text segments leaves : List ℕ} (w : Stands c class levels context ps m at f nearest text segments leaves) where
-  row-few : f .laying .row + 1 ≤ c .limits .leaves
+  row-few : f .laying .row + 7 ≤ c .limits .leaves * 7
   row-few =
       let few = leaves-left (readable (w .surveyed)) (w .closed) (w .begun) (w .begins .filed) at (w .left) in
       let rows = begun-leaves (w .begins) in
@@ -116,11 +116,10 @@ module _ {c : Came} {class levels : List ℕ} {context : ℕ} {ps : Separators} 
         counted = w .begins .counted;
         numbered = omega arith;
         segmentRoom = omega (arith, given .few, given .segmentRoom);
-        begins = omega arith;
         some = omega arith;
       }
 
-  pub stands-next : (f .laying .row < 65535) × Counted (f .laying)
+  pub stands-next : (f .laying .row < 65535 * 7) × Counted (f .laying)
   stands-next = (stands-closable .fewLeaves, stands-closable .counted)
 
   -- the line at `at` is an addendum: its text after the mark goes to the segment begun

@@ -2,7 +2,7 @@
 -- Assumes nothing.
 use mathlib.Core.List.{List, [], _∷_, _++_}
 use mathlib.Core.Path.{_≡_}
-use Prim.Native.Nat.{ℕ, _+_, _*_, _-_, _≤_, _<_}
+use Prim.Native.Nat.{ℕ, _+_, _*_, _-_, _/_, _≤_, _<_}
 use lib.ListN.{length, take, drop}
 use lib.Seq.{sets}
 use Rattle.laws.specs.Every.{All}
@@ -36,29 +36,28 @@ kindSpelled l = spelledAmong kindNames (l .length) (l .first) (l .second) (l .th
 
 -- what closing the segment begun asks: room for the row of its last leaf and for its own row, whose numbers fit 16 bits
 pub record Closable (f : Filling) (segments leaves : List ℕ) : Type 0 where
-  pub leafRoom : f .laying .row * 7 + 7 ≤ length leaves
-  pub fewLeaves : f .laying .row < 65535
+  pub leafRoom : f .laying .row + 7 ≤ length leaves
+  pub fewLeaves : f .laying .row < 65535 * 7
   pub short : f .laying .out < 65536
   pub counted : Counted (f .laying)
   pub numbered : 1 ≤ f .laying .segment
   pub segmentRoom : f .laying .segment * 4 ≤ length segments
-  pub begins : 1 ≤ f .first
-  pub some : f .first ≤ f .laying .row + 1
+  pub some : f .first ≤ f .laying .row
 
 -- what it gives: both rows, and what is known of the rows so far
 pub record ClosedBy (f : Filling) (levels : List ℕ) (context : ℕ) (nearest segments leaves nearest′ segments′ leaves′ : List ℕ) : Type 0 where
-  pub leafRow : leaves′ ≡ sets leaves (f .laying .row * 7) (rowOf (f .laying))
+  pub leafRow : leaves′ ≡ sets leaves (f .laying .row) (rowOf (f .laying))
   pub owner : ℕ
   pub owns :
       Owned nearest nearest′ (f .laying .segment) (kindSpelled (f .kind)) (levelIn levels context (kindSpelled (f .kind))) owner
   pub row :
       segments′
       ≡ sets segments ((f .laying .segment - 1) * 4)
-      (segmentRow (kindSpelled (f .kind)) owner (f .first) (f .laying .row + 2 - f .first))
+      (segmentRow (kindSpelled (f .kind)) owner (f .first / 7 + 1) ((f .laying .row + 7 - f .first) / 7))
 
 -- the state after a segment that has been closed
 abbrev pub begunAfter : Filling → Filling
-begunAfter f = record { laying = nextSegment (f .laying); first = f .laying .row + 2; kind = fresh 1 }
+begunAfter f = record { laying = nextSegment (f .laying); first = f .laying .row + 7; kind = fresh 1 }
 
 -- the first two leaves of the H, and the letter of its kind: of a message that begins with the bytes of these separators
 pub record HeaderPut (ps : Separators) (text leaves : List ℕ) (r : Filling) (text′ leaves′ : List ℕ) : Type 0 where
@@ -66,7 +65,7 @@ pub record HeaderPut (ps : Separators) (text leaves : List ℕ) (r : Filling) (t
   pub counted : Counted (r .laying)
   pub number : r .laying .segment ≡ 1
   pub out : r .laying .out ≡ 5
-  pub first : r .first ≡ 1
+  pub first : r .first ≡ 0
   pub kind : r .kind ≡ record { left = 0; length = 1; first = 72; second = 0; third = 0 }
 
 -- the bytes of a line from `from` on
@@ -103,7 +102,7 @@ pub record Begun
   pub held : Held text₀ leaves₀ (passOver ps (closed ++ (begun ∷ []))) (f .laying) text leaves
   pub counted : Counted (f .laying)
   pub number : f .laying .segment ≡ length closed + 1
-  pub first : f .first ≡ 1 + length (allLeaves ps closed)
+  pub first : f .first ≡ length (allLeaves ps closed) * 7
   pub kind : f .kind ≡ withBytes (ps .field) (fresh 1) begun
   pub rows : segments ≡ sets segments₀ 0 (closedRows lv ps closed)
   pub known : nearest ≡ knownAfter lv noRows 1 (kindsOf ps closed)

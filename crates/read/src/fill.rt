@@ -21,7 +21,7 @@ ghost use Rattle.read.specs.Laying.{Counted, Lays};
 ghost use Rattle.read.specs.Filling.{segmentsIn, tableIn, Fillable, Filled};
 ghost use Rattle.read.specs.Segments.{segmentRow, Closable, ClosedBy, begunAfter, HeaderPut, LineFilled, LevelsBelow};
 
-// How far the second pass has come: its leaves, and the first leaf and the kind of the open segment.
+// How far the second pass has come: its leaves, and of the open segment where the row of its first leaf stands, and its kind.
 pub struct Filling {
     pub laying: Laying,
     pub first: usize,
@@ -75,8 +75,8 @@ fn close_segment(
         laying.segment - 1,
         kind,
         owner,
-        filling.first as u16,
-        (laying.row + 2 - filling.first) as u16,
+        (filling.first / 7 + 1) as u16,
+        ((laying.row + 7 - filling.first) / 7) as u16,
     );
 }
 
@@ -102,7 +102,7 @@ fn put_header(separators: Separators, text: &mut [u8], leaves: &mut [u16]) -> Fi
     };
     put_leaf(name, leaves);
     let stated = Laying {
-        row: 1,
+        row: 7,
         segment: 1,
         field: 2,
         repetition: 1,
@@ -114,7 +114,7 @@ fn put_header(separators: Separators, text: &mut [u8], leaves: &mut [u16]) -> Fi
     put_leaf(stated, leaves);
     Filling {
         laying: stated.next_leaf(1),
-        first: 1,
+        first: 0,
         kind: Letters {
             left: 0,
             length: 1,
@@ -155,13 +155,13 @@ fn fill_line(
 
 // The segment after the open one, which has been closed.
 fn next_segment(filling: Filling) -> Filling
-    requires { ⌜ (filling .laying .row < 65535) × Counted (filling .laying) ⌝ }
+    requires { ⌜ (filling .laying .row < 65535 * 7) × Counted (filling .laying) ⌝ }
     ensures { λ r. ⌜ r ≡ begunAfter filling ⌝ }
 {
     let laying = filling.laying;
     Filling {
         laying: laying.next_segment(),
-        first: laying.row + 2,
+        first: laying.row + 7,
         kind: Letters::fresh(1),
     }
 }

@@ -7,7 +7,8 @@ ghost use lib.Seq.{sets};
 ghost use Rattle.read.specs.Scan.{plain};
 ghost use Rattle.read.specs.Laying.{rowOf, nextLeaf, nextSegment, Counted, Lays, LaidBy};
 
-// How far the pass has come: leaves closed, the place of the leaf begun, and where its text begins and ends so far.
+// How far the pass has come: where the row of the leaf begun goes, seven numbers for each leaf closed, the place of that leaf, and where
+// its text begins and ends so far.
 pub struct Laying {
     pub row: usize,
     pub segment: usize,
@@ -28,11 +29,11 @@ pub struct Laid {
 impl Laying {
     // The leaf begun is closed: the next one stands one segment on, its other numbers are 1.
     pub(crate) fn next_segment(self) -> Laying
-        requires { ⌜ (self .row < 65535) × Counted self ⌝ }
+        requires { ⌜ (self .row < 65535 * 7) × Counted self ⌝ }
         ensures { λ r. ⌜ r ≡ nextSegment self ⌝ }
     {
         Laying {
-            row: self.row + 1,
+            row: self.row + 7,
             segment: self.segment + 1,
             field: 1,
             repetition: 1,
@@ -45,11 +46,11 @@ impl Laying {
 
     // The leaf begun is closed by a separator of a sort: the next one stands one such part on, its finer numbers are 1.
     pub(crate) fn next_leaf(self, sort: u8) -> Laying
-        requires { ⌜ (self .row < 65535) × Counted self ⌝ }
+        requires { ⌜ (self .row < 65535 * 7) × Counted self ⌝ }
         ensures { λ r. ⌜ r ≡ nextLeaf self sort ⌝ }
     {
         let mut next = self;
-        next.row = self.row + 1;
+        next.row = self.row + 7;
         next.begin = self.out;
         if sort == 4 {
             next.subsubfield = self.subsubfield + 1;
@@ -91,10 +92,10 @@ fn copy_text(class: &[u8; 256], message: &[u8], from: usize, text: &mut [u8], ou
 
 // The row of the leaf begun, which is closed here.
 pub(crate) fn put_leaf(laying: Laying, leaves: &mut [u16])
-    requires { ⌜ (laying .row * 7 + 7 ≤ length (now leaves)) × (laying .row < 65535) × (laying .out < 65536) × Counted laying ⌝ }
-    ensures { λ _. ⌜ now (leaves .exit) ≡ sets (now (leaves .entry)) (laying .row * 7) (rowOf laying) ⌝ }
+    requires { ⌜ (laying .row + 7 ≤ length (now leaves)) × (laying .row < 65535 * 7) × (laying .out < 65536) × Counted laying ⌝ }
+    ensures { λ _. ⌜ now (leaves .exit) ≡ sets (now (leaves .entry)) (laying .row) (rowOf laying) ⌝ }
 {
-    let at = laying.row * 7;
+    let at = laying.row;
     leaves[at] = laying.segment as u16;
     leaves[at + 1] = laying.field as u16;
     leaves[at + 2] = laying.repetition as u16;

@@ -24,13 +24,18 @@ owner-of-requires c κs = search needs
 sub-put-segment : tie.Need-sub-put-segment
 sub-put-segment c = search needs
 
+add-put-segment : tie.Need-add-put-segment
+add-put-segment c =
+    let at-pre = c .before .before .before .before .before .before .before .before .before .before .before .before .before .before .before .before .pre in
+    omega (arith, at-pre)
+
 cast-put-segment : tie.Need-cast-put-segment
 cast-put-segment c =
     let at-pre = c .before .before .before .before .before .before .before .before .before .before .before .before .before .before .before .before .pre in
     omega (arith, at-pre)
 
-add-put-segment : tie.Need-add-put-segment
-add-put-segment c =
+add-put-segment-2 : tie.Need-add-put-segment-2
+add-put-segment-2 c =
     let at-pre = c .before .before .before .before .before .before .before .before .before .before .before .before .before .before .before .before .before .pre in
     omega (arith, at-pre)
 
@@ -76,8 +81,9 @@ close-segment-spec =
     level-of-requires
     owner-of-requires
     sub-put-segment
-    cast-put-segment
     add-put-segment
+    cast-put-segment
+    add-put-segment-2
     sub-put-segment-2
     cast-put-segment-2
     put-segment-requires

@@ -8,9 +8,6 @@ use Rattle.read.specs.Laying.{placeOf, rowOf}
 use Rattle.read.proofs.lay.put_leaf.Statement.{statement}
 use Rattle.read.proofs.lay.put_leaf.Tie as tie
 
-mul-at : tie.Need-mul-at
-mul-at c = search needs
-
 cast-leaves : tie.Need-cast-leaves
 cast-leaves c = search needs
 
@@ -106,7 +103,6 @@ pub put-leaf-spec : {M : Type 1} → statement M
 put-leaf-spec =
     tie.close
     (tie.spec
-    mul-at
     cast-leaves
     mul-leaves
     slice-write-leaves
