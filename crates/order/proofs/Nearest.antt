@@ -1,7 +1,7 @@
 -- One row more in what is known of the nearest rows: what stands at each place, and the loop that writes it.
 -- Assumes nothing.
 use mathlib.Core.List.{List}
-use mathlib.Core.Path.{_≡_, refl, sym, ap, _∙_}
+use mathlib.Core.Path.{_≡_, refl, sym, ap, ap₂, _∙_}
 use Prim.Native.Nat.{ℕ, zero, suc, _+_, _-_, _≤_, _<_}
 use native.Mathlib.Nat.{add-zero, add-suc, suc-add}
 use native.Mathlib.Numerals.{add-one}
@@ -57,27 +57,48 @@ module _ (nearest : List ℕ) (place row : ℕ) where
       ap (λ (m : ℕ). getD (sets nearest (place + 1) (replicate (8 - place) row)) m 0) (sym i)
       ∙ run-within (8 - place) (place + 1) (s - (place + 1)) nearest row (omega arith) (omega arith)
 
--- the loop that writes the row at every place above: what is still to be written gives the whole
+-- the loop that writes the row at every place above: up to the row's own place nothing is written, and from there on what is still to be
+-- written gives the whole
 
 pub record Writing (nearest₀ : List ℕ) (place row : ℕ) (nearest : List ℕ) (above : ℕ) : Type 0 where
   pub within : above ≤ 9
-  pub rest : sets nearest above (replicate (9 - above) row) ≡ added nearest₀ place row
+  pub kept : above ≤ place → nearest ≡ nearest₀
+  pub rest : place < above → sets nearest above (replicate (9 - above) row) ≡ added nearest₀ place row
 
-pub writing-begins : (nearest : List ℕ) (place row : ℕ) → place ≤ 8 → Writing nearest place row nearest (place + 1)
+-- just above the place all is still to be written
+rest-begins : (nearest : List ℕ) (place row above : ℕ) → above ≡ place + 1
+    → sets nearest above (replicate (9 - above) row) ≡ added nearest place row
 unfolding added
-writing-begins nearest place row h =
-    let n : 9 - (place + 1) ≡ 8 - place = omega arith in
-    record { within = omega arith; rest = ap (λ (m : ℕ). sets nearest (place + 1) (replicate m row)) n }
+rest-begins nearest place row above e =
+    let n : 9 - above ≡ 8 - place = omega arith in
+    ap₂ (λ (i m : ℕ). sets nearest i (replicate m row)) e n
+
+pub writing-begins : (nearest : List ℕ) (place row : ℕ) → Writing nearest place row nearest 1
+writing-begins nearest place row =
+    record { within = omega arith; kept = λ h. refl; rest = λ h. rest-begins nearest place row 1 (omega arith) }
 
 module _ {nearest₀ : List ℕ} {place row : ℕ} {nearest : List ℕ} {above : ℕ} (w : Writing nearest₀ place row nearest above) where
-  pub writing-on : above < 9 → Writing nearest₀ place row (set nearest above row) (above + 1)
-  writing-on h =
+  pub writing-on : above < 9 → place < above → Writing nearest₀ place row (set nearest above row) (above + 1)
+  writing-on h past =
       let n : 9 - above ≡ suc (9 - (above + 1)) = omega arith in
       record {
         within = omega arith;
-        rest = ap (λ (i : ℕ). sets (set nearest above row) i (replicate (9 - (above + 1)) row)) (add-one above)
-            ∙ ap (λ (m : ℕ). sets nearest above (replicate m row)) (sym n) ∙ w .rest;
+        kept = λ k. let z : ⊥ = omega arith in absurd z;
+        rest = λ k. ap (λ (i : ℕ). sets (set nearest above row) i (replicate (9 - (above + 1)) row)) (add-one above)
+            ∙ ap (λ (m : ℕ). sets nearest above (replicate m row)) (sym n) ∙ w .rest past;
       }
 
-  pub writing-done : 9 ≤ above → nearest ≡ added nearest₀ place row
-  writing-done h = let n : 9 - above ≡ 0 = omega arith in ap (λ (m : ℕ). sets nearest above (replicate m row)) (sym n) ∙ w .rest
+  pub writing-waits : above < 9 → above ≤ place → Writing nearest₀ place row nearest (above + 1)
+  writing-waits h below =
+      record {
+        within = omega arith;
+        kept = λ k. w .kept below;
+        rest = λ k.
+            ap (λ (v : List ℕ). sets v (above + 1) (replicate (9 - (above + 1)) row)) (w .kept below)
+            ∙ rest-begins nearest₀ place row (above + 1) (omega arith);
+      }
+
+  pub writing-done : place ≤ 8 → 9 ≤ above → nearest ≡ added nearest₀ place row
+  writing-done p h =
+      let n : 9 - above ≡ 0 = omega arith in
+      ap (λ (m : ℕ). sets nearest above (replicate m row)) (sym n) ∙ w .rest (omega arith)

@@ -18,16 +18,20 @@ pub fn no_rows() -> [u16; PLACES]
     [0u16; PLACES]
 }
 
-// The owner of the next row, by what is known of the rows before it, which the row is then added to. A level over 8 counts as 8.
+// The owner of the next row, by what is known of the rows before it, which the row is then added to. A level over 8 counts as 8. The
+// loop goes over all places, whatever the row's own is: with a fixed number of turns it is compiled to straight code.
 pub fn owner_of(nearest: &mut [u16; PLACES], row: u16, kind: u8, level: u8) -> u16
     ensures { λ r. ⌜ Owned (now (nearest .entry)) (now (nearest .exit)) row kind level r ⌝ }
 {
     let place = place_of(kind, level);
     let owner = nearest[place];
-    let mut above = place + 1;
-    while above < PLACES {
-        nearest[above] = row;
-        above += 1;
+    let mut next = 1;
+    while next < PLACES {
+        let above = next;
+        next += 1;
+        if place < above {
+            nearest[above] = row;
+        }
     }
     owner
 }

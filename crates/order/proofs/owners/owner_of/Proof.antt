@@ -6,15 +6,15 @@ use Prim.Native.Nat.{ℕ, _-_}
 use native.Mathlib.Omega.{arith}
 use lib.ListN.{getD}
 use Rattle.order.specs.Owning.{added}
-use Rattle.order.proofs.Nearest.{Writing, writing-begins, writing-on, writing-done}
+use Rattle.order.proofs.Nearest.{Writing, writing-begins, writing-on, writing-waits, writing-done}
 use Rattle.order.proofs.owners.owner_of.Statement.{statement}
 use Rattle.order.proofs.owners.owner_of.Tie as tie
 
 abbrev Inv-loop : tie.InvT-loop
-Inv-loop nearest₀ row kind level place owner above₀ nearest above = Writing nearest₀ place row nearest above
+Inv-loop nearest₀ row kind level place owner next₀ nearest next = Writing nearest₀ place row nearest next
 
 abbrev μ-loop : tie.MeasureT-loop
-μ-loop nearest₀ row kind level place owner above₀ nearest above = 9 - above
+μ-loop nearest₀ row kind level place owner next₀ nearest next = 9 - next
 
 place-of-requires : tie.Need-place-of-requires Inv-loop μ-loop
 place-of-requires c κs = search needs
@@ -25,14 +25,14 @@ mul-owner c = omega arith
 element-copy-out-owner : tie.Need-element-copy-out-owner Inv-loop μ-loop
 element-copy-out-owner c = omega arith
 
-add-above : tie.Need-add-above Inv-loop μ-loop
-add-above c = omega arith
-
 loop-holds : tie.Need-loop-holds Inv-loop μ-loop
 loop-holds c =
     let at-args = c .before .before .args in
     let at-place-of = c .before .place-of in
-    writing-begins (at-args .nearest .now) (at-place-of .result) (at-args .row) (at-place-of .ensures .1)
+    writing-begins (at-args .nearest .now) (at-place-of .result) (at-args .row)
+
+add-next : tie.Need-add-next Inv-loop μ-loop
+add-next c = omega arith
 
 mul-nearest : tie.Need-mul-nearest Inv-loop μ-loop
 mul-nearest c = omega arith
@@ -40,17 +40,25 @@ mul-nearest c = omega arith
 element-write-nearest : tie.Need-element-write-nearest Inv-loop μ-loop
 element-write-nearest c = omega arith
 
-add-above-2 : tie.Need-add-above-2 Inv-loop μ-loop
-add-above-2 c = omega arith
-
 loop-less : tie.Need-loop-less Inv-loop μ-loop
 loop-less c = omega arith
 
 loop-again : tie.Need-loop-again Inv-loop μ-loop
 loop-again c =
-    let at-loop = c .before .loop in
-    let at-loop-test = c .loop-test in
-    writing-on (at-loop .inv) (at-loop-test .taken)
+    let at-loop = c .before .before .loop in
+    let at-loop-test = c .before .loop-test in
+    let at-if1 = c .if1 in
+    writing-on (at-loop .inv) (at-loop-test .taken) (at-if1 .taken)
+
+loop-less-2 : tie.Need-loop-less-2 Inv-loop μ-loop
+loop-less-2 c = omega arith
+
+loop-again-2 : tie.Need-loop-again-2 Inv-loop μ-loop
+loop-again-2 c =
+    let at-loop = c .before .before .loop in
+    let at-loop-test = c .before .loop-test in
+    let at-if1 = c .if1 in
+    writing-waits (at-loop .inv) (at-loop-test .taken) (at-if1 .left)
 
 returns : tie.Need-returns Inv-loop μ-loop
 returns c =
@@ -60,7 +68,9 @@ returns c =
     let at-loop-test = c .loop-test in
     record {
       owner = ap (λ (p : ℕ). getD (at-args .nearest .now) p 0) (at-place-of .ensures .0);
-      known = writing-done (at-loop .inv) (at-loop-test .left) ∙ ap (λ (p : ℕ). added (at-args .nearest .now) p (at-args .row)) (at-place-of .ensures .0);
+      known =
+          writing-done (at-loop .inv) (at-place-of .ensures .1) (at-loop-test .left)
+          ∙ ap (λ (p : ℕ). added (at-args .nearest .now) p (at-args .row)) (at-place-of .ensures .0);
     }
 
 pub owner-of-spec : {M : Type 1} → statement M
@@ -72,11 +82,12 @@ owner-of-spec =
     place-of-requires
     mul-owner
     element-copy-out-owner
-    add-above
     loop-holds
+    add-next
     mul-nearest
     element-write-nearest
-    add-above-2
     loop-less
     loop-again
+    loop-less-2
+    loop-again-2
     returns)
