@@ -23,7 +23,7 @@ pub fn first(line: &mut [u8; GATHERED], n: usize) -> usize
 }
 
 // A space and a number.
-pub fn then(line: &mut [u8; GATHERED], gathered: usize, n: usize) -> usize
+pub(crate) fn then(line: &mut [u8; GATHERED], gathered: usize, n: usize) -> usize
     requires { ⌜ gathered ≤ 4096 ⌝ }
     ensures { λ r. ⌜ r ≤ 4096 ⌝ }
 {
@@ -33,7 +33,7 @@ pub fn then(line: &mut [u8; GATHERED], gathered: usize, n: usize) -> usize
 }
 
 // Ends the line: nothing is gathered any more.
-pub fn end(line: &mut [u8; GATHERED], gathered: usize)
+pub(crate) fn end(line: &mut [u8; GATHERED], gathered: usize)
     requires { ⌜ gathered ≤ 4096 ⌝ }
 {
     let at = with_room(line, gathered);
