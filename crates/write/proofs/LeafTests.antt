@@ -136,29 +136,3 @@ module _ {ps text : List ℕ} {from end i : ℕ} (w : Reading ps text from end i
   pub reading-done : end ≤ i → true ≡ leafText ps (take (end - from) (drop from text))
   unfolding leafText
   reading-done h = ap (leafText ps) (sym (part-none text i end h)) ∙ w .so
-
--- a byte of a leaf's text
-pub byte-low : (ps : List ℕ) (b : ℕ) → b < 32 → false ≡ leafByte ps b
-unfolding leafByte
-byte-low ps b h = sym (and-fails-first (not (among ps b)) (lt-leb 32 b h))
-
-pub byte-mark : (ps : List ℕ) (b k : ℕ) → k < length ps → b ≡ getD ps k 0 → false ≡ leafByte ps b
-unfolding leafByte
-byte-mark ps b k h e = sym (and-fails-second (leb 32 b) (ap not (among-at ps b k h e)))
-
-pub byte-plain : (s : Separators) (b : ℕ) → 32 ≤ b → (b ≡ s .field → ⊥) → (b ≡ s .repeater → ⊥) → (b ≡ s .subfield → ⊥)
-    → not (eqb b (s .subsubfield)) ≡ leafByte (splitting s) b
-unfolding leafByte splitting among
-byte-plain s b h f r u =
-    sym (
-    and-passed (not (among (splitting s) b)) (le-leb 32 b h)
-    ∙ ap not
-    (among-miss (s .field) (s .repeater ∷ s .subfield ∷ s .subsubfield ∷ []) b (ne-eqb b (s .field) f)
-    ∙ among-miss (s .repeater) (s .subfield ∷ s .subsubfield ∷ []) b (ne-eqb b (s .repeater) r)
-    ∙ among-miss (s .subfield) (s .subsubfield ∷ []) b (ne-eqb b (s .subfield) u)
-    ∙ only (eqb b (s .subsubfield)))
-    )
-  where
-    only : (t : Bool) → elim t [ true ↦ true | false ↦ false ] ≡ t
-    only true = refl
-    only false = refl

@@ -12,6 +12,7 @@ pub mod LinesFilled
 pub mod LeavesLeft
 pub mod TablesWritten
 pub mod Answers
+pub mod ClassTables
 pub mod LeafTests
 pub mod PlaceTests
 pub mod SegmentTests

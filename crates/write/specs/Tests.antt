@@ -62,6 +62,20 @@ separatorsAt field rows text =
 unfoldable pub leafByte : List ℕ → ℕ → Bool
 leafByte ps b = leb space b && not (among ps b)
 
+-- the class of a byte, by which a text is tested: 0 where it may stand in a leaf's text, 1 where it is a separator or below 32
+unfoldable pub markOf : List ℕ → ℕ → ℕ
+markOf ps b = elim (among ps b) [ true ↦ 1 | false ↦ 0 ]
+
+unfoldable pub classOf : List ℕ → ℕ → ℕ
+classOf ps b = elim (ltb b space) [ true ↦ 1 | false ↦ markOf ps b ]
+
+-- the tables of all bytes
+unfoldable pub markTable : List ℕ → List ℕ
+markTable ps = values (markOf ps) 0 256
+
+unfoldable pub classTable : List ℕ → List ℕ
+classTable ps = values (classOf ps) 0 256
+
 -- whether the first two leaf rows are a header's: `H`, and four bytes
 unfoldable pub headerLeavesAt : List ℕ → List ℕ → Bool
 headerLeavesAt rows text =

@@ -1,9 +1,10 @@
 // The tests of leaf rows: each row against the one before it, each text by its bytes.
+use crate::class;
 use form::separators::Separators;
 ghost use mathlib.Core.Bool.{_&&_};
-ghost use mathlib.Core.List.{[], _∷_};
+ghost use mathlib.Core.List.{List, [], _∷_};
 ghost use mathlib.Core.Path.{_≡_};
-ghost use Prim.Native.Nat.{_+_, _-_, _*_, _≤_, _<_};
+ghost use Prim.Native.Nat.{ℕ, _+_, _-_, _*_, _≤_, _<_};
 ghost use lib.ListN.{length, take, drop, replicate};
 ghost use Rattle.laws.specs.Lists.{same};
 ghost use Rattle.laws.specs.Tables.{values};
@@ -11,7 +12,7 @@ ghost use Rattle.form.specs.Header.{splitting};
 ghost use Rattle.table.specs.Back.{leafAt};
 ghost use Rattle.table.specs.RowTests.{nextPlace, leafText, endToEnd, goOn, goOnFrom};
 ghost use Rattle.write.specs.Local.{thirdPlace};
-ghost use Rattle.write.specs.Tests.{InText, separatorsAt, leafByte, headerLeavesAt};
+ghost use Rattle.write.specs.Tests.{InText, separatorsAt, classTable, headerLeavesAt};
 
 // Numbers of a leaf row, and where its start and its length stand.
 pub(crate) const SIZE: usize = 7;
@@ -100,33 +101,14 @@ fn stands_at(rows: &[u16], at: usize, field: u16) -> bool
     rows[at + 4] == 1
 }
 
-// Whether a byte may stand in a leaf's text: not below 32, and none of the four separators that split.
-fn leaf_byte(separators: Separators, b: u8) -> bool
-    ensures { λ r. ⌜ r ≡ leafByte (splitting separators) b ⌝ }
-{
-    if b < b' ' {
-        return false;
-    }
-    if b == separators.field {
-        return false;
-    }
-    if b == separators.repeater {
-        return false;
-    }
-    if b == separators.subfield {
-        return false;
-    }
-    b != separators.subsubfield
-}
-
-// Whether the bytes from `from` up to `end` may be a leaf's text.
-fn leaf_text(separators: Separators, text: &[u8], from: usize, end: usize) -> bool
+// Whether the bytes from `from` up to `end` may be a leaf's text under the separators that the classes are of.
+fn leaf_text(class: &[u8; 256], text: &[u8], from: usize, end: usize) -> bool
     requires { ⌜ (from ≤ end) × (end ≤ length (now text)) ⌝ }
-    ensures { λ r. ⌜ r ≡ leafText (splitting separators) (take (end - from) (drop from (now (text .entry)))) ⌝ }
+    ensures { λ r. ⌜ ((ps : List ℕ) → now (class .entry) ≡ classTable ps → r ≡ leafText ps (take (end - from) (drop from (now (text .entry))))) ⌝ }
 {
     let mut i = from;
     while i < end {
-        if !leaf_byte(separators, text[i]) {
+        if class[class::index(text[i])] != 0 {
             return false;
         }
         i += 1;
@@ -135,21 +117,21 @@ fn leaf_text(separators: Separators, text: &[u8], from: usize, end: usize) -> bo
 }
 
 // Whether the text that a leaf row states may be a leaf's.
-fn row_text(separators: Separators, rows: &[u16], text: &[u8], count: usize, i: usize) -> bool
+fn row_text(class: &[u8; 256], rows: &[u16], text: &[u8], count: usize, i: usize) -> bool
     requires { ⌜ InText (now rows) (now text) count × (i < count) ⌝ }
-    ensures { λ r. ⌜ r ≡ leafText (splitting separators) (leafAt (now (rows .entry)) (now (text .entry)) i .text) ⌝ }
+    ensures { λ r. ⌜ ((ps : List ℕ) → now (class .entry) ≡ classTable ps → r ≡ leafText ps (leafAt (now (rows .entry)) (now (text .entry)) i .text)) ⌝ }
 {
     let at = i * SIZE;
     let start = wide(rows[at + START]);
     let end = start + wide(rows[at + LENGTH]);
-    leaf_text(separators, text, start, end)
+    leaf_text(class, text, start, end)
 }
 
 // Whether the leaf rows from the fourth on stand each at the next place, with a leaf's text.
-fn go_on(separators: Separators, rows: &[u16], text: &[u8], count: usize) -> bool
+fn go_on(class: &[u8; 256], rows: &[u16], text: &[u8], count: usize) -> bool
     requires { ⌜ InText (now rows) (now text) count × (3 ≤ count) ⌝ }
-    ensures { λ r. ⌜ r ≡ goOn (splitting separators) (leafAt (now (rows .entry)) (now (text .entry)) 2 .place)
-        (values (leafAt (now (rows .entry)) (now (text .entry))) 3 (count - 3)) ⌝ }
+    ensures { λ r. ⌜ ((ps : List ℕ) → now (class .entry) ≡ classTable ps → r ≡ goOn ps (leafAt (now (rows .entry)) (now (text .entry)) 2 .place)
+        (values (leafAt (now (rows .entry)) (now (text .entry))) 3 (count - 3))) ⌝ }
 {
     let mut i = 3;
     while i < count {
@@ -157,7 +139,7 @@ fn go_on(separators: Separators, rows: &[u16], text: &[u8], count: usize) -> boo
         if !next_place(rows, at - SIZE, at) {
             return false;
         }
-        if !row_text(separators, rows, text, count, i) {
+        if !row_text(class, rows, text, count, i) {
             return false;
         }
         i += 1;
@@ -174,10 +156,11 @@ pub(crate) fn go_on_from(separators: Separators, rows: &[u16], text: &[u8], coun
     if !stands_at(rows, 2 * SIZE, 3) {
         return false;
     }
-    if !row_text(separators, rows, text, count, 2) {
+    let class = class::classes(separators);
+    if !row_text(&class, rows, text, count, 2) {
         return false;
     }
-    go_on(separators, rows, text, count)
+    go_on(&class, rows, text, count)
 }
 
 // Whether the first two leaf rows are a header's: `H` in field 1, four bytes in field 2.

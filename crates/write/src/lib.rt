@@ -9,6 +9,7 @@ ghost use Rattle.order.specs.Owners.{level};
 ghost use Rattle.write.specs.Writing.{refuses, writing};
 ghost use Rattle.write.specs.Answer.{answer, outputAfter, lent};
 
+mod class;
 mod leaf_rows;
 mod leaves;
 mod lines;

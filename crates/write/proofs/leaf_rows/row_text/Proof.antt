@@ -3,7 +3,6 @@
 use mathlib.Core.List.{List}
 use mathlib.Core.Path.{ap, _∙_}
 use Prim.Native.Nat.{ℕ}
-use Rattle.form.specs.Header.{splitting}
 use Rattle.table.specs.RowTests.{leafText}
 use Rattle.write.proofs.SegmentTests.{row-part}
 use native.Mathlib.Omega.{arith}
@@ -69,7 +68,7 @@ returns c =
     let at-args = c .before .before .before .before .before .before .before .args in
     let at-wide = c .before .before .before .wide in
     let at-wide2 = c .before .wide2 in
-    at-leaf-text .ensures ∙ ap (leafText (splitting (at-args .separators))) (row-part (at-args .rows .now) (at-args .text .now) (at-args .i) (at-wide .ensures .0) (at-wide2 .ensures .0))
+    λ ps e. at-leaf-text .ensures ps e ∙ ap (leafText ps) (row-part (at-args .rows .now) (at-args .text .now) (at-args .i) (at-wide .ensures .0) (at-wide2 .ensures .0))
 
 pub row-text-spec : {M : Type 1} → statement M
 row-text-spec =
