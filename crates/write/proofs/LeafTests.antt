@@ -64,49 +64,6 @@ module _ {rows : List ℕ} {finish count i start : ℕ} (w : Ending rows finish 
   unfolding endToEnd
   ending-done h = ap (λ (n : ℕ). endToEnd rows finish i n start) (let e : 0 ≡ count - i = omega arith in e) ∙ w .so
 
--- numbers that are all 1, from i up to the end
-pub record Ones (rows : List ℕ) (from end i : ℕ) : Type 0 where
-  pub after : from ≤ i
-  pub within : i ≤ end
-  pub so : same (replicate (end - i) 1) (take (end - i) (drop i rows)) ≡ same (replicate (end - from) 1) (take (end - from) (drop from rows))
-
-pub ones-begin : {rows : List ℕ} {from end : ℕ} → from ≤ end → Ones rows from end from
-ones-begin h = record { after = omega arith; within = h; so = refl }
-
-module _ {rows : List ℕ} {from end i : ℕ} (w : Ones rows from end i) where
-  ones-turn : i < end → end ≤ length rows
-      → (eqb 1 (getD rows i 0) && same (replicate (end - (i + 1)) 1) (take (end - (i + 1)) (drop (i + 1) rows)))
-      ≡ same (replicate (end - from) 1) (take (end - from) (drop from rows))
-  unfolding same
-  ones-turn h long =
-      ap₂ (λ (a b : List ℕ). same a b)
-      (ap (λ (n : ℕ). replicate n 1) (let e : suc (end - (i + 1)) ≡ end - i = omega arith in e))
-      (sym (part-cons rows i end 0 h long))
-      ∙ w .so
-
-  pub ones-fail : i < end → end ≤ length rows → (getD rows i 0 ≡ 1 → ⊥) → false ≡ same (replicate (end - from) 1) (take (end - from) (drop from rows))
-  ones-fail h long n =
-      sym (and-fails-first (same (replicate (end - (i + 1)) 1) (take (end - (i + 1)) (drop (i + 1) rows))) (ne-eqb 1 (getD rows i 0) (λ e. n (sym e))))
-      ∙ ones-turn h long
-
-  pub ones-on : i < end → end ≤ length rows → getD rows i 0 ≡ 1 → Ones rows from end (i + 1)
-  ones-on h long e =
-      record {
-        after = omega (arith, w .after);
-        within = omega arith;
-        so =
-            sym (and-passed (same (replicate (end - (i + 1)) 1) (take (end - (i + 1)) (drop (i + 1) rows))) (eq-eqb 1 (getD rows i 0) (sym e)))
-            ∙ ones-turn h long;
-      }
-
-  pub ones-done : end ≤ i → true ≡ same (replicate (end - from) 1) (take (end - from) (drop from rows))
-  unfolding same
-  ones-done h =
-      ap₂ (λ (a b : List ℕ). same a b)
-      (ap (λ (n : ℕ). replicate n 1) (let e : 0 ≡ end - i = omega arith in e))
-      (sym (part-none rows i end h))
-      ∙ w .so
-
 -- a leaf's text: the bytes from i up to the end are still to be seen
 pub record Reading (ps text : List ℕ) (from end i : ℕ) : Type 0 where
   pub after : from ≤ i

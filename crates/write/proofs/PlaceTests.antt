@@ -1,7 +1,8 @@
 -- The tests of a leaf row's place, number by number: what is left of it gives the whole.
 -- Assumes nothing.
-use mathlib.Core.Bool.{true, false, _&&_, and-true}
+use mathlib.Core.Bool.{Bool, true, false, _&&_, and-true}
 use mathlib.Core.List.{List, [], _∷_}
+use mathlib.Core.Logic.{_⊎_, inl, inr}
 use mathlib.Core.Path.{_≡_, refl, sym, ap, ap₂, _∙_}
 use Prim.Native.Nat.{ℕ, suc, _+_, _-_, _≤_, _<_}
 use native.Mathlib.Omega.{arith}
@@ -13,9 +14,12 @@ use borrow.Author.Tests.{eq-eqb, ne-eqb}
 use Rattle.laws.specs.Lists.{same}
 use Rattle.laws.proofs.Parts.{left-cons}
 use Rattle.laws.proofs.Tests.{and-passed, and-fails-first}
+use Rattle.laws.specs.Tables.{values}
+use Rattle.laws.proofs.Cases.{equal-or-not}
 use Rattle.table.specs.Flat.{ones}
 use Rattle.table.specs.RowTests.{nextPlace}
 use Rattle.table.proofs.RowTests.{next-same, next-raised}
+use Rattle.write.specs.Tests.{finer}
 
 -- two lists that begin alike, or differently
 same-on : {a b : ℕ} (s t : List ℕ) → a ≡ b → same (a ∷ s) (b ∷ t) ≡ same s t
@@ -25,15 +29,6 @@ same-on {a} {b} s t e = and-passed (same s t) (eq-eqb a b e)
 same-other : {a b : ℕ} (s t : List ℕ) → (a ≡ b → ⊥) → same (a ∷ s) (b ∷ t) ≡ false
 unfolding same
 same-other {a} {b} s t n = and-fails-first (same s t) (ne-eqb a b n)
-
--- the numbers of a place that are left from k on
-place-cons : (rows : List ℕ) (at k : ℕ) → k < 5 → at + 5 ≤ length rows
-    → take (5 - k) (drop (at + k) rows) ≡ getD rows (at + k) 0 ∷ take (5 - (k + 1)) (drop (at + (k + 1)) rows)
-place-cons rows at k h long =
-    ap (λ (r : List ℕ). take (5 - k) r)
-    (left-cons rows (at + k) 0 (omega arith)
-    ∙ ap (λ (n : ℕ). getD rows (at + k) 0 ∷ drop n rows) (let e : at + k + 1 ≡ at + (k + 1) = omega arith in e))
-    ∙ ap (λ (n : ℕ). take n (getD rows (at + k) 0 ∷ drop (at + (k + 1)) rows)) (let e : 5 - k ≡ suc (5 - (k + 1)) = omega arith in e)
 
 -- a place is five numbers
 module _ (rows : List ℕ) (at : ℕ) (long : at + 5 ≤ length rows) where
@@ -95,64 +90,52 @@ module _ (rows : List ℕ) (at : ℕ) (long : at + 5 ≤ length rows) where
           unfolding same
           last-decides e = sym (same-on (getD rows (at + 4) 0 ∷ []) (1 ∷ []) e ∙ and-true (eqb (getD rows (at + 4) 0) 1)) ∙ subfields
 
--- the next place: the first k numbers are the same
-pub record Placing (rows : List ℕ) (from to k : ℕ) : Type 0 where
-  pub within : k ≤ 5
-  pub so : nextPlace (take (5 - k) (drop (from + k) rows)) (take (5 - k) (drop (to + k) rows))
-      ≡ nextPlace (take 5 (drop from rows)) (take 5 (drop to rows))
+-- numbers that are to be 1: one that is not, and one that is
+pub ones-fail : {b : ℕ} (s t : List ℕ) → (b ≡ 1 → ⊥) → false ≡ same (1 ∷ s) (b ∷ t)
+ones-fail s t n = sym (same-other s t (λ e. n (sym e)))
 
-pub placing-begins : {rows : List ℕ} {from to : ℕ} → Placing rows from to 0
-placing-begins {rows} {from} {to} =
-    record {
-      within = omega arith;
-      so = ap₂ (λ (a b : ℕ). nextPlace (take 5 (drop a rows)) (take 5 (drop b rows))) (let e : from + 0 ≡ from = omega arith in e) (let e : to + 0 ≡ to = omega arith in e);
-    }
+pub ones-on : {b : ℕ} (s t : List ℕ) {r : Bool} → b ≡ 1 → r ≡ same s t → r ≡ same (1 ∷ s) (b ∷ t)
+ones-on s t e h = h ∙ sym (same-on s t (sym e))
 
-ones-replicate : (s : List ℕ) → ones s ≡ replicate (length s) 1
-unfolding ones
-ones-replicate [] = refl
-ones-replicate (a ∷ s) = ap (λ (r : List ℕ). 1 ∷ r) (ones-replicate s)
+pub one-left : (b : ℕ) → eqb b 1 ≡ same (1 ∷ []) (b ∷ [])
+unfolding same
+one-left b = go (equal-or-not b 1)
+  where
+    go : (b ≡ 1) ⊎ (b ≡ 1 → ⊥) → eqb b 1 ≡ (eqb 1 b && true)
+    go (inl e) = eq-eqb b 1 e ∙ sym (and-passed true (eq-eqb 1 b (sym e)))
+    go (inr n) = ne-eqb b 1 n ∙ sym (and-fails-first true (ne-eqb 1 b (λ e. n (sym e))))
 
-module _ {rows : List ℕ} {from to k : ℕ} (w : Placing rows from to k) (h : k < 5) (long : from + 5 ≤ length rows) (wide : to + 5 ≤ length rows) where
-  abbrev rest : ℕ → List ℕ
-  rest at = take (5 - (k + 1)) (drop (at + (k + 1)) rows)
+-- the next place, number by number: what is left of two places that are the same up to here decides
+pub record Next (from to : List ℕ) (whole : Bool) : Type 0 where
+  pub so : nextPlace from to ≡ whole
 
-  placing-turn : nextPlace (getD rows (from + k) 0 ∷ rest from) (getD rows (to + k) 0 ∷ rest to) ≡ nextPlace (take 5 (drop from rows)) (take 5 (drop to rows))
-  placing-turn = ap₂ nextPlace (sym (place-cons rows from k h long)) (sym (place-cons rows to k h wide)) ∙ w .so
+module _ {m n : ℕ} {s t : List ℕ} {whole : Bool} (w : Next (m ∷ s) (n ∷ t) whole) where
+  pub next-goes-on : m ≡ n → Next s t whole
+  next-goes-on e = record { so = sym (next-same m s n t e) ∙ w .so }
 
-  pub placing-on : getD rows (from + k) 0 ≡ getD rows (to + k) 0 → Placing rows from to (k + 1)
-  placing-on e =
-      record {
-        within = omega arith;
-        so = sym (next-same (getD rows (from + k) 0) (rest from) (getD rows (to + k) 0) (rest to) e) ∙ placing-turn;
-      }
+  module _ (d : m ≡ n → ⊥) where
+    pub next-fails : eqb (suc m) n ≡ false → false ≡ whole
+    next-fails e = sym (and-fails-first (same (ones s) t) e) ∙ sym (next-raised m s n t d) ∙ w .so
 
-  module _ (n : getD rows (from + k) 0 ≡ getD rows (to + k) 0 → ⊥) where
-    raised-turn : (eqb (suc (getD rows (from + k) 0)) (getD rows (to + k) 0) && same (ones (rest from)) (rest to))
-        ≡ nextPlace (take 5 (drop from rows)) (take 5 (drop to rows))
-    raised-turn = sym (next-raised (getD rows (from + k) 0) (rest from) (getD rows (to + k) 0) (rest to) n) ∙ placing-turn
+    pub next-rises : eqb (suc m) n ≡ true → {r : Bool} → r ≡ same (ones s) t → r ≡ whole
+    next-rises e h = h ∙ sym (and-passed (same (ones s) t) e) ∙ sym (next-raised m s n t d) ∙ w .so
 
-    pub placing-fails : (getD rows (from + k) 0 + 1 ≡ getD rows (to + k) 0 → ⊥) → false ≡ nextPlace (take 5 (drop from rows)) (take 5 (drop to rows))
-    placing-fails d =
-        sym (and-fails-first (same (ones (rest from)) (rest to)) (ne-eqb (suc (getD rows (from + k) 0)) (getD rows (to + k) 0) (λ e. d (add-one (getD rows (from + k) 0) ∙ e))))
-        ∙ raised-turn
+pub next-last : {m n : ℕ} {whole : Bool} → Next (m ∷ []) (n ∷ []) whole → eqb (suc m) n ≡ whole
+unfolding nextPlace ones same
+next-last {m} {n} {whole} w = go (equal-or-not m n)
+  where
+    go : (m ≡ n) ⊎ (m ≡ n → ⊥) → eqb (suc m) n ≡ whole
+    go (inl e) = ne-eqb (suc m) n (λ z. omega arith) ∙ next-goes-on w e .so
+    go (inr d) = sym (and-true (eqb (suc m) n)) ∙ sym (next-raised m [] n [] d) ∙ w .so
 
-    pub placing-ones : getD rows (from + k) 0 + 1 ≡ getD rows (to + k) 0
-        → same (replicate (to + 5 - (to + k + 1)) 1) (take (to + 5 - (to + k + 1)) (drop (to + k + 1) rows))
-        ≡ nextPlace (take 5 (drop from rows)) (take 5 (drop to rows))
-    placing-ones d =
-        ap₂ (λ (a b : ℕ). same (replicate a 1) (take a (drop b rows)))
-        (let e : to + 5 - (to + k + 1) ≡ 5 - (k + 1) = omega arith in e)
-        (let e : to + k + 1 ≡ to + (k + 1) = omega arith in e)
-        ∙ ap (λ (o : List ℕ). same o (rest to))
-        (sym (ones-replicate (rest from)
-        ∙ ap (λ (m : ℕ). replicate m 1) (length-take-le (5 - (k + 1)) (drop (from + (k + 1)) rows) (omega (arith, length-drop (from + (k + 1)) rows)))))
-        ∙ sym (and-passed (same (ones (rest from)) (rest to)) (eq-eqb (suc (getD rows (from + k) 0)) (getD rows (to + k) 0) (sym (add-one (getD rows (from + k) 0)) ∙ d)))
-        ∙ raised-turn
+-- two places as numbers
+pub next-numbers : (rows : List ℕ) (from to : ℕ) → from + 5 ≤ length rows → to + 5 ≤ length rows
+    → Next (getD rows from 0 ∷ finer rows from 1) (getD rows to 0 ∷ finer rows to 1) (nextPlace (take 5 (drop from rows)) (take 5 (drop to rows)))
+unfolding five values
+next-numbers rows from to long wide = record { so = ap₂ nextPlace (sym (five-at rows from long)) (sym (five-at rows to wide)) }
 
-pub placing-done : {rows : List ℕ} {from to k : ℕ} → Placing rows from to k → 5 ≤ k → false ≡ nextPlace (take 5 (drop from rows)) (take 5 (drop to rows))
-unfolding nextPlace
-placing-done {rows} {from} {to} {k} w h =
-    ap₂ (λ (a b : ℕ). nextPlace (take a (drop (from + k) rows)) (take b (drop (to + k) rows)))
-    (let e : 0 ≡ 5 - k = omega arith in e) (let e : 0 ≡ 5 - k = omega arith in e)
-    ∙ w .so
+-- and what is left of them after three
+pub next-here : (rows : List ℕ) (from to : ℕ)
+    → Next (getD rows (from + 3) 0 ∷ getD rows (from + 4) 0 ∷ []) (getD rows (to + 3) 0 ∷ getD rows (to + 4) 0 ∷ []) (nextPlace (finer rows from 3) (finer rows to 3))
+unfolding values
+next-here rows from to = record { so = refl }

@@ -47,6 +47,10 @@ pub record InText (rows text : List ℕ) (count : ℕ) : Type 0 where
 abbrev pub leavesFrom : List ℕ → List ℕ → ℕ → ℕ → List Leaf
 leavesFrom rows text first end = values (leafAt rows text) first (end - first)
 
+-- the numbers of the place at an entry that are finer than its first k
+abbrev pub finer : List ℕ → ℕ → ℕ → List ℕ
+finer rows at k = values (λ (j : ℕ). getD rows (at + j) 0) k (5 - k)
+
 -- the separators that a field separator and the text of the second leaf name
 unfoldable pub separatorsAt : ℕ → List ℕ → List ℕ → Separators
 separatorsAt field rows text =

@@ -4,15 +4,16 @@ use form::separators::Separators;
 ghost use mathlib.Core.Bool.{_&&_};
 ghost use mathlib.Core.List.{List, [], _∷_};
 ghost use mathlib.Core.Path.{_≡_};
-ghost use Prim.Native.Nat.{ℕ, _+_, _-_, _*_, _≤_, _<_};
-ghost use lib.ListN.{length, take, drop, replicate};
+ghost use Prim.Native.Nat.{ℕ, suc, _+_, _-_, _*_, _≤_, _<_};
+ghost use lib.Dec.{eqb};
+ghost use lib.ListN.{length, take, drop};
 ghost use Rattle.laws.specs.Lists.{same};
 ghost use Rattle.laws.specs.Tables.{values};
 ghost use Rattle.form.specs.Header.{splitting};
 ghost use Rattle.table.specs.Back.{leafAt};
 ghost use Rattle.table.specs.RowTests.{nextPlace, leafText, endToEnd, goOn, goOnFrom};
 ghost use Rattle.write.specs.Local.{thirdPlace};
-ghost use Rattle.write.specs.Tests.{InText, separatorsAt, classTable, headerLeavesAt};
+ghost use Rattle.write.specs.Tests.{InText, finer, separatorsAt, classTable, headerLeavesAt};
 
 // Numbers of a leaf row, and where its start and its length stand.
 pub(crate) const SIZE: usize = 7;
@@ -46,19 +47,44 @@ pub(crate) fn end_to_end(rows: &[u16], count: usize, finish: usize) -> bool
     start == finish
 }
 
-// Whether the numbers from `from` up to `end` are all 1.
-fn all_ones(rows: &[u16], from: usize, end: usize) -> bool
-    requires { ⌜ (from ≤ end) × (end ≤ length (now rows)) ⌝ }
-    ensures { λ r. ⌜ r ≡ same (replicate (end - from) 1) (take (end - from) (drop from (now (rows .entry)))) ⌝ }
+// Whether a number is one more than another.
+fn one_more(before: u16, after: u16) -> bool
+    ensures { λ r. ⌜ r ≡ eqb (suc before) after ⌝ }
 {
-    let mut i = from;
-    while i < end {
-        if rows[i] != 1 {
-            return false;
-        }
-        i += 1;
+    wide(before) + 1 == wide(after)
+}
+
+// Whether the place at `at` is that of the first leaf of its repetition.
+fn first_in_repetition(rows: &[u16], at: usize) -> bool
+    requires { ⌜ at + 5 ≤ length (now rows) ⌝ }
+    ensures { λ r. ⌜ r ≡ same (1 ∷ 1 ∷ []) (finer (now (rows .entry)) at 3) ⌝ }
+{
+    if rows[at + 3] != 1 {
+        return false;
     }
-    true
+    rows[at + 4] == 1
+}
+
+// Whether it is that of the first leaf of its field.
+fn first_in_field(rows: &[u16], at: usize) -> bool
+    requires { ⌜ at + 5 ≤ length (now rows) ⌝ }
+    ensures { λ r. ⌜ r ≡ same (1 ∷ 1 ∷ 1 ∷ []) (finer (now (rows .entry)) at 2) ⌝ }
+{
+    if rows[at + 2] != 1 {
+        return false;
+    }
+    first_in_repetition(rows, at)
+}
+
+// Whether it is that of the first leaf of its segment.
+fn first_in_segment(rows: &[u16], at: usize) -> bool
+    requires { ⌜ at + 5 ≤ length (now rows) ⌝ }
+    ensures { λ r. ⌜ r ≡ same (1 ∷ 1 ∷ 1 ∷ 1 ∷ []) (finer (now (rows .entry)) at 1) ⌝ }
+{
+    if rows[at + 1] != 1 {
+        return false;
+    }
+    first_in_field(rows, at)
 }
 
 // Whether the place at `to` comes next after the one at `from`: some number is one more, the coarser are the same and the finer are 1.
@@ -66,19 +92,39 @@ fn next_place(rows: &[u16], from: usize, to: usize) -> bool
     requires { ⌜ (from + 5 ≤ length (now rows)) × (to + 5 ≤ length (now rows)) ⌝ }
     ensures { λ r. ⌜ r ≡ nextPlace (take 5 (drop from (now (rows .entry)))) (take 5 (drop to (now (rows .entry)))) ⌝ }
 {
-    let mut k = 0;
-    while k < START {
-        let before = wide(rows[from + k]);
-        let after = wide(rows[to + k]);
-        if before != after {
-            if before + 1 != after {
-                return false;
-            }
-            return all_ones(rows, to + k + 1, to + START);
+    if rows[from] != rows[to] {
+        if !one_more(rows[from], rows[to]) {
+            return false;
         }
-        k += 1;
+        return first_in_segment(rows, to);
     }
-    false
+    if rows[from + 1] != rows[to + 1] {
+        if !one_more(rows[from + 1], rows[to + 1]) {
+            return false;
+        }
+        return first_in_field(rows, to);
+    }
+    if rows[from + 2] != rows[to + 2] {
+        if !one_more(rows[from + 2], rows[to + 2]) {
+            return false;
+        }
+        return first_in_repetition(rows, to);
+    }
+    next_subfield(rows, from, to)
+}
+
+// The same of two places that differ in their last two numbers at most.
+fn next_subfield(rows: &[u16], from: usize, to: usize) -> bool
+    requires { ⌜ (from + 5 ≤ length (now rows)) × (to + 5 ≤ length (now rows)) ⌝ }
+    ensures { λ r. ⌜ r ≡ nextPlace (finer (now (rows .entry)) from 3) (finer (now (rows .entry)) to 3) ⌝ }
+{
+    if rows[from + 3] != rows[to + 3] {
+        if !one_more(rows[from + 3], rows[to + 3]) {
+            return false;
+        }
+        return rows[to + 4] == 1;
+    }
+    one_more(rows[from + 4], rows[to + 4])
 }
 
 // Whether the place at `at` is that of the only leaf of a field of segment 1.

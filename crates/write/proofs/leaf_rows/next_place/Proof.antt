@@ -1,122 +1,257 @@
--- `write::leaf_rows::next_place` meets its contract. The loop's invariant: the numbers that are left give the whole.
+-- `write::leaf_rows::next_place` meets its contract, number by number: one law a return.
 -- Assumes nothing.
-use mathlib.Core.Path.{sym, ap, _∙_}
-use Prim.Native.Nat.{ℕ, _+_, _-_}
-use Rattle.write.proofs.PlaceTests.{Placing, placing-begins, placing-fails, placing-ones, placing-on, placing-done}
-use native.Mathlib.Omega.{arith}
+use mathlib.Core.Path.{sym, _∙_}
+use borrow.Author.Tests.{not-true, not-false}
+use Rattle.laws.specs.Tables.{values}
+use Rattle.table.specs.Flat.{ones}
+use Rattle.write.proofs.PlaceTests.{next-numbers, next-goes-on, next-fails, next-rises}
 use borrow.Author.Needs.{needs}
 use Rattle.write.proofs.leaf_rows.next_place.Statement.{statement}
 use Rattle.write.proofs.leaf_rows.next_place.Tie as tie
 
-abbrev Inv-loop : tie.InvT-loop
-Inv-loop rows from to k₀ k = Placing rows from to k
+mul-if1 : tie.Need-mul-if1
+mul-if1 c = search needs
 
-abbrev μ-loop : tie.MeasureT-loop
-μ-loop rows from to k₀ k = 5 - k
+shared-slice-read-if1 : tie.Need-shared-slice-read-if1
+shared-slice-read-if1 c = search needs
 
-loop-holds : tie.Need-loop-holds Inv-loop μ-loop
-loop-holds c = placing-begins
+mul-if1-2 : tie.Need-mul-if1-2
+mul-if1-2 c = search needs
 
-add-wide : tie.Need-add-wide Inv-loop μ-loop
-add-wide c = omega arith
+shared-slice-read-if1-2 : tie.Need-shared-slice-read-if1-2
+shared-slice-read-if1-2 c = search needs
 
-mul-wide : tie.Need-mul-wide Inv-loop μ-loop
-mul-wide c = omega arith
+mul-one-more : tie.Need-mul-one-more
+mul-one-more c = search needs
 
-shared-slice-read-wide : tie.Need-shared-slice-read-wide Inv-loop μ-loop
-shared-slice-read-wide c = omega arith
+shared-slice-read-one-more : tie.Need-shared-slice-read-one-more
+shared-slice-read-one-more c = search needs
 
-wide-requires : tie.Need-wide-requires Inv-loop μ-loop
-wide-requires c κs = search needs
+mul-one-more-2 : tie.Need-mul-one-more-2
+mul-one-more-2 c = search needs
 
-add-wide-2 : tie.Need-add-wide-2 Inv-loop μ-loop
-add-wide-2 c = omega arith
+shared-slice-read-one-more-2 : tie.Need-shared-slice-read-one-more-2
+shared-slice-read-one-more-2 c = search needs
 
-mul-wide-2 : tie.Need-mul-wide-2 Inv-loop μ-loop
-mul-wide-2 c = omega arith
+one-more-requires : tie.Need-one-more-requires
+one-more-requires c κs = search needs
 
-shared-slice-read-wide-2 : tie.Need-shared-slice-read-wide-2 Inv-loop μ-loop
-shared-slice-read-wide-2 c = omega arith
-
-wide-requires-2 : tie.Need-wide-requires-2 Inv-loop μ-loop
-wide-requires-2 c κs = search needs
-
-add-if2 : tie.Need-add-if2 Inv-loop μ-loop
-add-if2 c = omega arith
-
-returns : tie.Need-returns Inv-loop μ-loop
+returns : tie.Need-returns
 returns c =
-    let at-loop = c .before .before .before .before .before .before .before .loop in
-    let at-if1 = c .before .if1 in
-    let at-wide = c .before .before .before .before .wide in
-    let at-wide2 = c .before .before .wide2 in
+    let at-args = c .before .before .before .before .before .before .before .before .args in
+    let at-pre = c .before .before .before .before .before .before .before .before .pre in
+    let at-if1 = c .before .before .before .before .if1 in
+    let at-one-more = c .before .one-more in
     let at-if2 = c .if2 in
-    placing-fails (at-loop .inv) (omega arith) (omega arith) (omega arith) (λ e. at-if1 .taken (at-wide .ensures .0 ∙ e ∙ sym (at-wide2 .ensures .0))) (λ e. at-if2 .taken (ap (λ (n : ℕ). n + 1) (at-wide .ensures .0) ∙ e ∙ sym (at-wide2 .ensures .0)))
+    next-fails (next-numbers (at-args .rows .now) (at-args .from) (at-args .to) (at-pre .0) (at-pre .1)) (at-if1 .taken) (sym (at-one-more .ensures) ∙ not-true (at-one-more .result) (at-if2 .taken))
 
-add-all-ones : tie.Need-add-all-ones Inv-loop μ-loop
-add-all-ones c = omega arith
+first-in-segment-requires : tie.Need-first-in-segment-requires
+first-in-segment-requires c κs = search needs
 
-add-all-ones-2 : tie.Need-add-all-ones-2 Inv-loop μ-loop
-add-all-ones-2 c = omega arith
-
-add-all-ones-3 : tie.Need-add-all-ones-3 Inv-loop μ-loop
-add-all-ones-3 c = omega arith
-
-all-ones-requires : tie.Need-all-ones-requires Inv-loop μ-loop
-all-ones-requires c κs = (omega arith, omega arith)
-
-returns-2 : tie.Need-returns-2 Inv-loop μ-loop
+returns-2 : tie.Need-returns-2
+unfolding values ones
 returns-2 c =
-    let at-all-ones = c .all-ones in
-    let at-loop = c .before .before .before .before .before .before .before .before .loop in
-    let at-if1 = c .before .before .if1 in
-    let at-wide = c .before .before .before .before .before .wide in
-    let at-wide2 = c .before .before .before .wide2 in
+    let at-args = c .before .before .before .before .before .before .before .before .before .args in
+    let at-pre = c .before .before .before .before .before .before .before .before .before .pre in
+    let at-if1 = c .before .before .before .before .before .if1 in
+    let at-one-more = c .before .before .one-more in
     let at-if2 = c .before .if2 in
-    at-all-ones .ensures ∙ placing-ones (at-loop .inv) (omega arith) (omega arith) (omega arith) (λ e. at-if1 .taken (at-wide .ensures .0 ∙ e ∙ sym (at-wide2 .ensures .0))) (ap (λ (n : ℕ). n + 1) (sym (at-wide .ensures .0)) ∙ at-if2 .left ∙ at-wide2 .ensures .0)
+    let at-first-in-segment = c .first-in-segment in
+    next-rises (next-numbers (at-args .rows .now) (at-args .from) (at-args .to) (at-pre .0) (at-pre .1)) (at-if1 .taken) (sym (at-one-more .ensures) ∙ not-false (at-one-more .result) (at-if2 .left)) (at-first-in-segment .ensures)
 
-add-k : tie.Need-add-k Inv-loop μ-loop
-add-k c = omega arith
+add-if3 : tie.Need-add-if3
+add-if3 c = search needs
 
-loop-less : tie.Need-loop-less Inv-loop μ-loop
-loop-less c = omega arith
+mul-if3 : tie.Need-mul-if3
+mul-if3 c = search needs
 
-loop-again : tie.Need-loop-again Inv-loop μ-loop
-loop-again c =
-    let at-loop = c .before .before .before .before .before .before .loop in
-    let at-wide = c .before .before .before .wide in
-    let at-if1 = c .if1 in
-    let at-wide2 = c .before .wide2 in
-    placing-on (at-loop .inv) (omega arith) (omega arith) (omega arith) (sym (at-wide .ensures .0) ∙ at-if1 .left ∙ at-wide2 .ensures .0)
+shared-slice-read-if3 : tie.Need-shared-slice-read-if3
+shared-slice-read-if3 c = search needs
 
-returns-3 : tie.Need-returns-3 Inv-loop μ-loop
+add-if3-2 : tie.Need-add-if3-2
+add-if3-2 c = search needs
+
+mul-if3-2 : tie.Need-mul-if3-2
+mul-if3-2 c = search needs
+
+shared-slice-read-if3-2 : tie.Need-shared-slice-read-if3-2
+shared-slice-read-if3-2 c = search needs
+
+add-one-more : tie.Need-add-one-more
+add-one-more c = search needs
+
+mul-one-more-3 : tie.Need-mul-one-more-3
+mul-one-more-3 c = search needs
+
+shared-slice-read-one-more-3 : tie.Need-shared-slice-read-one-more-3
+shared-slice-read-one-more-3 c = search needs
+
+add-one-more-2 : tie.Need-add-one-more-2
+add-one-more-2 c = search needs
+
+mul-one-more-4 : tie.Need-mul-one-more-4
+mul-one-more-4 c = search needs
+
+shared-slice-read-one-more-4 : tie.Need-shared-slice-read-one-more-4
+shared-slice-read-one-more-4 c = search needs
+
+one-more-requires-2 : tie.Need-one-more-requires-2
+one-more-requires-2 c κs = search needs
+
+returns-3 : tie.Need-returns-3
+unfolding values
 returns-3 c =
-    let at-loop = c .before .loop in
-    placing-done (at-loop .inv) (omega arith)
+    let at-args = c .before .before .before .before .before .before .before .before .before .before .before .args in
+    let at-pre = c .before .before .before .before .before .before .before .before .before .before .before .pre in
+    let at-if1 = c .before .before .before .before .before .before .before .if1 in
+    let at-if3 = c .before .before .before .before .if3 in
+    let at-one-more2 = c .before .one-more2 in
+    let at-if4 = c .if4 in
+    next-fails (next-goes-on (next-numbers (at-args .rows .now) (at-args .from) (at-args .to) (at-pre .0) (at-pre .1)) (at-if1 .left)) (at-if3 .taken) (sym (at-one-more2 .ensures) ∙ not-true (at-one-more2 .result) (at-if4 .taken))
+
+first-in-field-requires : tie.Need-first-in-field-requires
+first-in-field-requires c κs = search needs
+
+returns-4 : tie.Need-returns-4
+unfolding values ones
+returns-4 c =
+    let at-args = c .before .before .before .before .before .before .before .before .before .before .before .before .args in
+    let at-pre = c .before .before .before .before .before .before .before .before .before .before .before .before .pre in
+    let at-if1 = c .before .before .before .before .before .before .before .before .if1 in
+    let at-if3 = c .before .before .before .before .before .if3 in
+    let at-one-more2 = c .before .before .one-more2 in
+    let at-if4 = c .before .if4 in
+    let at-first-in-field = c .first-in-field in
+    next-rises (next-goes-on (next-numbers (at-args .rows .now) (at-args .from) (at-args .to) (at-pre .0) (at-pre .1)) (at-if1 .left)) (at-if3 .taken) (sym (at-one-more2 .ensures) ∙ not-false (at-one-more2 .result) (at-if4 .left)) (at-first-in-field .ensures)
+
+add-if5 : tie.Need-add-if5
+add-if5 c = search needs
+
+mul-if5 : tie.Need-mul-if5
+mul-if5 c = search needs
+
+shared-slice-read-if5 : tie.Need-shared-slice-read-if5
+shared-slice-read-if5 c = search needs
+
+add-if5-2 : tie.Need-add-if5-2
+add-if5-2 c = search needs
+
+mul-if5-2 : tie.Need-mul-if5-2
+mul-if5-2 c = search needs
+
+shared-slice-read-if5-2 : tie.Need-shared-slice-read-if5-2
+shared-slice-read-if5-2 c = search needs
+
+add-one-more-3 : tie.Need-add-one-more-3
+add-one-more-3 c = search needs
+
+mul-one-more-5 : tie.Need-mul-one-more-5
+mul-one-more-5 c = search needs
+
+shared-slice-read-one-more-5 : tie.Need-shared-slice-read-one-more-5
+shared-slice-read-one-more-5 c = search needs
+
+add-one-more-4 : tie.Need-add-one-more-4
+add-one-more-4 c = search needs
+
+mul-one-more-6 : tie.Need-mul-one-more-6
+mul-one-more-6 c = search needs
+
+shared-slice-read-one-more-6 : tie.Need-shared-slice-read-one-more-6
+shared-slice-read-one-more-6 c = search needs
+
+one-more-requires-3 : tie.Need-one-more-requires-3
+one-more-requires-3 c κs = search needs
+
+returns-5 : tie.Need-returns-5
+unfolding values
+returns-5 c =
+    let at-args = c .before .before .before .before .before .before .before .before .before .before .before .before .before .before .args in
+    let at-pre = c .before .before .before .before .before .before .before .before .before .before .before .before .before .before .pre in
+    let at-if1 = c .before .before .before .before .before .before .before .before .before .before .if1 in
+    let at-if3 = c .before .before .before .before .before .before .before .if3 in
+    let at-if5 = c .before .before .before .before .if5 in
+    let at-one-more3 = c .before .one-more3 in
+    let at-if6 = c .if6 in
+    next-fails (next-goes-on (next-goes-on (next-numbers (at-args .rows .now) (at-args .from) (at-args .to) (at-pre .0) (at-pre .1)) (at-if1 .left)) (at-if3 .left)) (at-if5 .taken) (sym (at-one-more3 .ensures) ∙ not-true (at-one-more3 .result) (at-if6 .taken))
+
+first-in-repetition-requires : tie.Need-first-in-repetition-requires
+first-in-repetition-requires c κs = search needs
+
+returns-6 : tie.Need-returns-6
+unfolding values ones
+returns-6 c =
+    let at-args = c .before .before .before .before .before .before .before .before .before .before .before .before .before .before .before .args in
+    let at-pre = c .before .before .before .before .before .before .before .before .before .before .before .before .before .before .before .pre in
+    let at-if1 = c .before .before .before .before .before .before .before .before .before .before .before .if1 in
+    let at-if3 = c .before .before .before .before .before .before .before .before .if3 in
+    let at-if5 = c .before .before .before .before .before .if5 in
+    let at-one-more3 = c .before .before .one-more3 in
+    let at-if6 = c .before .if6 in
+    let at-first-in-repetition = c .first-in-repetition in
+    next-rises (next-goes-on (next-goes-on (next-numbers (at-args .rows .now) (at-args .from) (at-args .to) (at-pre .0) (at-pre .1)) (at-if1 .left)) (at-if3 .left)) (at-if5 .taken) (sym (at-one-more3 .ensures) ∙ not-false (at-one-more3 .result) (at-if6 .left)) (at-first-in-repetition .ensures)
+
+next-subfield-requires : tie.Need-next-subfield-requires
+next-subfield-requires c κs = search needs
+
+returns-7 : tie.Need-returns-7
+unfolding values
+returns-7 c =
+    let at-next-subfield = c .next-subfield in
+    let at-args = c .before .before .before .before .before .before .before .before .before .before .before .args in
+    let at-pre = c .before .before .before .before .before .before .before .before .before .before .before .pre in
+    let at-if1 = c .before .before .before .before .before .before .before .if1 in
+    let at-if3 = c .before .before .before .before .if3 in
+    let at-if5 = c .before .if5 in
+    at-next-subfield .ensures ∙ next-goes-on (next-goes-on (next-goes-on (next-numbers (at-args .rows .now) (at-args .from) (at-args .to) (at-pre .0) (at-pre .1)) (at-if1 .left)) (at-if3 .left)) (at-if5 .left) .so
 
 pub next-place-spec : {M : Type 1} → statement M
 next-place-spec =
     tie.close
     (tie.spec
-    Inv-loop
-    μ-loop
-    loop-holds
-    add-wide
-    mul-wide
-    shared-slice-read-wide
-    wide-requires
-    add-wide-2
-    mul-wide-2
-    shared-slice-read-wide-2
-    wide-requires-2
-    add-if2
+    mul-if1
+    shared-slice-read-if1
+    mul-if1-2
+    shared-slice-read-if1-2
+    mul-one-more
+    shared-slice-read-one-more
+    mul-one-more-2
+    shared-slice-read-one-more-2
+    one-more-requires
     returns
-    add-all-ones
-    add-all-ones-2
-    add-all-ones-3
-    all-ones-requires
+    first-in-segment-requires
     returns-2
-    add-k
-    loop-less
-    loop-again
-    returns-3)
+    add-if3
+    mul-if3
+    shared-slice-read-if3
+    add-if3-2
+    mul-if3-2
+    shared-slice-read-if3-2
+    add-one-more
+    mul-one-more-3
+    shared-slice-read-one-more-3
+    add-one-more-2
+    mul-one-more-4
+    shared-slice-read-one-more-4
+    one-more-requires-2
+    returns-3
+    first-in-field-requires
+    returns-4
+    add-if5
+    mul-if5
+    shared-slice-read-if5
+    add-if5-2
+    mul-if5-2
+    shared-slice-read-if5-2
+    add-one-more-3
+    mul-one-more-5
+    shared-slice-read-one-more-5
+    add-one-more-4
+    mul-one-more-6
+    shared-slice-read-one-more-6
+    one-more-requires-3
+    returns-5
+    first-in-repetition-requires
+    returns-6
+    next-subfield-requires
+    returns-7)
