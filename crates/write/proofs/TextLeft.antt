@@ -1,13 +1,13 @@
--- Putting a text, as many bytes at a time as the line has room for: what is left of it gives the whole.
+-- Putting a text, line by line: what is left of it gives the whole.
 -- Assumes nothing.
 use mathlib.Core.Bool.{false}
 use mathlib.Core.List.{List, _∷_, _++_}
 use mathlib.Core.Path.{_≡_, refl, sym, ap, ap₂, _∙_, subst}
-use Prim.Native.Nat.{ℕ, suc, _+_, _-_, _≤_, _<_, min}
+use Prim.Native.Nat.{ℕ, suc, _+_, _-_, _*_, _≤_, _<_}
 use native.Mathlib.Omega.{arith}
 use lib.Dec.{eqb}
 use lib.ListN.{length, getD, take, drop, set, length-set, length-take, length-drop}
-use lib.Seq.{sets, take-add, drop-drop}
+use lib.Seq.{sets, length-sets, take-add, drop-drop}
 use borrow.Author.Tests.{eqb-false}
 use Rattle.laws.specs.Every.{none, also}
 use Rattle.laws.proofs.Every.{all-first, all-left, all-right}
@@ -15,8 +15,8 @@ use Rattle.laws.proofs.Parts.{left-cons, part-cons, part-none}
 use Rattle.laws.proofs.Stores.{sets-first}
 use Rattle.form.specs.declared.limits.Limits.{Limits}
 use Rattle.line.specs.Lines.{CR}
-use Rattle.write.specs.Filling.{Stand, stand, opened, puts, Fits, InSegment}
-use Rattle.write.proofs.Filling.{going, puts-append, puts-opened, puts-room, opened-kept, opened-some, puts-kept, fits-first, fits-next, open-fits}
+use Rattle.write.specs.Filling.{Stand, stand, broken, opened, puts, Fits, InSegment}
+use Rattle.write.proofs.Filling.{going, same-going, puts-append, puts-opened, puts-room, opened-kept, opened-full, puts-kept, fits-first, fits-next, open-fits, break-fits}
 
 -- copying: what is left to copy from i on gives the whole
 pub record Copying (text : List ℕ) (from count : ℕ) (output₀ : List ℕ) (out : ℕ) (output : List ℕ) (i : ℕ) : Type 0 where
@@ -77,91 +77,135 @@ pub record TextLeft (L : Limits) (f : ℕ) (text : List ℕ) (end : ℕ) (s₀ :
   pub same : length (s .output) ≡ length (s₀ .output)
   pub gives : puts L f s (part text at end) ≡ puts L f s₀ whole
 
--- at the end nothing is left
-pub text-done : {L : Limits} {f : ℕ} {text : List ℕ} {end : ℕ} {s₀ : Stand} {whole : List ℕ} {s : Stand} {at : ℕ}
-    → TextLeft L f text end s₀ whole s at → end ≤ at → s ≡ puts L f s₀ whole
-unfolding puts
-text-done {L} {f} {text} {end} {s₀} {whole} {s} {at} w h = ap (puts L f s) (sym (part-none text at end h)) ∙ w .gives
-
--- one turn: the line is opened, and as many bytes go into it as it has room for
+-- one turn: more is left than the line has room for, so it is filled and broken
 module _ {L : Limits} {f : ℕ} {text : List ℕ} {end : ℕ} {s₀ : Stand} {whole : List ℕ} {s : Stand} {at : ℕ}
-    (w : TextLeft L f text end s₀ whole s at) (some : 1 ≤ L .more) (within : end ≤ length text) (less : at < end) where
-  first : part text at end ≡ getD text at 0 ∷ part text (at + 1) end
-  first = part-cons text at end 0 less within
+    (w : TextLeft L f text end s₀ whole s at) (some : 1 ≤ L .more) (within : end ≤ length text) (more : s .going .room < end - at) where
+  abbrev count : ℕ
+  count = s .going .room
 
-  no-CR : eqb (getD text at 0) CR ≡ false
-  no-CR = all-first (subst InSegment first (w .inSegment))
+  bytes : List ℕ
+  bytes = take count (drop at text)
 
-  pub text-open : (opened L f s .going .out ≤ length (s .output)) × (s .going .lines ≤ s .going .out)
-  text-open = open-fits L f s (getD text at 0) (eqb-false (getD text at 0) CR no-CR) (subst (Fits L f s) first (w .fits))
+  abbrev others : List ℕ
+  others = part text (at + count) end
 
-  module _ {t : Stand} (e : t ≡ opened L f s) (count : ℕ) (least : count ≡ min (t .going .room) (end - at)) where
-    bytes : List ℕ
-    bytes = take count (drop at text)
+  size : length bytes ≡ count
+  unfolding bytes
+  size = omega (arith, length-take count (drop at text), length-drop at text)
 
-    room : 1 ≤ t .going .room
-    room = subst (λ (u : Stand). 1 ≤ u .going .room) (sym e) (opened-some L f some s)
+  halves : part text at end ≡ bytes ++ others
+  unfolding bytes
+  halves = part-split text at count end (omega arith)
 
-    pub text-some : 1 ≤ count
-    text-some = let r = room in omega arith
+  in-bytes : InSegment bytes
+  in-bytes = all-left bytes others (subst InSegment halves (w .inSegment))
 
-    pub text-ahead : at + count ≤ end
-    text-ahead = omega arith
+  in-others : InSegment others
+  in-others = all-right bytes others (subst InSegment halves (w .inSegment))
 
-    size : length bytes ≡ count
-    unfolding bytes
-    size = omega (arith, length-take count (drop at text), length-drop at text)
+  poured : puts L f s bytes ≡ stand (sets (s .output) (s .going .out) bytes) (going (s .going .out + count) 0 (s .going .lines))
+  poured =
+      puts-room L f s in-bytes (omega (arith, size))
+      ∙ ap (stand (sets (s .output) (s .going .out) bytes)) (same-going (omega (arith, size)) (omega (arith, size)) refl)
 
-    halves : part text at end ≡ bytes ++ part text (at + count) end
-    unfolding bytes
-    halves = part-split text at count end text-ahead
+  pub text-fits : (at + count ≤ length text) × (s .going .out + count ≤ length (s .output))
+  text-fits = (
+    omega arith,
+    omega (arith, ap (λ (u : Stand). u .going .out) poured, fits-first L f s bytes others (subst (Fits L f s) halves (w .fits)) .holds),
+  )
 
-    in-bytes : InSegment bytes
-    in-bytes = all-left bytes (part text (at + count) end) (subst InSegment halves (w .inSegment))
+  module _ {output : List ℕ} (d : output ≡ sets (s .output) (s .going .out) (take count (drop at text))) where
+    full : Stand
+    full = stand output (going (s .going .out + count) 0 (s .going .lines))
 
-    -- the bytes go into the line opened
-    poured : puts L f s bytes
-        ≡ stand (sets (t .output) (t .going .out) bytes) (going (t .going .out + count) (t .going .room - count) (t .going .lines))
-    poured =
-        sym (opened-first s in-bytes (omega (arith, size, text-some)))
-        ∙ ap (λ (u : Stand). puts L f u bytes) (sym e)
-        ∙ puts-room L f t in-bytes (omega (arith, size))
-        ∙ ap (λ (n : ℕ). stand (sets (t .output) (t .going .out) bytes) (going (t .going .out + n) (t .going .room - n) (t .going .lines))) size
-      where
-        opened-first : (s : Stand) {x : List ℕ} → InSegment x → 1 ≤ length x → puts L f (opened L f s) x ≡ puts L f s x
-        opened-first s none h = absurd (omega arith)
-        opened-first s (also {a} {s = x} b bs) h = puts-opened L f some s a x b
+    filled : full ≡ puts L f s bytes
+    unfolding bytes full
+    filled = ap (λ (o : List ℕ). stand o (going (s .going .out + count) 0 (s .going .lines))) d ∙ sym poured
 
-    pub text-fits : (at + count ≤ length text) × (t .going .out + count ≤ length (t .output))
-    text-fits = (
-      omega (arith, text-ahead),
-      omega (
-        arith,
-        ap (λ (u : Stand). u .going .out) poured,
-        fits-first L f s bytes (part text (at + count) end) (subst (Fits L f s) halves (w .fits)) .holds,
-        ap (λ (u : Stand). length (u .output)) e,
-        opened-kept L f s .same-length,
-      ),
-    )
+    first : others ≡ getD text (at + count) 0 ∷ part text (at + count + 1) end
+    first = part-cons text (at + count) end 0 (omega arith) within
 
-    pub text-short : t .going .out + count ≤ length (s₀ .output)
-    text-short =
-        omega (arith, text-fits .1, ap (λ (u : Stand). length (u .output)) e, opened-kept L f s .same-length, w .same)
+    no-CR : eqb (getD text (at + count) 0) CR ≡ false
+    no-CR = all-first (subst InSegment first in-others)
 
-    pub text-turn : {output : List ℕ} → output ≡ sets (t .output) (t .going .out) (take count (drop at text))
-        → TextLeft L f text end s₀ whole
-        (stand output (going (t .going .out + count) (t .going .room - count) (t .going .lines))) (at + count)
-    unfolding bytes
-    text-turn {output} d =
-        subst (λ (u : Stand). TextLeft L f text end s₀ whole u (at + count))
-        (poured ∙ ap (λ (o : List ℕ). stand o (going (t .going .out + count) (t .going .room - count) (t .going .lines))) (sym d))
-        (record {
-          upTo = text-ahead;
-          inSegment = all-right bytes (part text (at + count) end) (subst InSegment halves (w .inSegment));
-          fits = fits-next L f s bytes (part text (at + count) end) (subst (Fits L f s) halves (w .fits));
-          same = puts-kept L f s bytes .same-length ∙ w .same;
+    others-fit : Fits L f full others
+    others-fit = subst (λ (u : Stand). Fits L f u others) (sym filled) (fits-next L f s bytes others (subst (Fits L f s) halves (w .fits)))
+
+    pub text-broken : (s .going .out + count + 3 ≤ length output) × (s .going .lines ≤ s .going .out + count)
+    unfolding full
+    text-broken =
+        let asks = open-fits L f full (getD text (at + count) 0) (eqb-false (getD text (at + count) 0) CR no-CR) (subst (Fits L f full) first others-fit) in
+        (break-fits L f full (length output) refl (asks .0), asks .1)
+
+    kept : length output ≡ length (s₀ .output)
+    unfolding full
+    kept = ap (λ (u : Stand). length (u .output)) filled ∙ puts-kept L f s bytes .same-length ∙ w .same
+
+    pub text-room : s .going .out + count + 3 ≤ length (s₀ .output)
+    text-room = omega (arith, text-broken .0, kept)
+
+    opens : opened L f full ≡ broken L f full
+    unfolding full
+    opens = opened-full L f full refl
+
+    pub text-turn : {t : Stand} → t ≡ broken L f (stand output (going (s .going .out + count) 0 (s .going .lines)))
+        → TextLeft L f text end s₀ whole t (at + count)
+    unfolding full
+    text-turn {t} e =
+        let same-puts : puts L f t others ≡ puts L f full others =
+        ap (λ (u : Stand). puts L f u others) (e ∙ sym opens)
+        ∙ ap (puts L f (opened L f full)) first
+        ∙ puts-opened L f some full (getD text (at + count) 0) (part text (at + count + 1) end) no-CR
+        ∙ ap (puts L f full) (sym first) in
+        let same-size : length (t .output) ≡ length output = ap (λ (u : Stand). length (u .output)) (e ∙ sym opens) ∙ opened-kept L f full .same-length in
+        record {
+          upTo = omega arith;
+          inSegment = in-others;
+          fits =
+              record {
+                holds = omega (arith, ap (λ (u : Stand). u .going .out) same-puts, same-size, others-fit .holds);
+                lines =
+                    subst (λ (u : Stand). u .going .lines ≤ u .going .out) (sym (e ∙ sym opens)) (opened-kept L f full .lines (others-fit .lines));
+              };
+          same = same-size ∙ kept;
           gives =
-              sym (puts-append L f s bytes (part text (at + count) end))
+              same-puts
+              ∙ ap (λ (u : Stand). puts L f u others) filled
+              ∙ sym (puts-append L f s bytes others)
               ∙ ap (puts L f s) (sym halves)
               ∙ w .gives;
-        })
+        }
+
+    -- a turn takes a byte at least, or finds a full line and leaves one with room
+    pub text-less : {t : Stand} → t ≡ broken L f (stand output (going (s .going .out + count) 0 (s .going .lines)))
+        → (end - (at + count)) * 2 + (1 - t .going .room) < (end - at) * 2 + (1 - s .going .room)
+    unfolding broken
+    text-less {t} e = let roomy : t .going .room ≡ L .more = ap (λ (u : Stand). u .going .room) e in omega arith
+
+-- at last the line has room for all that is left
+module _ {L : Limits} {f : ℕ} {text : List ℕ} {end : ℕ} {s₀ : Stand} {whole : List ℕ} {s : Stand} {at : ℕ}
+    (w : TextLeft L f text end s₀ whole s at) (within : end ≤ length text) (roomy : end - at ≤ s .going .room) where
+  long : length (part text at end) ≡ end - at
+  long = omega (arith, length-take (end - at) (drop at text), length-drop at text)
+
+  rest-poured : puts L f s (part text at end)
+      ≡ stand (sets (s .output) (s .going .out) (part text at end)) (going (s .going .out + (end - at)) (s .going .room - (end - at)) (s .going .lines))
+  rest-poured =
+      puts-room L f s (w .inSegment) (omega (arith, long))
+      ∙ ap (λ (n : ℕ). stand (sets (s .output) (s .going .out) (part text at end)) (going (s .going .out + n) (s .going .room - n) (s .going .lines))) long
+
+  pub rest-fits : (at + (end - at) ≤ length text) × (s .going .out + (end - at) ≤ length (s .output))
+  rest-fits = (omega (arith, w .upTo), omega (arith, ap (λ (u : Stand). u .going .out) rest-poured, w .fits .holds))
+
+  pub rest-room : s .going .out + (end - at) ≤ length (s₀ .output)
+  rest-room = omega (arith, rest-fits .1, w .same)
+
+  module _ {output : List ℕ} (d : output ≡ sets (s .output) (s .going .out) (take (end - at) (drop at text))) where
+    pub text-done : stand output (going (s .going .out + (end - at)) (s .going .room - (end - at)) (s .going .lines)) ≡ puts L f s₀ whole
+    text-done =
+        ap (λ (o : List ℕ). stand o (going (s .going .out + (end - at)) (s .going .room - (end - at)) (s .going .lines))) d
+        ∙ sym rest-poured
+        ∙ w .gives
+
+    pub text-kept : length output ≡ length (s₀ .output)
+    text-kept = ap length d ∙ length-sets (s .output) (s .going .out) (part text at end) ∙ w .same

@@ -2,7 +2,7 @@
 use form::limits::Limits;
 ghost use mathlib.Core.List.{[], _∷_};
 ghost use mathlib.Core.Path.{_≡_};
-ghost use Prim.Native.Nat.{_+_, _-_, _≤_, _<_, min};
+ghost use Prim.Native.Nat.{_+_, _-_, _≤_, _<_};
 ghost use lib.ListN.{length, take, drop};
 ghost use lib.Seq.{sets};
 ghost use Rattle.form.specs.Limits.{Lawful};
@@ -103,17 +103,7 @@ fn copy(text: &[u8], from: usize, count: usize, output: &mut [u8], out: usize)
     }
 }
 
-// The smaller of two numbers.
-fn smaller(a: usize, b: usize) -> usize
-    ensures { λ r. ⌜ r ≡ min a b ⌝ }
-{
-    if a < b {
-        return a;
-    }
-    b
-}
-
-// The bytes of a text from `from` up to `end`, none of which is CR: as many at a time as the line has room for.
+// The bytes of a text from `from` up to `end`, none of which is CR: lines are filled and broken as long as more bytes are left than the line has room for.
 pub(crate) fn put_text(
     limits: Limits,
     field: u8,
@@ -129,16 +119,22 @@ pub(crate) fn put_text(
 {
     let mut going = going;
     let mut at = from;
-    while at < end {
-        let open = open_line(limits, field, going, output);
-        let count = smaller(open.room, end - at);
-        copy(text, at, count, output, open.out);
-        going = Going {
-            out: open.out + count,
-            room: open.room - count,
-            lines: open.lines,
+    while going.room < end - at {
+        let count = going.room;
+        copy(text, at, count, output, going.out);
+        let full = Going {
+            out: going.out + count,
+            room: 0,
+            lines: going.lines,
         };
+        going = break_line(limits, field, full, output);
         at += count;
     }
-    going
+    let count = end - at;
+    copy(text, at, count, output, going.out);
+    Going {
+        out: going.out + count,
+        room: going.room - count,
+        lines: going.lines,
+    }
 }
