@@ -16,6 +16,7 @@ pub mod ClassTables
 pub mod LeafTests
 pub mod PlaceTests
 pub mod SegmentTests
+pub mod LaidRows
 pub mod GoingOn
 pub mod CountTests
 pub mod Groups

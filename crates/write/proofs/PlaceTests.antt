@@ -32,14 +32,13 @@ same-other {a} {b} s t n = and-fails-first (same s t) (ne-eqb a b n)
 
 -- a place is five numbers
 module _ (rows : List ℕ) (at : ℕ) (long : at + 5 ≤ length rows) where
-  five : List ℕ
+  abbrev pub five : List ℕ
   five = getD rows at 0 ∷ getD rows (at + 1) 0 ∷ getD rows (at + 2) 0 ∷ getD rows (at + 3) 0 ∷ getD rows (at + 4) 0 ∷ []
 
   next : (a b : ℕ) → b ≡ a + 1 → b < length rows → drop (a + 1) rows ≡ getD rows b 0 ∷ drop (b + 1) rows
   next a b e h = ap (λ (n : ℕ). drop n rows) (sym e) ∙ left-cons rows b 0 h
 
-  five-at : take 5 (drop at rows) ≡ five
-  unfolding five
+  pub five-at : take 5 (drop at rows) ≡ five
   five-at =
       ap (take 5)
       (left-cons rows at 0 (omega arith)
@@ -59,13 +58,11 @@ module _ (rows : List ℕ) (at : ℕ) (long : at + 5 ≤ length rows) where
     whole = ap (λ (p : List ℕ). same p (1 ∷ field ∷ 1 ∷ 1 ∷ 1 ∷ [])) (sym five-at)
 
     pub segment-differs : (getD rows at 0 ≡ 1 → ⊥) → Stands
-    unfolding five
     segment-differs a = sym (same-other (getD rows (at + 1) 0 ∷ getD rows (at + 2) 0 ∷ getD rows (at + 3) 0 ∷ getD rows (at + 4) 0 ∷ []) (field ∷ 1 ∷ 1 ∷ 1 ∷ []) a) ∙ whole
 
     module _ (a : getD rows at 0 ≡ 1) where
       fields : same (getD rows (at + 1) 0 ∷ getD rows (at + 2) 0 ∷ getD rows (at + 3) 0 ∷ getD rows (at + 4) 0 ∷ []) (field ∷ 1 ∷ 1 ∷ 1 ∷ [])
           ≡ same (take 5 (drop at rows)) (1 ∷ field ∷ 1 ∷ 1 ∷ 1 ∷ [])
-      unfolding five
       fields = sym (same-on (getD rows (at + 1) 0 ∷ getD rows (at + 2) 0 ∷ getD rows (at + 3) 0 ∷ getD rows (at + 4) 0 ∷ []) (field ∷ 1 ∷ 1 ∷ 1 ∷ []) a) ∙ whole
 
       pub field-differs : (getD rows (at + 1) 0 ≡ field → ⊥) → Stands
@@ -131,7 +128,7 @@ next-last {m} {n} {whole} w = go (equal-or-not m n)
 -- two places as numbers
 pub next-numbers : (rows : List ℕ) (from to : ℕ) → from + 5 ≤ length rows → to + 5 ≤ length rows
     → Next (getD rows from 0 ∷ finer rows from 1) (getD rows to 0 ∷ finer rows to 1) (nextPlace (take 5 (drop from rows)) (take 5 (drop to rows)))
-unfolding five values
+unfolding values
 next-numbers rows from to long wide = record { so = ap₂ nextPlace (sym (five-at rows from long)) (sym (five-at rows to wide)) }
 
 -- and what is left of them after three

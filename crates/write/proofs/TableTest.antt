@@ -32,9 +32,10 @@ use Rattle.table.proofs.EndToEnd.{ends-start, ends-later, ends-within}
 use Rattle.table.proofs.SegmentRows.{owners-stated}
 use Rattle.write.specs.Local.{groupsOf, kindsAmong}
 use Rattle.write.specs.RowByRow.{Sized, RowByRow}
-use Rattle.write.specs.Tests.{InText, KindsStated, groupsStated, kindColumn, ownerColumn, soundLeaves, inOrder}
+use Rattle.write.specs.Tests.{InText, Laid, KindsStated, groupsStated, kindColumn, ownerColumn, soundLeaves, inOrder}
 use Rattle.write.specs.Writing.{readsBack}
 use Rattle.write.proofs.RowByRow.{row-by-row, rows-local}
+use Rattle.write.proofs.LaidRows.{sound-next}
 use Rattle.write.proofs.Passing.{Stated, stated-rows, Again, rows-again, sound-header, header-sound, sound-others, three-leaves}
 
 -- rows that lie end to end state parts of the text
@@ -74,6 +75,10 @@ pub record Passed (L : Limits) (levels : ℕ → ℕ → ℕ) (t : Table) : Type
       (owners (levels (t .card .context)) (kindColumn (t .segmentRows) (t .card .segments))) ≡ true
   pub ordered : inOrder (t .card .context) (t .segmentRows) (t .card .segments) (t .leafRows) (t .text) (t .card .leaves) ≡ true
   pub short : leb (sumOf (writtenBytes L) (bySegment (values (leafAt (t .leafRows) (t .text)) 0 (t .card .leaves)))) (L .bytes) ≡ true
+
+-- so the rows of a table that passes them are laid out
+pub passed-laid : {L : Limits} {levels : ℕ → ℕ → ℕ} {t : Table} → Passed L levels t → Laid (t .leafRows) (t .card .leaves) (t .card .text)
+passed-laid {t = t} w = record { ended = w .laid; next = sound-next (t .card .separator) (t .leafRows) (t .text) (t .card .leaves) (w .three) (w .sound) }
 
 same-of : (s u : List ℕ) → s ≡ u → same s u ≡ true
 same-of s u e = subst (λ (v : List ℕ). same s v ≡ true) e (same-self s)

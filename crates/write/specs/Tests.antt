@@ -6,7 +6,7 @@ use mathlib.Core.List.{List, [], _∷_}
 use mathlib.Core.Path.{_≡_}
 use Prim.Native.Nat.{ℕ, zero, suc, _+_, _-_, _*_, _≤_, _<_}
 use lib.Dec.{leb, ltb, eqb}
-use lib.ListN.{length, getD}
+use lib.ListN.{length, take, drop, getD}
 use Rattle.laws.specs.Lists.{same, among}
 use Rattle.laws.specs.Tables.{values}
 use Rattle.form.specs.declared.limits.Limits.{Limits}
@@ -22,7 +22,7 @@ use Rattle.table.specs.Rows.{Table, segmentRowSize, leafRowSize}
 use Rattle.table.specs.Back.{leafAt}
 use Rattle.order.specs.Place.{misplaced}
 use Rattle.table.specs.BySegment.{bySegment, kindAmong, contextAmong, numberOfField}
-use Rattle.table.specs.RowTests.{goOnFrom}
+use Rattle.table.specs.RowTests.{endToEnd, nextPlace, goOnFrom}
 use Rattle.write.specs.Local.{thirdPlace}
 
 -- limits whose numbers fit the rows' numbers, so that no sum wraps
@@ -30,6 +30,10 @@ pub record Small (L : Limits) : Type 0 where
   pub segments : L .segments ≤ 65535
   pub leaves : L .leaves ≤ 65535
   pub bytes : L .bytes ≤ 4294967295
+
+-- a test that is passed exactly where something holds
+abbrev pub Decides : Bool → Type 0 → Type 0
+Decides r holds = (r ≡ true → holds) × (r ≡ false → holds → ⊥)
 
 -- counts within the limits and within lent buffers of some lengths
 unfoldable pub countsWithin : Limits → Card → ℕ → ℕ → ℕ → Bool
@@ -42,6 +46,15 @@ pub record InText (rows text : List ℕ) (count : ℕ) : Type 0 where
   pub sized : length rows ≡ count * leafRowSize
   pub few : count ≤ 65535
   pub fits : (k : ℕ) → k < count → getD rows (k * leafRowSize + 5) 0 + getD rows (k * leafRowSize + 6) 0 ≤ length text
+
+-- the place that a leaf row states
+abbrev pub placeOf : List ℕ → ℕ → List ℕ
+placeOf rows i = take 5 (drop (i * leafRowSize) rows)
+
+-- leaf rows that are laid out: their texts lie end to end, and each stands at the place that comes next
+pub record Laid (rows : List ℕ) (count finish : ℕ) : Type 0 where
+  pub ended : endToEnd rows finish 0 count 0 ≡ true
+  pub next : (k : ℕ) → suc k < count → nextPlace (placeOf rows k) (placeOf rows (suc k)) ≡ true
 
 -- the leaves that the rows from one up to another state
 abbrev pub leavesFrom : List ℕ → List ℕ → ℕ → ℕ → List Leaf

@@ -1,7 +1,7 @@
 // The tests of leaf rows: each row against the one before it, each text by its bytes.
 use crate::class;
 use form::separators::Separators;
-ghost use mathlib.Core.Bool.{_&&_};
+ghost use mathlib.Core.Bool.{true, _&&_};
 ghost use mathlib.Core.List.{List, [], _∷_};
 ghost use mathlib.Core.Path.{_≡_};
 ghost use Prim.Native.Nat.{ℕ, suc, _+_, _-_, _*_, _≤_, _<_};
@@ -11,9 +11,9 @@ ghost use Rattle.laws.specs.Lists.{same};
 ghost use Rattle.laws.specs.Tables.{values};
 ghost use Rattle.form.specs.Header.{splitting};
 ghost use Rattle.table.specs.Back.{leafAt};
-ghost use Rattle.table.specs.RowTests.{nextPlace, leafText, endToEnd, goOn, goOnFrom};
+ghost use Rattle.table.specs.RowTests.{nextPlace, leafText, goOnFrom};
 ghost use Rattle.write.specs.Local.{thirdPlace};
-ghost use Rattle.write.specs.Tests.{InText, finer, separatorsAt, classTable, headerLeavesAt};
+ghost use Rattle.write.specs.Tests.{Decides, InText, Laid, finer, separatorsAt, classTable, headerLeavesAt};
 
 // Numbers of a leaf row, and where its start and its length stand.
 pub(crate) const SIZE: usize = 7;
@@ -29,16 +29,22 @@ pub(crate) fn wide(number: u16) -> usize
     number as usize
 }
 
-// Whether the texts of so many leaf rows lie end to end, from 0 up to `finish`.
-pub(crate) fn end_to_end(rows: &[u16], count: usize, finish: usize) -> bool
-    requires { ⌜ length (now rows) ≡ count * 7 ⌝ }
-    ensures { λ r. ⌜ r ≡ endToEnd (now (rows .entry)) finish 0 count 0 ⌝ }
+// Whether so many leaf rows are laid out: their texts lie end to end, from 0 up to `finish`, and each stands at the next place.
+pub(crate) fn laid(rows: &[u16], count: usize, finish: usize) -> bool
+    requires { ⌜ (length (now rows) ≡ count * 7) × (1 ≤ count) ⌝ }
+    ensures { λ r. ⌜ Decides r (Laid (now (rows .entry)) count finish) ⌝ }
 {
-    let mut start = 0;
-    let mut i = 0;
+    if rows[START] != 0 {
+        return false;
+    }
+    let mut start = wide(rows[LENGTH]);
+    let mut i = 1;
     while i < count {
         let at = i * SIZE;
         if wide(rows[at + START]) != start {
+            return false;
+        }
+        if !next_place(rows, at - SIZE, at) {
             return false;
         }
         start += wide(rows[at + LENGTH]);
@@ -162,56 +168,24 @@ fn leaf_text(class: &[u8; 256], text: &[u8], from: usize, end: usize) -> bool
     true
 }
 
-// Whether the text that a leaf row states may be a leaf's.
-fn row_text(class: &[u8; 256], rows: &[u16], text: &[u8], count: usize, i: usize) -> bool
-    requires { ⌜ InText (now rows) (now text) count × (i < count) ⌝ }
-    ensures { λ r. ⌜ ((ps : List ℕ) → now (class .entry) ≡ classTable ps → r ≡ leafText ps (leafAt (now (rows .entry)) (now (text .entry)) i .text)) ⌝ }
-{
-    let at = i * SIZE;
-    let start = wide(rows[at + START]);
-    let end = start + wide(rows[at + LENGTH]);
-    leaf_text(class, text, start, end)
-}
-
-// Whether the leaf rows from the fourth on stand each at the next place, with a leaf's text.
-fn go_on(class: &[u8; 256], rows: &[u16], text: &[u8], count: usize) -> bool
-    requires { ⌜ InText (now rows) (now text) count × (3 ≤ count) ⌝ }
-    ensures { λ r. ⌜ ((ps : List ℕ) → now (class .entry) ≡ classTable ps → r ≡ goOn ps (leafAt (now (rows .entry)) (now (text .entry)) 2 .place)
-        (values (leafAt (now (rows .entry)) (now (text .entry))) 3 (count - 3))) ⌝ }
-{
-    let mut i = 3;
-    while i < count {
-        let at = i * SIZE;
-        if !next_place(rows, at - SIZE, at) {
-            return false;
-        }
-        if !row_text(class, rows, text, count, i) {
-            return false;
-        }
-        i += 1;
-    }
-    true
-}
-
-// Whether the leaf rows from the third on begin at field 3 of the header and go on soundly.
+// Whether leaf rows that are laid out begin after the header's two at field 3, with texts that may be a leaf's from there on: these are the
+// text from the third leaf's start on.
 pub(crate) fn go_on_from(separators: Separators, rows: &[u16], text: &[u8], count: usize) -> bool
-    requires { ⌜ InText (now rows) (now text) count × (3 ≤ count) ⌝ }
+    requires { ⌜ InText (now rows) (now text) count × (3 ≤ count) × Laid (now rows) count (length (now text))
+        × (headerLeavesAt (now rows) (now text) ≡ true) ⌝ }
     ensures { λ r. ⌜ r ≡ goOnFrom (splitting separators) thirdPlace
         (values (leafAt (now (rows .entry)) (now (text .entry))) 2 (count - 2)) ⌝ }
 {
-    if !stands_at(rows, 2 * SIZE, 3) {
+    if rows[2 * SIZE + 1] != 3 {
         return false;
     }
     let class = class::classes(separators);
-    if !row_text(&class, rows, text, count, 2) {
-        return false;
-    }
-    go_on(&class, rows, text, count)
+    leaf_text(&class, text, wide(rows[2 * SIZE + START]), text.len())
 }
 
-// Whether the first two leaf rows are a header's: `H` in field 1, four bytes in field 2.
+// Whether the first two of leaf rows that are laid out are a header's: `H` in field 1, four bytes in field 2.
 pub(crate) fn header_leaves(rows: &[u16], text: &[u8], count: usize) -> bool
-    requires { ⌜ InText (now rows) (now text) count × (3 ≤ count) ⌝ }
+    requires { ⌜ InText (now rows) (now text) count × (3 ≤ count) × Laid (now rows) count (length (now text)) ⌝ }
     ensures { λ r. ⌜ r ≡ headerLeavesAt (now (rows .entry)) (now (text .entry)) ⌝ }
 {
     if !stands_at(rows, 0, 1) {
@@ -223,7 +197,7 @@ pub(crate) fn header_leaves(rows: &[u16], text: &[u8], count: usize) -> bool
     if text[wide(rows[START])] != b'H' {
         return false;
     }
-    if !stands_at(rows, SIZE, 2) {
+    if rows[SIZE + 1] != 2 {
         return false;
     }
     rows[SIZE + LENGTH] == 4

@@ -14,7 +14,7 @@ ghost use Rattle.form.specs.Limits.{form, Lawful};
 ghost use Rattle.order.specs.Levels.{levelIn};
 ghost use Rattle.order.specs.Owners.{level};
 ghost use Rattle.write.specs.Writing.{isTable, readsBack};
-ghost use Rattle.write.specs.Tests.{Small, Counted, InText, KindsStated, countsWithin, soundLeaves, inOrder};
+ghost use Rattle.write.specs.Tests.{Small, Counted, InText, Laid, KindsStated, countsWithin, soundLeaves, inOrder};
 
 // Yes exactly where some message within the form's limits reads to the table that the card counts in the lent buffers, whatever these hold.
 pub fn is_table(card: Card, segments: &[u16], leaves: &[u16], text: &[u8]) -> bool
@@ -91,7 +91,7 @@ fn reads_back(
     if count < 3 {
         return false;
     }
-    if !leaf_rows::end_to_end(leaves, count, card.text) {
+    if !leaf_rows::laid(leaves, count, card.text) {
         return false;
     }
     if !sound_leaves(card.separator, leaves, text, count) {
@@ -111,7 +111,7 @@ fn reads_back(
 
 // Whether the header's rows keep the header rule and the leaf rows after them go on soundly.
 fn sound_leaves(field: u8, leaves: &[u16], text: &[u8], count: usize) -> bool
-    requires { ⌜ InText (now leaves) (now text) count × (3 ≤ count) ⌝ }
+    requires { ⌜ InText (now leaves) (now text) count × (3 ≤ count) × Laid (now leaves) count (length (now text)) ⌝ }
     ensures { λ r. ⌜ r ≡ soundLeaves field (now (leaves .entry)) (now (text .entry)) count ⌝ }
 {
     if !leaf_rows::header_leaves(leaves, text, count) {

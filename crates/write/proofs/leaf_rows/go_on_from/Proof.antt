@@ -1,75 +1,98 @@
 -- `write::leaf_rows::go_on_from` meets its contract. One law a return.
 -- Assumes nothing.
-use mathlib.Core.Path.{_≡_, sym, ap, _∙_}
-use borrow.Author.Tests.{not-true, not-false}
-use Prim.Native.Nat.{ℕ, _+_, _-_}
-use lib.ListN.{getD}
+use mathlib.Core.Path.{_≡_, _∙_}
+use Prim.Native.Nat.{_≤_}
 use Rattle.form.specs.Header.{splitting}
-use Rattle.write.proofs.GoingOn.{third-elsewhere, third-no-text, third-sound}
+use Rattle.write.proofs.GoingOn.{third-elsewhere}
+use Rattle.write.proofs.LaidRows.{place-other, third-decides}
 use native.Mathlib.Omega.{arith}
 use borrow.Author.Needs.{needs}
 use Rattle.write.proofs.leaf_rows.go_on_from.Statement.{statement}
 use Rattle.write.proofs.leaf_rows.go_on_from.Tie as tie
 
-mul-stands-at : tie.Need-mul-stands-at
-mul-stands-at c = search needs
-
-stands-at-requires : tie.Need-stands-at-requires
-stands-at-requires c κs =
+mul-if1 : tie.Need-mul-if1
+mul-if1 c =
     let at-pre = c .before .before .pre in
+    omega (arith, at-pre .0 .sized, at-pre .1)
+
+add-if1 : tie.Need-add-if1
+add-if1 c =
+    let at-pre = c .before .before .pre in
+    omega (arith, at-pre .0 .sized, at-pre .1)
+
+mul-if1-2 : tie.Need-mul-if1-2
+mul-if1-2 c =
+    let at-pre = c .before .before .pre in
+    omega (arith, at-pre .0 .sized, at-pre .1)
+
+shared-slice-read-if1 : tie.Need-shared-slice-read-if1
+shared-slice-read-if1 c =
+    let at-pre = c .before .before .before .pre in
     omega (arith, at-pre .0 .sized, at-pre .1)
 
 returns : tie.Need-returns
 returns c =
     let at-args = c .before .before .before .before .args in
     let at-pre = c .before .before .before .before .pre in
-    let at-stands-at = c .before .stands-at in
     let at-if1 = c .if1 in
-    third-elsewhere (splitting (at-args .separators)) (at-args .rows .now) (at-args .text .now) (at-args .count) (at-pre .1) (sym (at-stands-at .ensures) ∙ not-true (at-stands-at .result) (at-if1 .taken))
+    third-elsewhere (splitting (at-args .separators)) (at-args .rows .now) (at-args .text .now) (at-args .count) (at-pre .1) (place-other (at-args .rows .now) 14 3 (at-if1 .taken))
 
 classes-requires : tie.Need-classes-requires
 classes-requires c κs = search needs
 
-row-text-requires : tie.Need-row-text-requires
-row-text-requires c κs =
+mul-wide : tie.Need-mul-wide
+mul-wide c =
     let at-pre = c .before .before .before .before .before .before .pre in
-    (at-pre .0, omega (arith, at-pre .1))
+    omega (arith, at-pre .0 .sized, at-pre .1)
+
+add-wide : tie.Need-add-wide
+add-wide c =
+    let at-pre = c .before .before .before .before .before .before .pre in
+    omega (arith, at-pre .0 .sized, at-pre .1)
+
+mul-wide-2 : tie.Need-mul-wide-2
+mul-wide-2 c =
+    let at-pre = c .before .before .before .before .before .before .pre in
+    omega (arith, at-pre .0 .sized, at-pre .1)
+
+shared-slice-read-wide : tie.Need-shared-slice-read-wide
+shared-slice-read-wide c =
+    let at-pre = c .before .before .before .before .before .before .before .pre in
+    omega (arith, at-pre .0 .sized, at-pre .1)
+
+wide-requires : tie.Need-wide-requires
+wide-requires c κs = search needs
+
+leaf-text-requires : tie.Need-leaf-text-requires
+leaf-text-requires c κs =
+    let at-wide = c .wide in
+    let at-pre = c .before .before .before .before .before .before .before .before .pre in
+    (omega (arith, at-wide .ensures .0, at-pre .0 .fits 2 (at-pre .1)), omega arith)
 
 returns-2 : tie.Need-returns-2
 returns-2 c =
-    let at-args = c .before .before .before .before .before .before .before .before .args in
-    let at-pre = c .before .before .before .before .before .before .before .before .pre in
-    let at-row-text = c .before .row-text in
-    let at-classes = c .before .before .before .classes in
-    let at-if2 = c .if2 in
-    third-no-text (splitting (at-args .separators)) (at-args .rows .now) (at-args .text .now) (at-args .count) (at-pre .1) (sym (at-row-text .ensures (splitting (at-args .separators)) (at-classes .ensures)) ∙ not-true (at-row-text .result) (at-if2 .taken))
-
-go-on-requires : tie.Need-go-on-requires
-go-on-requires c κs =
+    let at-leaf-text = c .leaf-text in
+    let at-args = c .before .before .before .before .before .before .before .before .before .args in
+    let at-classes = c .before .before .before .before .classes in
     let at-pre = c .before .before .before .before .before .before .before .before .before .pre in
-    at-pre
-
-returns-3 : tie.Need-returns-3
-returns-3 c =
-    let at-go-on = c .go-on in
-    let at-args = c .before .before .before .before .before .before .before .before .before .before .args in
-    let at-classes = c .before .before .before .before .before .classes in
-    let at-pre = c .before .before .before .before .before .before .before .before .before .before .pre in
-    let at-stands-at = c .before .before .before .before .before .before .before .stands-at in
-    let at-if1 = c .before .before .before .before .before .before .if1 in
-    let at-row-text = c .before .before .before .row-text in
-    let at-if2 = c .before .before .if2 in
-    at-go-on .ensures (splitting (at-args .separators)) (at-classes .ensures) ∙ third-sound (splitting (at-args .separators)) (at-args .rows .now) (at-args .text .now) (at-args .count) (at-pre .1) (sym (at-stands-at .ensures) ∙ not-false (at-stands-at .result) (at-if1 .left)) (sym (at-row-text .ensures (splitting (at-args .separators)) (at-classes .ensures)) ∙ not-false (at-row-text .result) (at-if2 .left))
+    let at-if1 = c .before .before .before .before .before .if1 in
+    let at-wide = c .before .wide in
+    at-leaf-text .ensures (splitting (at-args .separators)) (at-classes .ensures) ∙ third-decides (splitting (at-args .separators)) (at-args .rows .now) (at-args .text .now) (at-args .count) (at-pre .1) (at-pre .0 .sized) (at-pre .2) (at-pre .3) (at-if1 .left) (at-wide .ensures .0)
 
 pub go-on-from-spec : {M : Type 1} → statement M
 go-on-from-spec =
     tie.close
     (tie.spec
-    mul-stands-at
-    stands-at-requires
+    mul-if1
+    add-if1
+    mul-if1-2
+    shared-slice-read-if1
     returns
     classes-requires
-    row-text-requires
-    returns-2
-    go-on-requires
-    returns-3)
+    mul-wide
+    add-wide
+    mul-wide-2
+    shared-slice-read-wide
+    wide-requires
+    leaf-text-requires
+    returns-2)

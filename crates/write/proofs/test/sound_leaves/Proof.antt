@@ -42,7 +42,9 @@ returns-2 c =
 go-on-from-requires : tie.Need-go-on-from-requires
 go-on-from-requires c κs =
     let at-pre = c .before .before .before .before .before .before .before .pre in
-    at-pre
+    let at-header-leaves = c .before .before .before .before .header-leaves in
+    let at-if1 = c .before .before .before .if1 in
+    (at-pre .0, at-pre .1, at-pre .2, sym (at-header-leaves .ensures) ∙ not-false (at-header-leaves .result) (at-if1 .left))
 
 returns-3 : tie.Need-returns-3
 returns-3 c =
