@@ -2,16 +2,15 @@
 -- Assumes nothing.
 use mathlib.Core.Bool.{false}
 use mathlib.Core.List.{List, [], _∷_, _++_}
-use mathlib.Core.Path.{_≡_, refl, sym, ap, ap₂, _∙_, subst}
+use mathlib.Core.Path.{_≡_, refl, sym, ap, _∙_, subst}
 use Prim.Native.Nat.{ℕ, _+_, _≤_, _<_}
 use native.Mathlib.Omega.{arith}
-use lib.ListN.{length, getD, take, drop, take-append-drop}
+use lib.ListN.{length, drop, take-append-drop}
 use borrow.Author.Tests.{ne-eqb}
 use Rattle.laws.specs.Lists.{concat}
 use Rattle.laws.specs.Every.{none, also}
 use Rattle.form.specs.declared.limits.Limits.{Limits}
 use Rattle.form.specs.declared.separators.Separators.{Separators}
-use Rattle.form.specs.Header.{separatorsOf}
 use Rattle.form.proofs.HeaderRule.{SoundHeader, sound-header}
 use Rattle.line.specs.Lines.{CR, walk}
 use Rattle.line.specs.Joining.{addendum}

@@ -167,7 +167,8 @@ fn next_segment(filling: Filling) -> Filling
 }
 
 // The whole message, whose survey refused nothing; answers how many bytes of text it has. Each turn fills one line, the header's rest
-// the first: an addendum then carries the open segment on, anything else closes it.
+// the first: an addendum then carries the open segment on, anything else closes it. Lines are filled from this one place only, so that
+// the filling is compiled into the loop and its state is not carried through memory.
 pub(crate) fn fill(
     class: &[u8; 256],
     levels: &[u8; 84],
