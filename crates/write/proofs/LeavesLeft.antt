@@ -1,12 +1,16 @@
 -- Leaves one after the other with their separators: what is left of the rows gives the whole.
 -- Assumes nothing.
 use mathlib.Core.List.{List, [], _∷_, _++_, append-assoc}
+use mathlib.Core.Logic.{_⊎_, inl, inr}
 use mathlib.Core.Path.{_≡_, refl, sym, ap, ap₂, _∙_, subst}
 use Prim.Native.Nat.{ℕ, suc, _+_, _*_, _-_, _≤_, _<_}
 use native.Mathlib.Omega.{arith}
 use lib.ListN.{length, getD, take, drop}
 use lib.Seq.{sets}
+use borrow.Author.Tests.{eq-eqb, ne-eqb}
 use Rattle.laws.specs.Tables.{values}
+use Rattle.laws.proofs.Cases.{equal-or-not}
+use Rattle.laws.proofs.Tables.{values-turn, values-end}
 use Rattle.form.specs.declared.limits.Limits.{Limits}
 use Rattle.form.specs.declared.separators.Separators.{Separators}
 use Rattle.form.specs.Limits.{Lawful}
@@ -17,9 +21,20 @@ use Rattle.table.specs.Leaves.{Leaf}
 use Rattle.table.specs.Back.{leafAt, between, unsplitFrom, unsplit}
 use Rattle.write.specs.declared.lines.Going.{Going}
 use Rattle.write.specs.Filling.{Stand, stand, puts, Fits, InSegment}
-use Rattle.write.specs.Passing.{LeafWithin, linesOfRows, Writable, WrittenOut}
+use Rattle.write.specs.Passing.{LeafWithin, linesOfRows, separatorAfter, Writable, WrittenOut}
 use Rattle.write.proofs.Filling.{going, puts-append, puts-kept, fits-first, fits-next}
 use Rattle.write.proofs.LinesFilled.{lines-filled}
+
+-- the separator after a row, by cases
+module _ (ps : Separators) (rows : List ℕ) (count row : ℕ) where
+  pub last-separator : row + 1 ≡ count → separatorAfter ps rows count row ≡ CR
+  unfolding separatorAfter
+  last-separator e = rw (eq-eqb (row + 1) count e, separatorAfter)
+
+  pub inner-separator : (row + 1 ≡ count → ⊥)
+      → separatorAfter ps rows count row ≡ between (CR ∷ splitting ps) (take 5 (drop (row * 7) rows)) (take 5 (drop ((row + 1) * 7) rows))
+  unfolding separatorAfter
+  inner-separator n = rw (ne-eqb (row + 1) count n, separatorAfter)
 
 -- the text of a leaf, by the start and the length that its row states
 module _ (rows text : List ℕ) (i : ℕ) where
@@ -41,147 +56,163 @@ module _ (rows text : List ℕ) (i : ℕ) where
     subst (Fits L f s) (sym (leaf-part a b)) fits,
   )
 
--- what follows a leaf: a separator and a leaf each, and the last CR
-unfoldable pub following : List ℕ → Leaf → List Leaf → List ℕ
-following ps l [] = CR ∷ []
-following ps l (m ∷ ls) = between ps (l .place) (m .place) ∷ (m .text ++ following ps m ls)
+-- leaves, each with the separator after it; CR after the last
+unfoldable pub after : List ℕ → Leaf → List Leaf → ℕ
+after ps l [] = CR
+after ps l (m ∷ ls) = between ps (l .place) (m .place)
 
-unsplit-following : (ps : List ℕ) (l : Leaf) (ls : List Leaf) → unsplitFrom ps l ls ++ (CR ∷ []) ≡ l .text ++ following ps l ls
-unfolding unsplitFrom following
-unsplit-following ps l [] = refl
-unsplit-following ps l (m ∷ ls) =
+unfoldable pub whole : List ℕ → List Leaf → List ℕ
+whole ps [] = []
+whole ps (l ∷ ls) = l .text ++ after ps l ls ∷ whole ps ls
+
+unsplit-whole : (ps : List ℕ) (l : Leaf) (ls : List Leaf) → unsplitFrom ps l ls ++ (CR ∷ []) ≡ whole ps (l ∷ ls)
+unfolding unsplitFrom whole after
+unsplit-whole ps l [] = refl
+unsplit-whole ps l (m ∷ ls) =
     append-assoc (l .text) (between ps (l .place) (m .place) ∷ unsplitFrom ps m ls) (CR ∷ [])
-    ∙ ap (λ (r : List ℕ). l .text ++ between ps (l .place) (m .place) ∷ r) (unsplit-following ps m ls)
+    ∙ ap (λ (r : List ℕ). l .text ++ between ps (l .place) (m .place) ∷ r) (unsplit-whole ps m ls)
 
 module _ (ps : Separators) (rows : List ℕ) (count : ℕ) (text : List ℕ) where
-  -- what is left after the leaf of a row
-  pub left : ℕ → List ℕ
-  left row = following (CR ∷ splitting ps) (leafAt rows text row) (values (leafAt rows text) (row + 1) (count - (row + 1)))
+  -- what is left from a row on
+  pub ahead : ℕ → List ℕ
+  ahead row = whole (CR ∷ splitting ps) (values (leafAt rows text) row (count - row))
 
-  abbrev pub separatorAfter : ℕ → ℕ
-  separatorAfter row = between (CR ∷ splitting ps) (take 5 (drop (row * 7) rows)) (take 5 (drop ((row + 1) * 7) rows))
+  abbrev rest : ℕ → List ℕ
+  rest row = separatorAfter ps rows count row ∷ ahead (row + 1)
 
-  pub left-more : (row : ℕ) → row + 1 < count → left row ≡ separatorAfter row ∷ (leafAt rows text (row + 1) .text ++ left (row + 1))
-  unfolding left following values leafAt
-  left-more row h =
-      ap (λ (n : ℕ). following (CR ∷ splitting ps) (leafAt rows text row) (values (leafAt rows text) (row + 1) n))
-      (let e : count - (row + 1) ≡ suc (count - (row + 1 + 1)) = omega arith in e)
-      ∙ ap (λ (k : ℕ). following (CR ∷ splitting ps) (leafAt rows text row) (leafAt rows text (row + 1) ∷ values (leafAt rows text) k (count - (row + 1 + 1))))
-      (let e : suc (row + 1) ≡ row + 1 + 1 = omega arith in e)
+  after-row : (row : ℕ) → row < count
+      → after (CR ∷ splitting ps) (leafAt rows text row) (values (leafAt rows text) (row + 1) (count - (row + 1))) ≡ separatorAfter ps rows count row
+  unfolding separatorAfter after values leafAt
+  after-row row h = go (equal-or-not (row + 1) count)
+    where
+      go : (row + 1 ≡ count) ⊎ (row + 1 ≡ count → ⊥)
+          → after (CR ∷ splitting ps) (leafAt rows text row) (values (leafAt rows text) (row + 1) (count - (row + 1))) ≡ separatorAfter ps rows count row
+      go (inl e) =
+          ap (λ (n : ℕ). after (CR ∷ splitting ps) (leafAt rows text row) (values (leafAt rows text) (row + 1) n)) (let d : count - (row + 1) ≡ 0 = omega arith in d)
+          ∙ sym (last-separator ps rows count row e)
+      go (inr n) =
+          ap (λ (n : ℕ). after (CR ∷ splitting ps) (leafAt rows text row) (values (leafAt rows text) (row + 1) n)) (let d : count - (row + 1) ≡ suc (count - (row + 1) - 1) = omega arith in d)
+          ∙ sym (inner-separator ps rows count row n)
 
-  pub left-none : (row : ℕ) → count ≤ row + 1 → left row ≡ CR ∷ []
-  unfolding left following values
-  left-none row h =
-      ap (λ (n : ℕ). following (CR ∷ splitting ps) (leafAt rows text row) (values (leafAt rows text) (row + 1) n))
-      (let e : count - (row + 1) ≡ 0 = omega arith in e)
+  ahead-more : (row : ℕ) → row < count → ahead row ≡ leafAt rows text row .text ++ rest row
+  unfolding ahead whole
+  ahead-more row h =
+      ap (whole (CR ∷ splitting ps)) (values-turn (leafAt rows text) row count h)
+      ∙ ap (λ (b : ℕ). leafAt rows text row .text ++ b ∷ whole (CR ∷ splitting ps) (values (leafAt rows text) (row + 1) (count - (row + 1)))) (after-row row h)
+
+  ahead-none : (row : ℕ) → count ≤ row → ahead row ≡ []
+  unfolding ahead whole
+  ahead-none row h = ap (whole (CR ∷ splitting ps)) (values-end (leafAt rows text) row count h)
 
   -- all leaves, with their separators and the last CR
-  whole : 1 ≤ count → unsplit (CR ∷ splitting ps) (values (leafAt rows text) 0 count) ++ (CR ∷ []) ≡ leafAt rows text 0 .text ++ left 0
-  unfolding left unsplit values
-  whole some =
-      ap (λ (n : ℕ). unsplit (CR ∷ splitting ps) (values (leafAt rows text) 0 n) ++ (CR ∷ [])) (let e : count ≡ suc (count - (0 + 1)) = omega arith in e)
-      ∙ unsplit-following (CR ∷ splitting ps) (leafAt rows text 0) (values (leafAt rows text) 1 (count - (0 + 1)))
+  all-ahead : 1 ≤ count → unsplit (CR ∷ splitting ps) (values (leafAt rows text) 0 count) ++ (CR ∷ []) ≡ ahead 0
+  unfolding ahead unsplit values
+  all-ahead some =
+      ap (λ (n : ℕ). unsplit (CR ∷ splitting ps) (values (leafAt rows text) 0 n) ++ (CR ∷ [])) (let e : count ≡ suc (count - 1) = omega arith in e)
+      ∙ unsplit-whole (CR ∷ splitting ps) (leafAt rows text 0) (values (leafAt rows text) 1 (count - 1))
+      ∙ ap (λ (n : ℕ). whole (CR ∷ splitting ps) (values (leafAt rows text) 0 n)) (let e : suc (count - 1) ≡ count - 0 = omega arith in e)
 
   module _ (L : Limits) where
-    pub record LeavesLeft (s₀ s : Stand) (row : ℕ) : Type 0 where
-      pub upTo : row + 1 ≤ count
-      pub fits : Fits L (ps .field) s (left row)
+    abbrev f : ℕ
+    f = ps .field
+
+    pub record LeavesLeft (s₀ s : Stand) (row from : ℕ) : Type 0 where
+      pub upTo : row ≤ count
+      pub fits : Fits L (ps .field) s (ahead row)
       pub same : length (s .output) ≡ length (s₀ .output)
-      pub gives : puts L (ps .field) s (left row) ≡ puts L (ps .field) s₀ (left 0)
+      pub gives : puts L (ps .field) s (ahead row) ≡ puts L (ps .field) s₀ (ahead 0)
+      pub here : row < count → from ≡ getD rows (row * 7 + 5) 0
 
-    -- one turn: a separator, and the next leaf
-    module _ {s₀ s : Stand} {row : ℕ} (w : LeavesLeft s₀ s row) (less : row + 1 < count) where
-      split-fits : Fits L (ps .field) s (separatorAfter row ∷ (leafAt rows text (row + 1) .text ++ left (row + 1)))
-      split-fits = subst (Fits L (ps .field) s) (left-more row less) (w .fits)
+    -- one turn: a leaf, and the separator after it
+    module _ {output₀ : List ℕ} (a : Writable L ps rows count text output₀) {s₀ s : Stand} {row from : ℕ} (w : LeavesLeft s₀ s row from) (less : row < count)
+        {size : ℕ} (is : size ≡ getD rows (row * 7 + 6) 0) where
+      own : List ℕ
+      own = leafAt rows text row .text
 
-      pub separator-fits : {b : ℕ} → b ≡ separatorAfter row → Fits L (ps .field) s (b ∷ [])
-      separator-fits {b} e =
-          subst (λ (n : ℕ). Fits L (ps .field) s (n ∷ [])) (sym e)
-          (fits-first L (ps .field) s (separatorAfter row ∷ []) (leafAt rows text (row + 1) .text ++ left (row + 1)) split-fits)
+      split-fits : Fits L f s (own ++ rest row)
+      unfolding own
+      split-fits = subst (Fits L f s) (ahead-more row less) (w .fits)
 
-      module _ {b : ℕ} (e : b ≡ separatorAfter row) {t : Stand} (d : t ≡ puts L (ps .field) s (b ∷ [])) where
-        apart : t ≡ puts L (ps .field) s (separatorAfter row ∷ [])
-        apart = d ∙ ap (λ (n : ℕ). puts L (ps .field) s (n ∷ [])) e
+      part-is : take (from + size - from) (drop from text) ≡ own
+      unfolding own
+      part-is = leaf-part rows text row (w .here less) is
 
-        rest-fits : Fits L (ps .field) t (leafAt rows text (row + 1) .text ++ left (row + 1))
-        rest-fits =
-            subst (λ (u : Stand). Fits L (ps .field) u (leafAt rows text (row + 1) .text ++ left (row + 1))) (sym apart)
-            (fits-next L (ps .field) s (separatorAfter row ∷ []) (leafAt rows text (row + 1) .text ++ left (row + 1)) split-fits)
+      pub leaf-fits : Lawful L × (from ≤ from + size) × (from + size ≤ length text) × InSegment (take (from + size - from) (drop from text))
+          × Fits L f s (take (from + size - from) (drop from text))
+      unfolding own
+      leaf-fits = leaf-asked rows text row (w .here less) is (a .lawful) (a .leaves row less) (fits-first L f s own (rest row) split-fits)
 
-        pub leaf-fits : Fits L (ps .field) t (leafAt rows text (row + 1) .text)
-        leaf-fits = fits-first L (ps .field) t (leafAt rows text (row + 1) .text) (left (row + 1)) rest-fits
+      module _ {t : Stand} (d : t ≡ puts L f s (take (from + size - from) (drop from text))) where
+        put-own : t ≡ puts L f s own
+        put-own = d ∙ ap (puts L f s) part-is
 
-        pub leaves-turn : {u : Stand} → u ≡ puts L (ps .field) t (leafAt rows text (row + 1) .text) → LeavesLeft s₀ u (row + 1)
-        leaves-turn {u} c =
-            subst (λ (v : Stand). LeavesLeft s₀ v (row + 1)) (sym c)
-            (record {
-              upTo = omega arith;
-              fits = fits-next L (ps .field) t (leafAt rows text (row + 1) .text) (left (row + 1)) rest-fits;
-              same =
-                  puts-kept L (ps .field) t (leafAt rows text (row + 1) .text) .same-length
-                  ∙ ap (λ (v : Stand). length (v .output)) apart
-                  ∙ puts-kept L (ps .field) s (separatorAfter row ∷ []) .same-length
-                  ∙ w .same;
-              gives =
-                  sym (puts-append L (ps .field) t (leafAt rows text (row + 1) .text) (left (row + 1)))
-                  ∙ ap (λ (v : Stand). puts L (ps .field) v (leafAt rows text (row + 1) .text ++ left (row + 1))) apart
-                  ∙ sym (puts-append L (ps .field) s (separatorAfter row ∷ []) (leafAt rows text (row + 1) .text ++ left (row + 1)))
-                  ∙ ap (puts L (ps .field) s) (sym (left-more row less))
-                  ∙ w .gives;
-            })
+        rest-fits : Fits L f t (rest row)
+        rest-fits = subst (λ (u : Stand). Fits L f u (rest row)) (sym put-own) (fits-next L f s own (rest row) split-fits)
 
-    -- after the last leaf only the last CR is left
-    module _ {s₀ s : Stand} {row : ℕ} (w : LeavesLeft s₀ s row) (last : count ≤ row + 1) where
-      pub last-fits : Fits L (ps .field) s (CR ∷ [])
-      last-fits = subst (Fits L (ps .field) s) (left-none row last) (w .fits)
+        module _ {b : ℕ} (e : b ≡ separatorAfter ps rows count row) where
+          pub separator-fits : Fits L f t (b ∷ [])
+          separator-fits =
+              subst (λ (n : ℕ). Fits L f t (n ∷ [])) (sym e) (fits-first L f t (separatorAfter ps rows count row ∷ []) (ahead (row + 1)) rest-fits)
 
-      pub last-gives : {t : Stand} → t ≡ puts L (ps .field) s (CR ∷ []) → t ≡ puts L (ps .field) s₀ (left 0)
-      last-gives d = d ∙ ap (puts L (ps .field) s) (sym (left-none row last)) ∙ w .gives
+          pub leaves-turn : {u : Stand} → u ≡ puts L f t (b ∷ []) → LeavesLeft s₀ u (row + 1) (from + size)
+          unfolding own
+          leaves-turn {u} c =
+              let sep = separatorAfter ps rows count row ∷ [] in
+              let put-sep : u ≡ puts L f t sep = c ∙ ap (λ (n : ℕ). puts L f t (n ∷ [])) e in
+              record {
+                upTo = omega arith;
+                fits = subst (λ (v : Stand). Fits L f v (ahead (row + 1))) (sym put-sep) (fits-next L f t sep (ahead (row + 1)) rest-fits);
+                same =
+                    ap (λ (v : Stand). length (v .output)) put-sep
+                    ∙ puts-kept L f t sep .same-length
+                    ∙ ap (λ (v : Stand). length (v .output)) put-own
+                    ∙ puts-kept L f s own .same-length
+                    ∙ w .same;
+                gives =
+                    ap (λ (v : Stand). puts L f v (ahead (row + 1))) put-sep
+                    ∙ sym (puts-append L f t sep (ahead (row + 1)))
+                    ∙ ap (λ (v : Stand). puts L f v (rest row)) put-own
+                    ∙ sym (puts-append L f s own (rest row))
+                    ∙ ap (puts L f s) (sym (ahead-more row less))
+                    ∙ w .gives;
+                here = λ more. ap₂ _+_ (w .here less) is ∙ sym (a .next row more);
+              }
 
     -- the pass over all rows
     module _ {output : List ℕ} (w : Writable L ps rows count text output) where
       begin : Stand
       begin = stand output (going 0 (L .line) 0)
 
-      written : puts L (ps .field) begin (leafAt rows text 0 .text ++ left 0)
+      written : puts L f begin (ahead 0)
           ≡ stand (sets output 0 (unlines (linesOfRows L ps rows count text)))
           (going (length (unlines (linesOfRows L ps rows count text))) (L .line) (length (linesOfRows L ps rows count text)))
       unfolding linesOfRows begin
       written =
-          ap (puts L (ps .field) begin) (sym (whole (w .some)))
-          ∙ lines-filled L (w .lawful) (ps .field) output (unsplit (CR ∷ splitting ps) (values (leafAt rows text) 0 count))
+          ap (puts L f begin) (sym (all-ahead (w .some)))
+          ∙ lines-filled L (w .lawful) f output (unsplit (CR ∷ splitting ps) (values (leafAt rows text) 0 count))
 
-      all-fit : Fits L (ps .field) begin (leafAt rows text 0 .text ++ left 0)
+      pub leaves-begin : LeavesLeft (stand output (going 0 (L .line) 0)) (stand output (going 0 (L .line) 0)) 0 0
       unfolding begin
-      all-fit = record { holds = omega (arith, ap (λ (s : Stand). s .going .out) written, w .fits); lines = omega arith }
+      leaves-begin =
+          record {
+            upTo = omega arith;
+            fits = record { holds = omega (arith, ap (λ (s : Stand). s .going .out) written, w .fits); lines = omega arith };
+            same = refl;
+            gives = refl;
+            here = λ h. sym (w .first);
+          }
 
-      pub first-fits : Fits L (ps .field) (stand output (going 0 (L .line) 0)) (leafAt rows text 0 .text)
-      unfolding begin
-      first-fits = fits-first L (ps .field) begin (leafAt rows text 0 .text) (left 0) all-fit
-
-      module _ {s₀ : Stand} (d : s₀ ≡ puts L (ps .field) (stand output (going 0 (L .line) 0)) (leafAt rows text 0 .text)) where
-        pub leaves-begin : LeavesLeft s₀ s₀ 0
-        unfolding begin
-        leaves-begin =
-            record {
-              upTo = omega (arith, w .some);
-              fits = subst (λ (s : Stand). Fits L (ps .field) s (left 0)) (sym d) (fits-next L (ps .field) begin (leafAt rows text 0 .text) (left 0) all-fit);
-              same = refl;
-              gives = refl;
-            }
-
-        pub leaves-written : {output′ : List ℕ} {r : Going} → stand output′ r ≡ puts L (ps .field) s₀ (left 0)
-            → WrittenOut L ps rows count text output r output′
-        unfolding begin
-        leaves-written {output′} {r} c =
-            let e : stand output′ r
-            ≡ stand (sets output 0 (unlines (linesOfRows L ps rows count text)))
-            (going (length (unlines (linesOfRows L ps rows count text))) (L .line) (length (linesOfRows L ps rows count text))) =
-            c ∙ ap (λ (s : Stand). puts L (ps .field) s (left 0)) d
-            ∙ sym (puts-append L (ps .field) begin (leafAt rows text 0 .text) (left 0))
-            ∙ written in
-            record {
-              message = ap (λ (s : Stand). s .output) e;
-              bytes = ap (λ (s : Stand). s .going .out) e;
-              lines = ap (λ (s : Stand). s .going .lines) e;
-            }
+      pub leaves-written : {output′ : List ℕ} {r : Going} {row from : ℕ}
+          → LeavesLeft (stand output (going 0 (L .line) 0)) (stand output′ r) row from → count ≤ row
+          → WrittenOut L ps rows count text output r output′
+      unfolding begin puts
+      leaves-written {output′} {r} {row} v h =
+          let e : stand output′ r
+          ≡ stand (sets output 0 (unlines (linesOfRows L ps rows count text)))
+          (going (length (unlines (linesOfRows L ps rows count text))) (L .line) (length (linesOfRows L ps rows count text))) =
+          ap (puts L f (stand output′ r)) (sym (ahead-none row h)) ∙ v .gives ∙ written in
+          record {
+            message = ap (λ (s : Stand). s .output) e;
+            bytes = ap (λ (s : Stand). s .going .out) e;
+            lines = ap (λ (s : Stand). s .going .lines) e;
+          }

@@ -3,7 +3,7 @@
 use mathlib.Core.Bool.{true}
 use mathlib.Core.List.{List, _∷_}
 use mathlib.Core.Path.{_≡_, sym, ap, ap₂, _∙_, subst}
-use Prim.Native.Nat.{ℕ, _+_, _*_, _≤_, _<_}
+use Prim.Native.Nat.{ℕ, suc, _+_, _*_, _≤_, _<_}
 use native.Mathlib.Nat.{zero-add}
 use native.Mathlib.Omega.{arith}
 use lib.ListN.{length, getD, take, drop, length-take, length-drop, take-append-drop}
@@ -33,6 +33,7 @@ use Rattle.write.specs.Filling.{InSegment}
 use Rattle.write.specs.Passing.{linesOfRows, separatorsOfRows, FourWithin, Writable, WrittenOut}
 use Rattle.write.proofs.LocalTables.{headed-leaves, local-accepted}
 use Rattle.write.proofs.RowByRow.{rows-local}
+use Rattle.write.proofs.LaidRows.{ended-first, ended-next}
 use Rattle.write.proofs.LentTables.{within-buffers, counted-sized, is-table-rows}
 
 -- a counted leaf of the lent rows and text
@@ -120,6 +121,24 @@ module _ (L : Limits) (lawful : Lawful L) (levels : ℕ → ℕ → ℕ) (l : Le
         row-counted (l .leafRows) (l .text) (l .card .leaves) (l .card .text) i 6 less (omega arith),
       )
 
+  next-start : (i : ℕ) → i + 1 < l .card .leaves
+      → getD (l .leafRows) ((i + 1) * 7 + 5) 0 ≡ getD (l .leafRows) (i * 7 + 5) 0 + getD (l .leafRows) (i * 7 + 6) 0
+  unfolding counted
+  next-start i less =
+      let there = row-counted (l .leafRows) (l .text) (l .card .leaves) (l .card .text) in
+      omega (
+        arith,
+        subst
+            (λ (j : ℕ).
+            getD (take (l .card .leaves * 7) (l .leafRows)) (j * 7 + 5) 0
+            ≡ getD (take (l .card .leaves * 7) (l .leafRows)) (i * 7 + 5) 0 + getD (take (l .card .leaves * 7) (l .leafRows)) (i * 7 + 6) 0)
+            (let e : suc i ≡ i + 1 = omega arith in e)
+            (ended-next (counted l .leafRows) (l .card .leaves) (l .card .text) (rows .laid) i (omega arith)),
+        there (i + 1) 5 less (omega arith),
+        there i 5 (omega arith) (omega arith),
+        there i 6 (omega arith) (omega arith),
+      )
+
   leaf-same : (i : ℕ) → i < l .card .leaves → leafAt (counted l .leafRows) (counted l .text) i ≡ leafAt (l .leafRows) (l .text) i
   unfolding counted
   leaf-same i less = leaf-counted (l .leafRows) (l .text) (l .card .leaves) (l .card .text) i less (ends i less)
@@ -182,6 +201,8 @@ module _ (L : Limits) (lawful : Lawful L) (levels : ℕ → ℕ → ℕ) (l : Le
                     subst (λ (m : Leaf). InSegment (m .text)) (leaf-same i less)
                     (in-segment (getD (counted l .leafRows) (i * 7 + 5) 0) (getD (counted l .leafRows) (i * 7 + 6) 0) (local .bytes));
               };
+          first = sym (row-counted (l .leafRows) (l .text) (l .card .leaves) (l .card .text) 0 5 (omega (arith, some-leaves)) (omega arith)) ∙ ended-first (counted l .leafRows) (l .card .leaves) (l .card .text) (rows .laid) (omega (arith, some-leaves));
+          next = next-start;
           fits = omega (arith, ap (λ (ls : List (List ℕ)). length (unlines ls)) lines-same, local-accepted lawful local .fits);
         }
 

@@ -1,9 +1,11 @@
 -- The writing pass over leaf rows (document 01, "Writing"): what it asks of the rows and the text, and what it gives.
 -- Assumes nothing.
+use mathlib.Core.Bool.{true, false}
 use mathlib.Core.List.{List, _∷_}
 use mathlib.Core.Path.{_≡_}
 use Prim.Native.Nat.{ℕ, _+_, _*_, _≤_, _<_}
-use lib.ListN.{length, getD}
+use lib.Dec.{eqb}
+use lib.ListN.{length, take, drop, getD}
 use lib.Seq.{sets}
 use Rattle.laws.specs.Tables.{values}
 use Rattle.form.specs.declared.limits.Limits.{Limits}
@@ -13,7 +15,7 @@ use Rattle.form.specs.Header.{splitting}
 use Rattle.line.specs.Lines.{CR}
 use Rattle.line.specs.Cutting.{cuts, unlines}
 use Rattle.table.specs.Leaves.{split}
-use Rattle.table.specs.Back.{leafAt, unsplit}
+use Rattle.table.specs.Back.{leafAt, between, unsplit}
 use Rattle.write.specs.Filling.{InSegment}
 use Rattle.write.specs.declared.lines.Going.{Going}
 
@@ -44,12 +46,23 @@ pub record FourWithin (rows text : List ℕ) : Type 0 where
   pub four : getD rows 13 0 ≡ 4
   pub within : getD rows 12 0 + 4 ≤ length text
 
+-- the separator after the leaf of a row: the one that leads to the next leaf, and CR after the last
+unfoldable pub separatorAfter : Separators → List ℕ → ℕ → ℕ → ℕ
+separatorAfter ps rows count row =
+    elim (eqb (row + 1) count) [
+      | true ↦ CR
+      | false ↦ between (CR ∷ splitting ps) (take 5 (drop (row * 7) rows)) (take 5 (drop ((row + 1) * 7) rows))
+    ]
+
 -- what the pass asks
 pub record Writable (L : Limits) (ps : Separators) (rows : List ℕ) (count : ℕ) (text output : List ℕ) : Type 0 where
   pub lawful : Lawful L
   pub some : 1 ≤ count
   pub long : count * 7 ≤ length rows
   pub leaves : (i : ℕ) → i < count → LeafWithin rows text i
+  -- the texts lie end to end
+  pub first : getD rows 5 0 ≡ 0
+  pub next : (i : ℕ) → i + 1 < count → getD rows ((i + 1) * 7 + 5) 0 ≡ getD rows (i * 7 + 5) 0 + getD rows (i * 7 + 6) 0
   pub fits : length (unlines (linesOfRows L ps rows count text)) ≤ length output
 
 -- what it gives: the lines' bytes at the front of the output, and how many bytes and lines they are

@@ -7,14 +7,12 @@ use form::limits::Limits;
 use form::separators::Separators;
 ghost use mathlib.Core.List.{_∷_};
 ghost use mathlib.Core.Path.{_≡_};
-ghost use Prim.Native.Nat.{_+_, _*_, _-_, _≤_, _<_};
+ghost use Prim.Native.Nat.{_+_, _*_, _≤_, _<_};
 ghost use lib.ListN.{length, take, drop};
-ghost use Rattle.form.specs.Limits.{Lawful};
 ghost use Rattle.form.specs.Header.{splitting};
 ghost use Rattle.line.specs.Lines as lines;
-ghost use Rattle.table.specs.Back.{leafAt, between};
-ghost use Rattle.write.specs.Filling.{stand, puts, Fits};
-ghost use Rattle.write.specs.Passing.{separatorsOfRows, FourWithin, LeafWithin, Writable, WrittenOut};
+ghost use Rattle.table.specs.Back.{between};
+ghost use Rattle.write.specs.Passing.{separatorsOfRows, separatorAfter, FourWithin, Writable, WrittenOut};
 
 // A number of a row as a size.
 fn wide(n: u16) -> usize
@@ -64,27 +62,19 @@ fn separator(separators: Separators, leaves: &[u16], row: usize) -> u8
     0
 }
 
-// The text of the leaf of a row.
-fn put_leaf(
-    limits: Limits,
-    field: u8,
-    going: Going,
-    leaves: &[u16],
-    row: usize,
-    text: &[u8],
-    output: &mut [u8],
-) -> Going
-    requires { ⌜ Lawful limits × ((row + 1) * 7 ≤ length (now leaves)) × LeafWithin (now leaves) (now text) row
-        × Fits limits field (stand (now output) going) (leafAt (now leaves) (now text) row .text) ⌝ }
-    ensures { λ r. ⌜ stand (now (output .exit)) r ≡ puts limits field (stand (now (output .entry)) going) (leafAt (now (leaves .entry)) (now (text .entry)) row .text) ⌝ }
+// The separator after the leaf of a row; CR after the last.
+fn separator_after(separators: Separators, leaves: &[u16], row: usize, count: usize) -> u8
+    requires { ⌜ (row < count) × (count * 7 ≤ length (now leaves)) ⌝ }
+    ensures { λ r. ⌜ r ≡ separatorAfter separators (now (leaves .entry)) count row ⌝ }
 {
-    let at = row * 7;
-    let start = wide(leaves[at + 5]);
-    let length = wide(leaves[at + 6]);
-    put_text(limits, field, going, text, start, start + length, output)
+    if row + 1 == count {
+        return CR;
+    }
+    separator(separators, leaves, row)
 }
 
-// The message of so many leaves, each with its separator before it, at the front of the output: how many bytes and lines it is.
+// The message of so many leaves, each with its separator after it, at the front of the output: how many bytes and lines it is. Their texts
+// lie end to end, so each begins where the one before it ended.
 pub(crate) fn put_leaves(
     limits: Limits,
     separators: Separators,
@@ -97,18 +87,20 @@ pub(crate) fn put_leaves(
     ensures { λ r. ⌜ WrittenOut limits separators (now (leaves .entry)) count (now (text .entry)) (now (output .entry)) r (now (output .exit)) ⌝ }
 {
     let field = separators.field;
-    let begin = Going {
+    let mut going = Going {
         out: 0,
         room: limits.line,
         lines: 0,
     };
-    let mut going = put_leaf(limits, field, begin, leaves, 0, text, output);
+    let mut from = 0;
     let mut row = 0;
-    while row + 1 < count {
-        let byte = separator(separators, leaves, row);
+    while row < count {
+        let end = from + wide(leaves[row * 7 + 6]);
+        let put = put_text(limits, field, going, text, from, end, output);
+        let byte = separator_after(separators, leaves, row, count);
+        going = put_byte(limits, field, put, byte, output);
+        from = end;
         row += 1;
-        let apart = put_byte(limits, field, going, byte, output);
-        going = put_leaf(limits, field, apart, leaves, row, text, output);
     }
-    put_byte(limits, field, going, CR, output)
+    going
 }

@@ -1,129 +1,115 @@
--- `write::leaves::put_leaves` meets its contract: each turn puts a separator and a leaf, and what is left of the rows gives the whole.
+-- `write::leaves::put_leaves` meets its contract: each turn puts a leaf and the separator after it, and what is left of the rows gives the
+-- whole.
 -- Assumes nothing.
 use mathlib.Core.Path.{_∙_, ap}
-use Prim.Native.Nat.{_+_, _-_}
+use Prim.Native.Nat.{_-_}
 use native.Mathlib.Omega.{arith}
+use borrow.Author.Needs.{needs}
 use lib.ListN.{length}
 use lib.Seq.{length-sets}
 use Rattle.line.specs.Cutting.{unlines}
 use Rattle.write.specs.Filling.{stand}
 use Rattle.write.specs.Passing.{linesOfRows}
-use Rattle.write.proofs.LeavesLeft.{LeavesLeft, first-fits, leaves-begin, separator-fits, leaf-fits, leaves-turn, last-fits, last-gives, leaves-written}
+use Rattle.write.proofs.Filling.{going}
+use Rattle.write.proofs.LeavesLeft.{LeavesLeft, leaves-begin, leaf-fits, separator-fits, leaves-turn, leaves-written}
 use Rattle.write.proofs.leaves.put_leaves.Statement.{statement}
 use Rattle.write.proofs.leaves.put_leaves.Tie as tie
 
 abbrev Inv-loop : tie.InvT-loop
-Inv-loop limits separators leaves count text output₀ field going₀ row₀ output going row =
-    LeavesLeft separators leaves count text limits (stand output₀ going₀) (stand output going) row
+Inv-loop limits separators leaves count text output₀ field going₀ from₀ row₀ output going from row =
+    LeavesLeft separators leaves count text limits (stand output₀ going₀) (stand output going) row from
 
 abbrev μ-loop : tie.MeasureT-loop
-μ-loop limits separators leaves count text output₀ field going₀ row₀ output going row = count - row
-
-put-leaf-requires : tie.Need-put-leaf-requires Inv-loop μ-loop
-put-leaf-requires c κs =
-    let at-pre = c .before .before .before .before .pre in
-    let at-args = c .before .before .before .before .args in (
-      at-pre .lawful,
-      omega (arith, at-pre .long, at-pre .some),
-      at-pre .leaves 0 (at-pre .some),
-      first-fits (at-args .separators) (at-args .leaves .now) (at-args .count) (at-args .text .now) (at-args .limits) at-pre,
-    )
+μ-loop limits separators leaves count text output₀ field going₀ from₀ row₀ output going from row = count - row
 
 loop-holds : tie.Need-loop-holds Inv-loop μ-loop
 loop-holds c =
+    let at-args = c .before .before .before .args in
+    let at-pre = c .before .before .before .pre in
+    leaves-begin (at-args .separators) (at-args .leaves .now) (at-args .count) (at-args .text .now) (at-args .limits) at-pre
+
+mul-wide : tie.Need-mul-wide Inv-loop μ-loop
+mul-wide c = omega arith
+
+add-wide : tie.Need-add-wide Inv-loop μ-loop
+add-wide c = omega arith
+
+mul-wide-2 : tie.Need-mul-wide-2 Inv-loop μ-loop
+mul-wide-2 c = omega arith
+
+shared-slice-read-wide : tie.Need-shared-slice-read-wide Inv-loop μ-loop
+shared-slice-read-wide c = omega arith
+
+wide-requires : tie.Need-wide-requires Inv-loop μ-loop
+wide-requires c κs = search needs
+
+add-end : tie.Need-add-end Inv-loop μ-loop
+add-end c =
     let at-args = c .before .before .before .before .before .before .before .args in
     let at-pre = c .before .before .before .before .before .before .before .pre in
-    let at-put-leaf = c .before .before .put-leaf in
-    leaves-begin (at-args .separators) (at-args .leaves .now) (at-args .count) (at-args .text .now) (at-args .limits) at-pre (at-put-leaf .ensures)
+    let at-loop = c .before .before .before .loop in
+    let at-loop-test = c .before .before .loop-test in
+    let at-wide = c .wide in
+    let at-good = c .before .before .before .before .before .before .before .good in
+    let at-fits = c .before .before .before .before .before .before .before .fits in
+    omega (arith, leaf-fits (at-args .separators) (at-args .leaves .now) (at-args .count) (at-args .text .now) (at-args .limits) at-pre (at-loop .inv) (at-loop-test .taken) (at-wide .ensures .0) .2, at-good, at-fits)
 
-add-loop : tie.Need-add-loop Inv-loop μ-loop
-add-loop c =
-    let at-loop = c .loop in
-    let at-good = c .before .before .before .before .before .before .before .before .good in
-    let at-fits = c .before .before .before .before .before .before .before .before .fits in
-    omega (arith, at-loop .inv .upTo, at-good, at-fits)
+put-text-requires : tie.Need-put-text-requires Inv-loop μ-loop
+put-text-requires c κs =
+    let at-args = c .before .before .before .before .before .before .before .before .args in
+    let at-pre = c .before .before .before .before .before .before .before .before .pre in
+    let at-loop = c .before .before .before .before .loop in
+    let at-loop-test = c .before .before .before .loop-test in
+    let at-wide = c .before .wide in
+    leaf-fits (at-args .separators) (at-args .leaves .now) (at-args .count) (at-args .text .now) (at-args .limits) at-pre (at-loop .inv) (at-loop-test .taken) (at-wide .ensures .0)
 
-separator-requires : tie.Need-separator-requires Inv-loop μ-loop
-separator-requires c κs =
-    let at-pre = c .before .before .before .before .before .before .before .before .before .pre in
-    let at-loop-test = c .loop-test in
-    omega (arith, at-pre .long, at-loop-test .taken)
-
-add-row : tie.Need-add-row Inv-loop μ-loop
-add-row c =
-    let at-loop = c .before .before .loop in
-    let at-good = c .before .before .before .before .before .before .before .before .before .before .good in
-    let at-fits = c .before .before .before .before .before .before .before .before .before .before .fits in
-    omega (arith, at-loop .inv .upTo, at-good, at-fits)
+separator-after-requires : tie.Need-separator-after-requires Inv-loop μ-loop
+separator-after-requires c κs =
+    let at-loop-test = c .before .before .before .before .before .before .loop-test in
+    let at-pre = c .before .before .before .before .before .before .before .before .before .before .before .pre in
+    (at-loop-test .taken, at-pre .long)
 
 put-byte-requires : tie.Need-put-byte-requires Inv-loop μ-loop
 put-byte-requires c κs =
-    let at-pre = c .before .before .before .before .before .before .before .before .before .before .before .pre in
-    let at-args = c .before .before .before .before .before .before .before .before .before .before .before .args in
-    let at-loop = c .before .before .before .loop in
-    let at-loop-test = c .before .before .loop-test in
-    let at-separator = c .before .separator in
-    (at-pre .lawful, separator-fits (at-args .separators) (at-args .leaves .now) (at-args .count) (at-args .text .now) (at-args .limits) (at-loop .inv) (at-loop-test .taken) (at-separator .ensures))
+    let at-pre = c .before .before .before .before .before .before .before .before .before .before .before .before .before .pre in
+    let at-args = c .before .before .before .before .before .before .before .before .before .before .before .before .before .args in
+    let at-loop = c .before .before .before .before .before .before .before .before .before .loop in
+    let at-loop-test = c .before .before .before .before .before .before .before .before .loop-test in
+    let at-wide = c .before .before .before .before .before .before .wide in
+    let at-put-text = c .before .before .before .before .put-text in
+    let at-separator-after = c .before .separator-after in
+    (at-pre .lawful, separator-fits (at-args .separators) (at-args .leaves .now) (at-args .count) (at-args .text .now) (at-args .limits) at-pre (at-loop .inv) (at-loop-test .taken) (at-wide .ensures .0) (at-put-text .ensures) (at-separator-after .ensures))
 
-put-leaf-requires-2 : tie.Need-put-leaf-requires-2 Inv-loop μ-loop
-put-leaf-requires-2 c κs =
-    let at-pre = c .before .before .before .before .before .before .before .before .before .before .before .before .before .before .before .pre in
-    let at-loop = c .before .before .before .before .before .before .before .loop in
-    let at-loop-test = c .before .before .before .before .before .before .loop-test in
-    let at-args = c .before .before .before .before .before .before .before .before .before .before .before .before .before .before .before .args in
-    let at-separator = c .before .before .before .before .before .separator in
-    let at-put-byte = c .before .before .before .put-byte in (
-      at-pre .lawful,
-      omega (arith, at-pre .long, at-loop-test .taken),
-      at-pre .leaves (at-loop .row + 1) (at-loop-test .taken),
-      leaf-fits (at-args .separators) (at-args .leaves .now) (at-args .count) (at-args .text .now) (at-args .limits) (at-loop .inv) (at-loop-test .taken) (at-separator .ensures) (at-put-byte .ensures),
-    )
+add-row : tie.Need-add-row Inv-loop μ-loop
+add-row c = omega arith
 
 loop-less : tie.Need-loop-less Inv-loop μ-loop
-loop-less c =
-    let at-loop-test = c .before .before .before .before .before .before .before .before .before .loop-test in
-    omega (arith, at-loop-test .taken)
+loop-less c = omega arith
 
 loop-again : tie.Need-loop-again Inv-loop μ-loop
 loop-again c =
-    let at-args = c .before .before .before .before .before .before .before .before .before .before .before .before .before .before .before .before .before .before .args in
-    let at-loop = c .before .before .before .before .before .before .before .before .before .before .loop in
-    let at-loop-test = c .before .before .before .before .before .before .before .before .before .loop-test in
-    let at-separator = c .before .before .before .before .before .before .before .before .separator in
-    let at-put-byte = c .before .before .before .before .before .before .put-byte in
-    let at-put-leaf2 = c .before .before .put-leaf2 in
-    leaves-turn (at-args .separators) (at-args .leaves .now) (at-args .count) (at-args .text .now) (at-args .limits) (at-loop .inv) (at-loop-test .taken) (at-separator .ensures) (at-put-byte .ensures) (at-put-leaf2 .ensures)
-
-put-byte-requires-2 : tie.Need-put-byte-requires-2 Inv-loop μ-loop
-put-byte-requires-2 c κs =
-    let at-pre = c .before .before .before .before .before .before .before .before .before .before .pre in
-    let at-args = c .before .before .before .before .before .before .before .before .before .before .args in
-    let at-loop = c .before .before .loop in
-    let at-loop-test = c .before .loop-test in
-    (at-pre .lawful, last-fits (at-args .separators) (at-args .leaves .now) (at-args .count) (at-args .text .now) (at-args .limits) (at-loop .inv) (at-loop-test .left))
+    let at-args = c .before .before .before .before .before .before .before .before .before .before .before .before .before .before .before .before .args in
+    let at-pre = c .before .before .before .before .before .before .before .before .before .before .before .before .before .before .before .before .pre in
+    let at-loop = c .before .before .before .before .before .before .before .before .before .before .before .before .loop in
+    let at-loop-test = c .before .before .before .before .before .before .before .before .before .before .before .loop-test in
+    let at-wide = c .before .before .before .before .before .before .before .before .before .wide in
+    let at-put-text = c .before .before .before .before .before .before .before .put-text in
+    let at-separator-after = c .before .before .before .before .separator-after in
+    let at-put-byte = c .before .before .put-byte in
+    leaves-turn (at-args .separators) (at-args .leaves .now) (at-args .count) (at-args .text .now) (at-args .limits) at-pre (at-loop .inv) (at-loop-test .taken) (at-wide .ensures .0) (at-put-text .ensures) (at-separator-after .ensures) (at-put-byte .ensures)
 
 same-length : tie.Need-same-length Inv-loop μ-loop
 same-length c =
-    let at-args = c .before .before .before .before .before .before .before .before .before .before .before .before .before .args in
-    let at-pre = c .before .before .before .before .before .before .before .before .before .before .before .before .before .pre in
-    let at-put-leaf = c .before .before .before .before .before .before .before .before .put-leaf in
-    let at-loop = c .before .before .before .before .before .loop in
-    let at-loop-test = c .before .before .before .before .loop-test in
-    let at-put-byte2 = c .before .before .put-byte2 in
-    let w = leaves-written (at-args .separators) (at-args .leaves .now) (at-args .count) (at-args .text .now) (at-args .limits) at-pre (at-put-leaf .ensures)
-    (last-gives (at-args .separators) (at-args .leaves .now) (at-args .count) (at-args .text .now) (at-args .limits) (at-loop .inv) (at-loop-test .left) (at-put-byte2 .ensures)) in
-    ap length (w .message) ∙ length-sets (at-args .output .now) 0 (unlines (linesOfRows (at-args .limits) (at-args .separators) (at-args .leaves .now) (at-args .count) (at-args .text .now)))
+    let at-loop = c .before .loop in
+    at-loop .inv .same
 
 returns : tie.Need-returns Inv-loop μ-loop
 returns c =
-    let at-args = c .before .before .before .before .before .before .before .before .before .before .before .before .before .args in
-    let at-pre = c .before .before .before .before .before .before .before .before .before .before .before .before .before .pre in
-    let at-put-leaf = c .before .before .before .before .before .before .before .before .put-leaf in
-    let at-loop = c .before .before .before .before .before .loop in
-    let at-loop-test = c .before .before .before .before .loop-test in
-    let at-put-byte2 = c .before .before .put-byte2 in
-    leaves-written (at-args .separators) (at-args .leaves .now) (at-args .count) (at-args .text .now) (at-args .limits) at-pre (at-put-leaf .ensures)
-    (last-gives (at-args .separators) (at-args .leaves .now) (at-args .count) (at-args .text .now) (at-args .limits) (at-loop .inv) (at-loop-test .left) (at-put-byte2 .ensures))
+    let at-args = c .before .before .before .before .before .args in
+    let at-pre = c .before .before .before .before .before .pre in
+    let at-loop = c .before .loop in
+    let at-loop-test = c .loop-test in
+    leaves-written (at-args .separators) (at-args .leaves .now) (at-args .count) (at-args .text .now) (at-args .limits) at-pre (at-loop .inv) (at-loop-test .left)
 
 pub put-leaves-spec : {M : Type 1} → statement M
 put-leaves-spec =
@@ -131,15 +117,18 @@ put-leaves-spec =
     (tie.spec
     Inv-loop
     μ-loop
-    put-leaf-requires
     loop-holds
-    add-loop
-    separator-requires
-    add-row
+    mul-wide
+    add-wide
+    mul-wide-2
+    shared-slice-read-wide
+    wide-requires
+    add-end
+    put-text-requires
+    separator-after-requires
     put-byte-requires
-    put-leaf-requires-2
+    add-row
     loop-less
     loop-again
-    put-byte-requires-2
     same-length
     returns)
