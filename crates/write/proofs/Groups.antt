@@ -1,6 +1,6 @@
 -- Segment rows against the leaves of their segments, one segment after the other.
 -- Assumes nothing.
-use mathlib.Core.Bool.{Bool, true, false, _&&_, cond}
+use mathlib.Core.Bool.{Bool, true, false, not, _&&_, cond}
 use mathlib.Core.List.{List, [], _∷_, _++_}
 use mathlib.Core.Logic.{_⊎_, inl, inr}
 use mathlib.Core.Path.{_≡_, refl, sym, ap, ap₂, _∙_, subst}
@@ -17,19 +17,19 @@ use Rattle.laws.specs.Tables.{values}
 use Rattle.laws.proofs.Cases.{less-or-not}
 use Rattle.laws.proofs.Every.{all-of}
 use Rattle.laws.proofs.Tables.{length-values, getD-values}
-use Rattle.laws.proofs.Tests.{Tested, passed, failed, tested, and-passed, and-fails-first}
+use Rattle.laws.proofs.Tests.{Tested, passed, failed, tested, and-passed, and-fails-first, and-fails-second}
 use Rattle.form.specs.declared.limits.Limits.{Limits}
 use Rattle.form.specs.Limits.{Lawful, lineCount, linesUnder, roundedUp}
 use Rattle.form.proofs.LineCount.{one-line, more-lines, lines-lawful}
 use Rattle.form.specs.Names.{numberAmong, contextNames, contextOf}
 use Rattle.table.specs.Leaves.{Leaf}
-use Rattle.table.specs.Rows.{leafRowSize, textOf}
+use Rattle.table.specs.Rows.{leafRowSize, textOf, segmentRowSize}
 use Rattle.table.specs.Flat.{leaf}
 use Rattle.table.specs.Back.{leafAt}
 use Rattle.table.specs.BySegment.{segmentOf, withLeaf, bySegment, kindAmong, numberOfField, contextAmong, segmentBytes, writtenBytes}
 use Rattle.table.proofs.BySegment.{InSegment, Ended, group-first, leaf-joins, leaf-begins}
 use Rattle.write.specs.Tests.{leavesFrom, SegmentEnd, FieldLeaf, rowStates, groupsStated}
-use Rattle.write.proofs.SegmentTests.{row-segment, leaves-cons, leaves-none}
+use Rattle.write.proofs.SegmentTests.{row-segment, leaves-cons, leaves-none, SomeEnd, segment-ends}
 
 -- all the leaves
 pub leaves-all : (rows text : List ℕ) (count : ℕ) → leavesFrom rows text 0 count ≡ values (leafAt rows text) 0 count
@@ -201,6 +201,27 @@ module _ {L : Limits} {rows text : List ℕ} {count first total : ℕ} (w : Coun
   pub counting-done : count ≤ first → total ≡ sumOf (writtenBytes L) (bySegment (values (leafAt rows text) 0 count))
   unfolding sumOf bySegment
   counting-done h = omega (arith, w .so, ap (λ (ls : List Leaf). sumOf (writtenBytes L) (bySegment ls)) (leaves-none rows text first count h))
+
+-- a row that states another count than its segment has
+pub grouping-otherwise : {segments : List ℕ} {many : ℕ} {rows text : List ℕ} {count i first : ℕ} → Grouping segments many rows text count i first → i < many
+    → {stated : ℕ} → stated ≡ getD segments (i * segmentRowSize + 3) 0 → (SegmentEnd rows count first (first + stated) → ⊥)
+    → false ≡ groupsStated segments 0 many 1 (bySegment (values (leafAt rows text) 0 count))
+unfolding rowStates
+grouping-otherwise {segments} {many} {rows} {text} {count} {i} {first} w h {stated} is n = go (less-or-not first count)
+  where
+    refuted : SomeEnd rows count first → false ≡ groupsStated segments 0 many 1 (bySegment (values (leafAt rows text) 0 count))
+    refuted v =
+        grouping-fails w h (v .ends)
+        (and-fails-second
+        (not (eqb (kindAmong (leavesFrom rows text first (v .end))) 0)
+        && eqb (getD segments (i * segmentRowSize) 0) (kindAmong (leavesFrom rows text first (v .end)))
+        && eqb (getD segments (i * segmentRowSize + 2) 0) (first + 1))
+        (ne-eqb (getD segments (i * segmentRowSize + 3) 0) (v .end - first)
+        (λ e. n (subst (SegmentEnd rows count first) (let q : v .end ≡ first + stated = omega (arith, v .ends .from, is, e) in q) (v .ends)))))
+
+    go : (first < count) ⊎ (count ≤ first) → false ≡ groupsStated segments 0 many 1 (bySegment (values (leafAt rows text) 0 count))
+    go (inl l) = refuted (segment-ends rows count first l)
+    go (inr l) = grouping-short w h (omega (arith, w .to))
 
 -- the bytes of one segment, within what a count holds
 pub few-lines : (L : Limits) → Lawful L → (n : ℕ) → lineCount L n ≤ n + 1

@@ -10,7 +10,7 @@ use native.Mathlib.Omega.{arith}
 use lib.Dec.{leb, eqb}
 use lib.ListN.{length, take, drop, getD, length-drop, take-append-drop, drop-of-length-le}
 use lib.Seq.{getD-take, getD-drop, drop-drop, take-all}
-use borrow.Author.Tests.{eqb-true}
+use borrow.Author.Tests.{eqb-true, eqb-false, not-true, not-false}
 use Rattle.laws.specs.Lists.{same, among}
 use Rattle.laws.specs.Tables.{values}
 use Rattle.laws.proofs.Cases.{equal-or-not}
@@ -26,9 +26,9 @@ use Rattle.table.specs.RowTests.{endToEnd, nextPlace, leafText, goOn, goOnFrom}
 use Rattle.table.proofs.EndToEnd.{ends-start, ends-later, ends-last}
 use Rattle.table.proofs.RowTests.{next-same, next-raised}
 use Rattle.write.specs.Local.{thirdPlace}
-use Rattle.write.specs.Tests.{Decides, placeOf, Laid, leavesFrom, separatorsAt, headerLeavesAt, soundLeaves}
+use Rattle.write.specs.Tests.{Decides, placeOf, PlacesFollow, Laid, SegmentEnd, finer, leavesFrom, separatorsAt, headerLeavesAt, soundLeaves}
 use Rattle.write.proofs.LeafTests.{Ending, ending-begins, ending-fails, ending-on, ending-done}
-use Rattle.write.proofs.PlaceTests.{five-at}
+use Rattle.write.proofs.PlaceTests.{five-at, Next, next-numbers}
 use Rattle.write.proofs.SegmentTests.{leaves-cons}
 
 -- the starts of rows that lie end to end
@@ -290,4 +290,50 @@ module _ {rows : List ℕ} {finish count i start : ℕ} (w : Laying rows finish 
   laying-done h = (
     λ e. record { ended = sym (ending-done (w .ending) h) ∙ e; next = λ k l. w .next k (omega arith) },
     λ e l. never-both (l .ended) (sym (ending-done (w .ending) h) ∙ e),
+  )
+
+-- segment numbers never fall along places that follow each other, so the last leaf of a stretch tells whether it is one segment
+module _ (rows : List ℕ) (count : ℕ) (sized : length rows ≡ count * leafRowSize) (next : PlacesFollow rows count) where
+  abbrev segment : ℕ → ℕ
+  segment k = getD rows (k * leafRowSize) 0
+
+  segment-step : (k : ℕ) → suc k < count → segment k ≤ segment (suc k)
+  segment-step k l = go (equal-or-not (segment k) (segment (suc k)))
+    where
+      numbers : Next (segment k ∷ finer rows (k * leafRowSize) 1) (segment (suc k) ∷ finer rows (suc k * leafRowSize) 1) (nextPlace (placeOf rows k) (placeOf rows (suc k)))
+      numbers = next-numbers rows (k * leafRowSize) (suc k * leafRowSize) (omega arith) (omega arith)
+
+      go : (segment k ≡ segment (suc k)) ⊎ (segment k ≡ segment (suc k) → ⊥) → segment k ≤ segment (suc k)
+      go (inl e) = omega arith
+      go (inr d) =
+          let raised : suc (segment k) ≡ segment (suc k) =
+          eqb-true (suc (segment k)) (segment (suc k))
+          (and-first (eqb (suc (segment k)) (segment (suc k))) (same (ones (finer rows (k * leafRowSize) 1)) (finer rows (suc k * leafRowSize) 1))
+          (sym (next-raised (segment k) (finer rows (k * leafRowSize) 1) (segment (suc k)) (finer rows (suc k * leafRowSize) 1) d) ∙ numbers .so ∙ next k l)) in
+          omega arith
+
+  segment-rises : (n k : ℕ) → k + n < count → segment k ≤ segment (k + n)
+  segment-rises zero k l = subst (λ (j : ℕ). segment k ≤ segment j) (let e : k ≡ k + 0 = omega arith in e) (omega arith)
+  segment-rises (suc n) k l =
+      subst (λ (j : ℕ). segment k ≤ segment j) (let e : suc (k + n) ≡ k + suc n = omega arith in e)
+      (omega (arith, segment-rises n k (omega arith), segment-step (k + n) (omega arith)))
+
+  rises : (a b : ℕ) → a ≤ b → b < count → segment a ≤ segment b
+  rises a b h l = subst (λ (j : ℕ). segment a ≤ segment j) (let e : a + (b - a) ≡ b = omega arith in e) (segment-rises (b - a) a (omega arith))
+
+  pub segment-whole : (first end : ℕ) → first < end → end ≤ count → segment (end - 1) ≡ segment first
+      → (end < count → segment end ≡ segment first → ⊥) → SegmentEnd rows count first end
+  segment-whole first end from to e other =
+      record {
+        from = from;
+        to = to;
+        within = λ k low high. omega (arith, rises first k low (omega arith), rises k (end - 1) (omega arith) (omega arith), e);
+        other = other;
+      }
+
+  pub segment-decides : (first end : ℕ) → first < end → end < count → segment (end - 1) ≡ segment first
+      → Decides (not (eqb (segment end) (segment first))) (SegmentEnd rows count first end)
+  segment-decides first end from to e = (
+    λ d. segment-whole first end from (omega arith) e (λ l. eqb-false (segment end) (segment first) (not-true (eqb (segment end) (segment first)) d)),
+    λ d w. w .other to (eqb-true (segment end) (segment first) (not-false (eqb (segment end) (segment first)) d)),
   )

@@ -4,7 +4,7 @@ use mathlib.Core.Bool.{Bool, true, false, not, _&&_, cond}
 use mathlib.Core.List.{List, [], _∷_, _++_}
 use mathlib.Core.Logic.{_⊎_, inl, inr}
 use mathlib.Core.Path.{_≡_, refl, sym, ap, ap₂, _∙_, subst}
-use Prim.Native.Nat.{ℕ, suc, _+_, _-_, _*_, _≤_, _<_}
+use Prim.Native.Nat.{ℕ, zero, suc, _+_, _-_, _*_, _≤_, _<_}
 use native.Mathlib.Omega.{arith}
 use native.Mathlib.Numerals.{add-one}
 use lib.Dec.{ltb, leb, eqb}
@@ -12,7 +12,7 @@ use lib.ListN.{length, take, drop, getD, length-append, length-drop}
 use lib.Seq.{getD-take, getD-drop, length-take-le}
 use borrow.Author.Tests.{eq-eqb, ne-eqb, lt-ltb, le-ltb}
 use Rattle.laws.specs.Tables.{values}
-use Rattle.laws.proofs.Cases.{less-or-not}
+use Rattle.laws.proofs.Cases.{less-or-not, equal-or-not}
 use Rattle.laws.proofs.Tests.{and-passed, and-both, and-fails-first, and-fails-second}
 use Rattle.form.specs.Names.{numberAmong}
 use Rattle.table.specs.Leaves.{Leaf}
@@ -88,6 +88,24 @@ module _ {rows : List ℕ} {count first i : ℕ} (w : Running rows count first i
 
   pub running-done : count ≤ i → SegmentEnd rows count first i
   running-done h = record { from = w .after; to = w .to; within = w .within; other = λ l e. let z : ⊥ = omega arith in z }
+
+-- each segment ends somewhere
+pub record SomeEnd (rows : List ℕ) (count first : ℕ) : Type 0 where
+  pub end : ℕ
+  pub ends : SegmentEnd rows count first end
+
+running-ends : (rows : List ℕ) (count first n i : ℕ) → count - i ≡ n → Running rows count first i → SomeEnd rows count first
+running-ends rows count first zero i e w = record { end = i; ends = running-done w (omega arith) }
+running-ends rows count first (suc n) i e w =
+    go (equal-or-not (getD rows (i * leafRowSize) 0) (getD rows (first * leafRowSize) 0)) (running-ends rows count first n (i + 1) (omega arith))
+  where
+    go : (getD rows (i * leafRowSize) 0 ≡ getD rows (first * leafRowSize) 0) ⊎ (getD rows (i * leafRowSize) 0 ≡ getD rows (first * leafRowSize) 0 → ⊥)
+        → (Running rows count first (i + 1) → SomeEnd rows count first) → SomeEnd rows count first
+    go (inl s) ih = ih (running-on w (omega arith) s)
+    go (inr d) ih = record { end = i; ends = running-stops w d }
+
+pub segment-ends : (rows : List ℕ) (count first : ℕ) → first < count → SomeEnd rows count first
+segment-ends rows count first h = running-ends rows count first (count - (first + 1)) (first + 1) refl (running-begins h)
 
 -- the leaf of a field
 module _ (rows : List ℕ) (field at end : ℕ) (h : at < end) (e : getD rows (at * leafRowSize + 1) 0 ≡ field) where

@@ -51,10 +51,14 @@ pub record InText (rows text : List ℕ) (count : ℕ) : Type 0 where
 abbrev pub placeOf : List ℕ → ℕ → List ℕ
 placeOf rows i = take 5 (drop (i * leafRowSize) rows)
 
+-- leaf rows of which each stands at the place that comes next
+abbrev pub PlacesFollow : List ℕ → ℕ → Type 0
+PlacesFollow rows count = (k : ℕ) → suc k < count → nextPlace (placeOf rows k) (placeOf rows (suc k)) ≡ true
+
 -- leaf rows that are laid out: their texts lie end to end, and each stands at the place that comes next
 pub record Laid (rows : List ℕ) (count finish : ℕ) : Type 0 where
   pub ended : endToEnd rows finish 0 count 0 ≡ true
-  pub next : (k : ℕ) → suc k < count → nextPlace (placeOf rows k) (placeOf rows (suc k)) ≡ true
+  pub next : PlacesFollow rows count
 
 -- the leaves that the rows from one up to another state
 abbrev pub leavesFrom : List ℕ → List ℕ → ℕ → ℕ → List Leaf

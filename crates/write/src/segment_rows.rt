@@ -24,7 +24,7 @@ ghost use Rattle.order.specs.Place.{misplaced};
 ghost use Rattle.table.specs.Rows.{textOf};
 ghost use Rattle.table.specs.Back.{leafAt};
 ghost use Rattle.table.specs.BySegment.{bySegment, kindAmong, contextAmong, writtenBytes};
-ghost use Rattle.write.specs.Tests.{Small, InText, leavesFrom, SegmentEnd, FieldLeaf, rowStates, groupsStated, kindColumn, ownerColumn, KindsStated};
+ghost use Rattle.write.specs.Tests.{Decides, Small, InText, PlacesFollow, leavesFrom, SegmentEnd, FieldLeaf, rowStates, groupsStated, kindColumn, ownerColumn, KindsStated};
 
 // Numbers of a segment row and of a leaf row.
 const SIZE: usize = 4;
@@ -45,6 +45,29 @@ fn segment_end(rows: &[u16], count: usize, first: usize) -> usize
         i += 1;
     }
     i
+}
+
+// Whether the segment that begins at the leaf `first` has so many leaves: the last of them stands in it and the leaf after that does not.
+// No leaf between has to be looked at, since segment numbers never fall along places that follow each other.
+fn has_leaves(rows: &[u16], count: usize, first: usize, leaves: usize) -> bool
+    requires { ⌜ (length (now rows) ≡ count * 7) × (first ≤ count) × PlacesFollow (now rows) count ⌝ }
+    ensures { λ r. ⌜ Decides r (SegmentEnd (now (rows .entry)) count first (first + leaves)) ⌝ }
+{
+    if leaves == 0 {
+        return false;
+    }
+    if count - first < leaves {
+        return false;
+    }
+    let end = first + leaves;
+    let segment = rows[first * LEAF];
+    if rows[(end - 1) * LEAF] != segment {
+        return false;
+    }
+    if end == count {
+        return true;
+    }
+    rows[end * LEAF] != segment
 }
 
 // A leaf of a field, or `end` where the next leaf is of that field, too.
@@ -134,19 +157,20 @@ pub(crate) fn grouped(
     text: &[u8],
     count: usize,
 ) -> bool
-    requires { ⌜ (length (now segments) ≡ many * 4) × InText (now rows) (now text) count ⌝ }
+    requires { ⌜ (length (now segments) ≡ many * 4) × InText (now rows) (now text) count × PlacesFollow (now rows) count ⌝ }
     ensures { λ r. ⌜ r ≡ groupsStated (now (segments .entry)) 0 many 1
         (bySegment (values (leafAt (now (rows .entry)) (now (text .entry))) 0 count)) ⌝ }
 {
     let mut first = 0;
     let mut i = 0;
     while i < many {
-        if first == count {
+        let leaves = wide(segments[i * SIZE + 3]);
+        if !has_leaves(rows, count, first, leaves) {
             return false;
         }
-        let end = segment_end(rows, count, first);
+        let end = first + leaves;
         let kind = kind_of(rows, text, count, first, end);
-        if !row_states(segments, i, kind, first + 1, end - first) {
+        if !row_states(segments, i, kind, first + 1, leaves) {
             return false;
         }
         first = end;

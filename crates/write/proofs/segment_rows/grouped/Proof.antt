@@ -1,11 +1,11 @@
 -- `write::segment_rows::grouped` meets its contract. The loop's invariant: the rows that are left give the whole.
 -- Assumes nothing.
-use mathlib.Core.Path.{_≡_, sym, ap, _∙_}
+use mathlib.Core.Path.{_≡_, sym, ap, ap₂, _∙_}
 use borrow.Author.Tests.{not-true, not-false}
 use Prim.Native.Nat.{ℕ, _+_, _-_}
 use lib.ListN.{getD}
 use Rattle.write.specs.Tests.{rowStates}
-use Rattle.write.proofs.Groups.{Grouping, grouping-begins, grouping-short, grouping-fails, grouping-on, grouping-done}
+use Rattle.write.proofs.Groups.{Grouping, grouping-begins, grouping-otherwise, grouping-fails, grouping-on, grouping-done}
 use native.Mathlib.Omega.{arith}
 use borrow.Author.Needs.{needs}
 use Rattle.write.proofs.segment_rows.grouped.Statement.{statement}
@@ -20,50 +20,72 @@ abbrev μ-loop : tie.MeasureT-loop
 loop-holds : tie.Need-loop-holds Inv-loop μ-loop
 loop-holds c = grouping-begins
 
+mul-wide : tie.Need-mul-wide Inv-loop μ-loop
+mul-wide c = omega arith
+
+add-wide : tie.Need-add-wide Inv-loop μ-loop
+add-wide c = omega arith
+
+mul-wide-2 : tie.Need-mul-wide-2 Inv-loop μ-loop
+mul-wide-2 c = omega arith
+
+shared-slice-read-wide : tie.Need-shared-slice-read-wide Inv-loop μ-loop
+shared-slice-read-wide c = omega arith
+
+wide-requires : tie.Need-wide-requires Inv-loop μ-loop
+wide-requires c κs = search needs
+
+has-leaves-requires : tie.Need-has-leaves-requires Inv-loop μ-loop
+has-leaves-requires c κs =
+    let at-pre = c .before .before .before .before .before .before .before .pre in
+    let at-loop = c .before .before .before .loop in
+    (at-pre .1 .sized, at-loop .inv .to, at-pre .2)
+
 returns : tie.Need-returns Inv-loop μ-loop
 returns c =
-    let at-loop = c .before .before .loop in
+    let at-loop = c .before .before .before .before .before .loop in
+    let at-wide = c .before .before .wide in
+    let at-has-leaves = c .before .has-leaves in
     let at-if1 = c .if1 in
-    grouping-short (at-loop .inv) (omega arith) (at-if1 .taken)
+    grouping-otherwise (at-loop .inv) (omega arith) (at-wide .ensures .0) (at-has-leaves .ensures .1 (not-true (at-has-leaves .result) (at-if1 .taken)))
 
-segment-end-requires : tie.Need-segment-end-requires Inv-loop μ-loop
-segment-end-requires c κs =
-    let at-pre = c .before .before .before .before .before .before .pre in
-    let at-loop = c .before .before .loop in
-    let at-if1 = c .if1 in
-    (at-pre .1 .sized, omega (arith, at-loop .inv .to, at-if1 .left))
+add-end : tie.Need-add-end Inv-loop μ-loop
+add-end c =
+    let at-loop = c .before .before .before .before .before .loop in
+    let at-pre = c .before .before .before .before .before .before .before .before .before .pre in
+    let at-wide = c .before .before .wide in
+    omega (arith, at-loop .inv .to, at-pre .1 .few, at-wide .ensures .1)
 
 kind-of-requires : tie.Need-kind-of-requires Inv-loop μ-loop
 kind-of-requires c κs =
-    let at-pre = c .before .before .before .before .before .before .before .pre in
-    let at-segment-end = c .segment-end in
-    (at-pre .1, omega (arith, at-segment-end .ensures .from), at-segment-end .ensures .to)
+    let at-has-leaves = c .before .has-leaves in
+    let at-if1 = c .if1 in
+    let at-pre = c .before .before .before .before .before .before .before .before .before .pre in
+    let v = at-has-leaves .ensures .0 (not-false (at-has-leaves .result) (at-if1 .left)) in
+    (at-pre .1, omega (arith, v .from), v .to)
 
 add-row-states : tie.Need-add-row-states Inv-loop μ-loop
 add-row-states c =
-    let at-loop = c .before .before .before .before .loop in
-    let at-pre = c .before .before .before .before .before .before .before .before .pre in
+    let at-loop = c .before .before .before .before .before .before .loop in
+    let at-pre = c .before .before .before .before .before .before .before .before .before .before .pre in
     omega (arith, at-loop .inv .to, at-pre .1 .few)
-
-sub-row-states : tie.Need-sub-row-states Inv-loop μ-loop
-sub-row-states c =
-    let at-segment-end = c .before .segment-end in
-    omega (arith, at-segment-end .ensures .from)
 
 row-states-requires : tie.Need-row-states-requires Inv-loop μ-loop
 row-states-requires c κs =
-    let at-pre = c .before .before .before .before .before .before .before .before .pre in
+    let at-pre = c .before .before .before .before .before .before .before .before .before .before .pre in
     omega (arith, at-pre .0)
 
 returns-2 : tie.Need-returns-2 Inv-loop μ-loop
 returns-2 c =
-    let at-loop = c .before .before .before .before .before .before .loop in
-    let at-segment-end = c .before .before .before .segment-end in
-    let at-args = c .before .before .before .before .before .before .before .before .before .before .args in
+    let at-loop = c .before .before .before .before .before .before .before .before .loop in
+    let at-has-leaves = c .before .before .before .before .has-leaves in
+    let at-if1 = c .before .before .before .if1 in
+    let at-args = c .before .before .before .before .before .before .before .before .before .before .before .before .args in
     let at-kind-of = c .before .before .kind-of in
+    let at-wide = c .before .before .before .before .before .wide in
     let at-row-states = c .before .row-states in
     let at-if2 = c .if2 in
-    grouping-fails (at-loop .inv) (omega arith) (at-segment-end .ensures) (ap (λ (k : ℕ). rowStates (at-args .segments .now) (at-loop .i) k (at-loop .first + 1) (at-segment-end .result - at-loop .first)) (sym (at-kind-of .ensures)) ∙ sym (at-row-states .ensures) ∙ not-true (at-row-states .result) (at-if2 .taken))
+    grouping-fails (at-loop .inv) (omega arith) (at-has-leaves .ensures .0 (not-false (at-has-leaves .result) (at-if1 .left))) (ap₂ (λ (k n : ℕ). rowStates (at-args .segments .now) (at-loop .i) k (at-loop .first + 1) n) (sym (at-kind-of .ensures)) (let e : at-loop .first + at-wide .result - at-loop .first ≡ at-wide .result = omega arith in e) ∙ sym (at-row-states .ensures) ∙ not-true (at-row-states .result) (at-if2 .taken))
 
 add-i : tie.Need-add-i Inv-loop μ-loop
 add-i c = omega arith
@@ -73,13 +95,15 @@ loop-less c = omega arith
 
 loop-again : tie.Need-loop-again Inv-loop μ-loop
 loop-again c =
-    let at-loop = c .before .before .before .before .before .before .loop in
-    let at-segment-end = c .before .before .before .segment-end in
-    let at-args = c .before .before .before .before .before .before .before .before .before .before .args in
+    let at-loop = c .before .before .before .before .before .before .before .before .loop in
+    let at-has-leaves = c .before .before .before .before .has-leaves in
+    let at-if1 = c .before .before .before .if1 in
+    let at-args = c .before .before .before .before .before .before .before .before .before .before .before .before .args in
     let at-kind-of = c .before .before .kind-of in
+    let at-wide = c .before .before .before .before .before .wide in
     let at-row-states = c .before .row-states in
     let at-if2 = c .if2 in
-    grouping-on (at-loop .inv) (omega arith) (at-segment-end .ensures) (ap (λ (k : ℕ). rowStates (at-args .segments .now) (at-loop .i) k (at-loop .first + 1) (at-segment-end .result - at-loop .first)) (sym (at-kind-of .ensures)) ∙ sym (at-row-states .ensures) ∙ not-false (at-row-states .result) (at-if2 .left))
+    grouping-on (at-loop .inv) (omega arith) (at-has-leaves .ensures .0 (not-false (at-has-leaves .result) (at-if1 .left))) (ap₂ (λ (k n : ℕ). rowStates (at-args .segments .now) (at-loop .i) k (at-loop .first + 1) n) (sym (at-kind-of .ensures)) (let e : at-loop .first + at-wide .result - at-loop .first ≡ at-wide .result = omega arith in e) ∙ sym (at-row-states .ensures) ∙ not-false (at-row-states .result) (at-if2 .left))
 
 returns-3 : tie.Need-returns-3 Inv-loop μ-loop
 returns-3 c =
@@ -93,11 +117,16 @@ grouped-spec =
     Inv-loop
     μ-loop
     loop-holds
+    mul-wide
+    add-wide
+    mul-wide-2
+    shared-slice-read-wide
+    wide-requires
+    has-leaves-requires
     returns
-    segment-end-requires
+    add-end
     kind-of-requires
     add-row-states
-    sub-row-states
     row-states-requires
     returns-2
     add-i

@@ -58,7 +58,7 @@ grouped-requires c κs =
     let at-args = c .before .before .before .before .before .before .before .before .args in
     let at-laid = c .before .before .before .laid in
     let at-if2 = c .before .before .if2 in
-    (at-pre .sized .segmentRows, (laid-in-text (at-args .leaves .now) (at-args .text .now) (at-args .card .leaves) (at-args .card .text) (at-pre .sized .leafRows) (omega (arith, at-pre .leaves, at-pre .small .leaves)) (at-pre .sized .text) (at-laid .ensures .0 (not-false (at-laid .result) (at-if2 .left)) .ended)))
+    (at-pre .sized .segmentRows, (laid-in-text (at-args .leaves .now) (at-args .text .now) (at-args .card .leaves) (at-args .card .text) (at-pre .sized .leafRows) (omega (arith, at-pre .leaves, at-pre .small .leaves)) (at-pre .sized .text) (at-laid .ensures .0 (not-false (at-laid .result) (at-if2 .left)) .ended)), at-laid .ensures .0 (not-false (at-laid .result) (at-if2 .left)) .next)
 
 returns-4 : tie.Need-returns-4
 returns-4 c =
