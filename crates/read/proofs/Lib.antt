@@ -9,6 +9,7 @@ pub mod LineLaying
 pub mod StartLaws
 pub mod SeenLaws
 pub mod UnderwayLaws
+pub mod NotingLaws
 pub mod SegmentLaws
 pub mod BegunLaws
 pub mod LeftLaws

@@ -177,6 +177,10 @@ first-stays : (done : List (List ℕ)) (last : List ℕ) (more : List (List ℕ)
 first-stays [] last more = refl
 first-stays (h ∷ ds) last more = refl
 
+-- the letters gathered of the open segment spell its kind
+pub kind-seen : (ps : Separators) (s : Survey) (done : List (List ℕ)) (last : List ℕ) → Seen ps done last s → kindSeen s ≡ kindOfSegment ps last
+kind-seen ps s done last w = ap (numberGathered kindNames) (w .kind) ∙ segment-kind ps last
+
 -- closing the open segment
 module _ (ps : Separators) (s : Survey) (table : List ℕ) (is : table ≡ followers) where
   abbrev segmentsOf : List (List ℕ) → List ℕ → List (List ℕ)
@@ -193,9 +197,6 @@ module _ (ps : Separators) (s : Survey) (table : List ℕ) (is : table ≡ follo
   unfolding kindsOf
   length-kinds ss = length-map ss (kindOfSegment ps)
 
-  kind-seen : (done : List (List ℕ)) (last : List ℕ) → Seen ps done last s → kindSeen s ≡ kindOfSegment ps last
-  kind-seen done last w = ap (numberGathered kindNames) (w .kind) ∙ segment-kind ps last
-
   -- what has been told to the watcher that the message's context begins
   watching-seen : (done : List (List ℕ)) (last : List ℕ) → Seen ps done last s → watching s ≡ watched (watcherOf done last) (kindsOf ps done)
   unfolding kindsOf watched contextIn
@@ -211,7 +212,7 @@ module _ (ps : Separators) (s : Survey) (table : List ℕ) (is : table ≡ follo
   module _ (done : List (List ℕ)) (last : List ℕ) (w : Seen ps done last s) where
     told-seen : toldNow (listed table) s ≡ tellOf (watched (watcherOf done last) (kindsOf ps done)) (kindOfSegment ps last)
     unfolding toldNow
-    told-seen = by-this-table table is (watching s) (kindSeen s) ∙ ap₂ tellOf (watching-seen done last w) (kind-seen done last w)
+    told-seen = by-this-table table is (watching s) (kindSeen s) ∙ ap₂ tellOf (watching-seen done last w) (kind-seen ps s done last w)
 
     place-here : suc 0 + length (kindsOf ps done) ≡ s .segments
     place-here = omega (arith, length-kinds done, w .count)
@@ -226,7 +227,7 @@ module _ (ps : Separators) (s : Survey) (table : List ℕ) (is : table ≡ follo
     unknown-closed : closed (listed table) s .unknown ≡ firstUnknown (kindsOf ps (segmentsOf done last))
     unfolding firstUnknown
     unknown-closed =
-        ap₂ (λ (a : ℕ) (b : Bool). firstOf a b (s .segments)) (w .judged .unknown) (zero-test (kindSeen s) ∙ ap (eqb 0) (kind-seen done last w))
+        ap₂ (λ (a : ℕ) (b : Bool). firstOf a b (s .segments)) (w .judged .unknown) (zero-test (kindSeen s) ∙ ap (eqb 0) (kind-seen ps s done last w))
         ∙ ap (firstOf (firstUnknown (kindsOf ps done)) (eqb 0 (kindOfSegment ps last))) (sym place-here)
         ∙ sym (first-append (eqb 0) 0 (kindsOf ps done) (kindOfSegment ps last))
         ∙ ap (firstFrom (eqb 0) 1) (sym (kinds-last done last))

@@ -28,12 +28,13 @@ use Rattle.line.proofs.Handing.{walkFrom-found, line-within}
 use Rattle.table.specs.Filed.{headerBytes}
 use Rattle.table.proofs.HeaderBytes.{header-bytes}
 use Rattle.read.specs.declared.survey.Survey.{Survey}
+use Rattle.read.specs.declared.survey.Step.the-variants.{On}
 use Rattle.read.specs.Classes.{classTable}
 use Rattle.read.specs.Scan.{run, marks}
 use Rattle.read.specs.Starting.{textFrom}
 use Rattle.read.specs.Seeing.{nothingSeen, withText, closed, nextSegment}
 use Rattle.read.specs.Surveying.{Known}
-use Rattle.read.specs.Underway.{Seen, SameFault, Left, Underway, LineBegun}
+use Rattle.read.specs.Underway.{Seen, SameFault, Left, Underway, LineBegun, StepOf}
 use Rattle.read.proofs.ScanLaws.{Bytes, run-text, marks-separators}
 use Rattle.read.proofs.StartLaws.{addendum-other, addendum-view, begins-segment, carries-on, carried-from, header-text}
 use Rattle.read.proofs.SeenLaws.{seen-begins, seen-text, seen-next, seen-closed}
@@ -243,7 +244,7 @@ module _ {L : Limits} {ps : Separators} {m : List ℕ} {at from : ℕ} {s : Surv
 
   -- the survey goes on behind the line
   pub line-seen : (e n : ℕ) → endedLine m at i ≡ Line e n
-      → (at < n) × Underway L ps m n (withText (ps .field) s (take (e - from) (drop from m)) separators)
+      → StepOf L ps m (s .segments) at (On (withText (ps .field) s (take (e - from) (drop from m)) separators) n)
   unfolding handedOut
   line-seen e n h =
       let here : e ≡ i = subst (EndedAt i) h (ended-at m at i) in
@@ -270,6 +271,7 @@ module _ {L : Limits} {ps : Separators} {m : List ℕ} {at from : ℕ} {s : Surv
           few-separators = omega (arith, few-marked);
           within = lies .2;
         },
+        refl,
       )
 
   -- or its fault is the message's

@@ -10,7 +10,7 @@ use Rattle.form.specs.declared.limits.Limits.{Limits}
 use Rattle.form.specs.declared.separators.Separators.{Separators}
 use Rattle.form.specs.declared.separators.Header.the-variants.{Sound}
 use Rattle.form.specs.Header.{headerOf}
-use Rattle.form.specs.Limits.{Lawful}
+use Rattle.form.specs.Limits.{form, Lawful}
 use Rattle.form.specs.Numbers.{manySegments, unknownKind, noContext, misplacedKind, manyLeaves}
 use Rattle.table.specs.Rows.{Table, segmentRowSize, leafRowSize}
 use Rattle.table.specs.Reading.{Outcome, refused, accepted}
@@ -18,12 +18,13 @@ use Rattle.read.specs.declared.Verdict.{Verdict}
 use Rattle.read.specs.declared.survey.Survey.{Survey}
 use Rattle.read.specs.Surveying.{placeSeen}
 
--- limits whose numbers fit a row's 16 bits
+-- limits whose numbers fit a row's 16 bits; the buffer of kinds has room for the segments of document 01's form
 pub record Small (L : Limits) : Type 0 where
   pub lawful : Lawful L
   pub bytes : L .bytes < 65535
   pub segments : L .segments < 65535
   pub leaves : L .leaves < 65535
+  pub kindRoom : L .segments ≤ form .segments
 
 -- a message with a sound header, and buffers of the stated sizes
 pub record Roomy (L : Limits) (ps : Separators) (message text segments leaves : List ℕ) : Type 0 where

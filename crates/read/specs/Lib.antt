@@ -3,6 +3,7 @@ pub mod Letters
 pub mod Scan
 pub mod Laying
 pub mod Starting
+pub mod Noting
 pub mod Surveying
 pub mod Seeing
 pub mod Underway

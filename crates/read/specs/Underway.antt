@@ -71,7 +71,7 @@ pub record LineBegun (L : Limits) (ps : Separators) (m : List ℕ) (at from : �
   pub within : from ≤ length m
   pub short : from ≤ at + L .line
 
--- what the line at `at` comes to: the survey goes on at a later place, or its fault is the message's
-abbrev pub StepOf : Limits → Separators → List ℕ → ℕ → Step → Type 0
-StepOf L ps m at (On s next) = (at < next) × Underway L ps m next s
-StepOf L ps m at (Fault n p) = (n ≡ faultNumber (walk L m)) × (n ≡ 0 → ⊥) × (p ≡ faultPlace (walk L m))
+-- what the line at `at` comes to: the survey goes on at a later place, in the same segment, or its fault is the message's
+abbrev pub StepOf : Limits → Separators → List ℕ → ℕ → ℕ → Step → Type 0
+StepOf L ps m segments at (On s next) = (at < next) × Underway L ps m next s × (s .segments ≡ segments)
+StepOf L ps m segments at (Fault n p) = (n ≡ faultNumber (walk L m)) × (n ≡ 0 → ⊥) × (p ≡ faultPlace (walk L m))

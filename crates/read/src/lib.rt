@@ -10,7 +10,8 @@ use survey::Survey;
 use survey::Surveyed;
 use table::Card;
 ghost use mathlib.Core.Path.{_≡_};
-ghost use Prim.Native.Nat.{ℕ, _<_};
+ghost use Prim.Native.Nat.{ℕ, _≤_, _<_};
+ghost use lib.ListN.{length};
 ghost use Rattle.form.specs.Limits.{form};
 ghost use Rattle.line.specs.Lines.{walk, faultNumber};
 ghost use Rattle.order.specs.Levels.{levelIn};
@@ -20,6 +21,7 @@ ghost use Rattle.read.specs.Answering.{Gives, ReadAs, answerOf};
 ghost use Rattle.read.specs.Classes.{classTable};
 ghost use Rattle.read.specs.Filling.{segmentsIn};
 ghost use Rattle.read.specs.Judging.{Small, Roomy, verdictAt, verdictOf};
+ghost use Rattle.read.specs.Noting.{Noted};
 ghost use Rattle.read.specs.Surveying.{Known};
 
 mod class;
@@ -93,7 +95,8 @@ fn read_within(
     }
 }
 
-// The same of a message whose header is sound: tests 4 to 11, and then the table.
+// The same of a message whose header is sound: tests 4 to 11, and then the table. The first pass notes the kinds for the second, so that
+// each is recognised once.
 fn read_sound(
     limits: Limits,
     separators: Separators,
@@ -112,12 +115,14 @@ fn read_sound(
     let mut class = [0u8; 256];
     class::set_classes(&mut class, separators);
     let followers = order::followers::table();
-    match survey::survey_message(&class, &followers, limits, separators, message) {
+    let mut kinds = [0u8; Form::SEGMENTS];
+    match survey::survey_message(&class, &followers, limits, separators, message, &mut kinds) {
         Surveyed::Whole(seen) => file(
             limits,
             separators,
             levels,
             &class,
+            &kinds,
             seen,
             message,
             text,
@@ -134,6 +139,7 @@ fn file(
     separators: Separators,
     levels: &[u8; 84],
     class: &[u8; 256],
+    kinds: &[u8],
     seen: Survey,
     message: &[u8],
     text: &mut [u8],
@@ -145,6 +151,8 @@ fn file(
     requires { ⌜ now class ≡ classTable separators ⌝ }
     requires { ⌜ faultNumber (walk limits (now message)) ≡ 0 ⌝ }
     requires { ⌜ Known separators (segmentsIn limits separators (now message)) seen ⌝ }
+    requires { ⌜ Noted separators (segmentsIn limits separators (now message)) (seen .segments) (now kinds) ⌝ }
+    requires { ⌜ limits .segments ≤ length (now kinds) ⌝ }
     ensures { λ r. ⌜ Gives (judged limits (levelIn (now (levels .entry))) separators (segmentsIn limits separators (now (message .entry))))
         (now (text .entry)) (now (segments .entry)) (now (leaves .entry))
         r (now (text .exit)) (now (segments .exit)) (now (leaves .exit)) ⌝ }

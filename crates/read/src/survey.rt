@@ -1,4 +1,5 @@
-// The first pass: every line is judged, segments and leaves are counted, kinds, context and order are looked at. Nothing is written.
+// The first pass: every line is judged, segments and leaves are counted, kinds, context and order are looked at. Nothing is written but
+// the kinds, which it notes for the second pass.
 use crate::letters::Letters;
 use crate::letters::gather;
 use crate::scan::scan;
@@ -13,11 +14,11 @@ use line::finder::text_stop;
 use order::watcher::Watcher;
 ghost use mathlib.Core.Path.{_≡_};
 ghost use Prim.Native.Nat.{_+_, _-_, _≤_, _<_};
-ghost use lib.ListN.{length, take, drop};
+ghost use lib.ListN.{length, set, take, drop};
 ghost use Rattle.laws.specs.Lists.{firstOf};
 ghost use Rattle.order.specs.Watcher.{listed};
 ghost use Rattle.read.specs.Classes.{classTable};
-ghost use Rattle.read.specs.Seeing.{nothingSeen, withText, watching, closed, nextSegment};
+ghost use Rattle.read.specs.Seeing.{nothingSeen, withText, kindSeen, watching, closed, nextSegment};
 ghost use Rattle.read.specs.Underway.{LineBegun, StepOf};
 ghost use Rattle.read.specs.Surveying.{Ready, SurveyOf};
 
@@ -96,12 +97,22 @@ impl Survey {
         next
     }
 
-    // The open segment is closed: its kind is judged and the watcher told.
-    fn closed(self, followers: &[u8; 847]) -> Survey
-        ensures { λ r. ⌜ r ≡ closed (listed (now (followers .entry))) self ⌝ }
+    // The kind of the open segment by number, from the letters gathered.
+    fn kind_number(self) -> u8
+        ensures { λ r. ⌜ r ≡ kindSeen self ⌝ }
     {
         let letters = self.kind;
-        let kind = Kind::spelled(letters.length, letters.first, letters.second, letters.third);
+        Kind::spelled(letters.length, letters.first, letters.second, letters.third)
+    }
+
+    // The open segment is closed: its kind is noted and judged, and the watcher told.
+    fn closed(self, followers: &[u8; 847], kinds: &mut [u8]) -> Survey
+        requires { ⌜ 1 ≤ self .segments ⌝ }
+        ensures { λ r. ⌜ (r ≡ closed (listed (now (followers .entry))) self)
+            × (now (kinds .exit) ≡ set (now (kinds .entry)) (self .segments - 1) (kindSeen self)) ⌝ }
+    {
+        let kind = self.kind_number();
+        note(kinds, self.segments, kind);
         let watcher = self.watching();
         let told = watcher.tell_by(followers, kind);
         let after = told.watcher;
@@ -140,6 +151,17 @@ impl Survey {
     }
 }
 
+// The kind of the segment with this number is noted, where there is room for it.
+fn note(kinds: &mut [u8], segment: usize, kind: u8)
+    requires { ⌜ 1 ≤ segment ⌝ }
+    ensures { λ _. ⌜ now (kinds .exit) ≡ set (now (kinds .entry)) (segment - 1) kind ⌝ }
+{
+    if kinds.len() < segment {
+        return;
+    }
+    kinds[segment - 1] = kind;
+}
+
 // The first place at which a test held, 0 standing for none: the earlier one, or this place where the test holds here.
 fn first_of(earlier: usize, holds: bool, place: usize) -> usize
     ensures { λ r. ⌜ r ≡ firstOf earlier holds place ⌝ }
@@ -161,7 +183,7 @@ fn see_line(
     seen: Survey,
 ) -> Step
     requires { ⌜ (1 ≤ limits .line) × (now class ≡ classTable separators) × LineBegun limits separators (now message) at from seen ⌝ }
-    ensures { λ r. ⌜ StepOf limits separators (now (message .entry)) at r ⌝ }
+    ensures { λ r. ⌜ StepOf limits separators (now (message .entry)) (seen .segments) at r ⌝ }
 {
     let stop = text_stop(limits.line, at, message.len());
     let scanned = scan(class, message, from, stop);
@@ -183,9 +205,10 @@ pub(crate) fn survey_message(
     limits: Limits,
     separators: Separators,
     message: &[u8],
+    kinds: &mut [u8],
 ) -> Surveyed
     requires { ⌜ Ready limits separators (now class) (now followers) (now message) ⌝ }
-    ensures { λ r. ⌜ SurveyOf limits separators (now (message .entry)) r ⌝ }
+    ensures { λ r. ⌜ SurveyOf limits separators (now (message .entry)) (now (kinds .exit)) r ⌝ }
 {
     let mut seen = Survey::begin();
     let mut at = 0;
@@ -205,7 +228,7 @@ pub(crate) fn survey_message(
         }
         from = text_from(message, at, separators.field);
         if from == at {
-            seen = seen.closed(followers);
+            seen = seen.closed(followers, kinds);
             if message.len() <= at {
                 return Surveyed::Whole(seen);
             }

@@ -3,6 +3,7 @@
 use mathlib.Core.Path.{_≡_, subst⁻¹, fun-ext}
 use mathlib.Core.List.{List}
 use Prim.Native.Nat.{ℕ, _<_}
+use native.Mathlib.Omega.{arith}
 use lib.Dec.{lit<}
 use borrow.Author.Needs.{needs}
 use Rattle.form.specs.Limits.{form}
@@ -16,7 +17,7 @@ use Rattle.read.proofs.read.Statement.{statement}
 use Rattle.read.proofs.read.Tie as tie
 
 form-small : Small form
-form-small = record { lawful = form-lawful; bytes = lit< tt; segments = lit< tt; leaves = lit< tt }
+form-small = record { lawful = form-lawful; bytes = lit< tt; segments = lit< tt; leaves = lit< tt; kindRoom = omega arith }
 
 levels-are : (table : List ℕ) → table ≡ levelTable → levelIn table ≡ level
 levels-are table e = fun-ext (λ (context : ℕ). fun-ext (λ (kind : ℕ). level-in-this table e context kind))

@@ -70,7 +70,7 @@ returns c =
     let at-with-text = c .with-text in
     let at-ended-line = c .before .before .before .before .ended-line in
     let q = scanned (c .before .before .before .before .before) in
-    subst (λ s. StepOf (at-args .limits) (at-args .separators) (at-args .message .now) (at-args .at) (On s (at-end .given .0 .1 .0))) (sym (at-with-text .ensures))
+    subst (λ s. StepOf (at-args .limits) (at-args .separators) (at-args .message .now) (at-args .seen .segments) (at-args .at) (On s (at-end .given .0 .1 .0))) (sym (at-with-text .ensures))
     (line-seen q (at-end .given .0 .0) (at-end .given .0 .1 .0) (sym (at-ended-line .ensures) ∙ at-end .given .1))
 
 returns-2 : tie.Need-returns-2

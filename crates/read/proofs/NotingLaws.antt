@@ -1,0 +1,140 @@
+-- Noting kinds: one kind more is noted where its segment is closed. A line that is no addendum carries nothing on, so the open segment is
+-- then whole: its letters spell the kind of the message's own segment.
+-- Assumes nothing.
+use mathlib.Core.Bool.{true, false}
+use mathlib.Core.List.{List, [], _∷_, _++_, append-nil}
+use mathlib.Core.Logic.{⊎-elim}
+use mathlib.Core.Path.{_≡_, refl, sym, ap, ap₂, _∙_, subst⁻¹}
+use Prim.Native.Nat.{ℕ, suc, _+_, _-_, _≤_, _<_}
+use native.Mathlib.Omega.{arith}
+use lib.ListN.{length, getD, set, drop, length-set}
+use lib.Seq.{getD-set-same, getD-set-other}
+use Rattle.laws.proofs.Cases.{equal-or-not}
+use Rattle.form.specs.declared.limits.Limits.{Limits}
+use Rattle.form.specs.declared.separators.Separators.{Separators}
+use Rattle.line.specs.Lines.{Lines, walkFrom, texts}
+use Rattle.line.specs.Finding.{foundAt, handedOut}
+use Rattle.line.specs.Joining.{addendum, carried, joined}
+use Rattle.line.specs.declared.finder.Found.{Found}
+use Rattle.line.specs.declared.finder.Found.the-variants.{Line, End, Fault}
+use Rattle.line.proofs.Joining.{addendum-front, carried-segment}
+use Rattle.line.proofs.Handing.{walkFrom-found}
+use Rattle.table.specs.Leaves.{kindOfSegment}
+use Rattle.table.specs.Rows.{kindsOf}
+use Rattle.read.specs.declared.survey.Survey.{Survey}
+use Rattle.read.specs.Filling.{segmentsIn}
+use Rattle.read.specs.Noting.{Noted}
+use Rattle.read.specs.Seeing.{nothingSeen, kindSeen}
+use Rattle.read.specs.Starting.{textFrom}
+use Rattle.read.specs.Underway.{Underway, LineBegun}
+use Rattle.read.proofs.StartLaws.{begins-segment}
+use Rattle.read.proofs.SeenLaws.{kind-seen}
+
+module _ (ps : Separators) (segments : List (List ℕ)) where
+  -- of no segment nothing need be noted
+  pub none-noted : (n : ℕ) (kinds : List ℕ) → n ≡ 0 → Noted ps segments n kinds
+  none-noted n kinds e i h room = absurd (omega arith)
+
+  -- and what is noted of some is noted of fewer
+  pub fewer-noted : (n fewer : ℕ) (kinds : List ℕ) → fewer ≤ n → Noted ps segments n kinds → Noted ps segments fewer kinds
+  fewer-noted n fewer kinds less w i h room = w i (omega arith) room
+
+  -- the next kind stored where it belongs; past the buffer's end the store does nothing, and nothing is asked
+  pub one-more-noted : (n kind : ℕ) (kinds : List ℕ) → kind ≡ getD (kindsOf ps segments) n 0 → Noted ps segments n kinds
+      → Noted ps segments (suc n) (set kinds n kind)
+  one-more-noted n kind kinds e before i h room =
+      let inside : i < length kinds = omega (arith, length-set kinds n kind) in
+      ⊎-elim
+      (λ (here : i ≡ n).
+      ap (λ (j : ℕ). getD (set kinds n kind) j 0) here
+      ∙ getD-set-same kinds n kind 0 (omega arith)
+      ∙ e
+      ∙ ap (λ (j : ℕ). getD (kindsOf ps segments) j 0) (sym here))
+      (λ (other : i ≡ n → ⊥). getD-set-other kinds n i kind 0 other ∙ before i (omega arith) inside)
+      (equal-or-not i n)
+
+-- the kind of a segment behind some others
+kind-behind : (ps : Separators) (done : List (List ℕ)) (last : List ℕ) (more : List (List ℕ))
+    → getD (kindsOf ps (done ++ last ∷ more)) (length done) 0 ≡ kindOfSegment ps last
+unfolding kindsOf
+kind-behind ps [] last more = refl
+kind-behind ps (h ∷ ds) last more = kind-behind ps ds last more
+
+-- a line that is no addendum carries nothing on, nor does the end or a fault
+module _ (L : Limits) (f : ℕ) (m : List ℕ) (at : ℕ) (other : addendum f (drop at m) ≡ false) where
+  nothing-handed : (found : Found) → carried f (texts (handedOut L m at found)) ≡ []
+  unfolding handedOut texts carried
+  nothing-handed (Line e n) =
+      carried-segment f _ (texts (walkFrom L n (drop n m))) (addendum-front f (e - at) (drop at m) other)
+  nothing-handed End = refl
+  nothing-handed (Fault n p) = refl
+
+  nothing-carried : 1 ≤ L .line → carried f (texts (walkFrom L at (drop at m))) ≡ []
+  nothing-carried one =
+      ap (λ (ls : Lines). carried f (texts ls)) (walkFrom-found m at L one) ∙ nothing-handed (foundAt L m at)
+
+-- the first pass has come to a line: the kinds of the closed segments are noted, in a buffer that keeps its length
+pub record Noting (L : Limits) (ps : Separators) (m : List ℕ) (at from : ℕ) (s : Survey) (kinds₀ kinds : List ℕ) : Type 0 where
+  pub begun : LineBegun L ps m at from s
+  pub noted : Noted ps (segmentsIn L ps m) (s .segments - 1) kinds
+  pub kept : length kinds ≡ length kinds₀
+
+module _ {L : Limits} {ps : Separators} {m : List ℕ} where
+  -- before the first line no segment is closed
+  pub noting-begins : {s : Survey} (kinds : List ℕ) → s ≡ nothingSeen → LineBegun L ps m 0 7 nothingSeen → Noting L ps m 0 7 s kinds kinds
+  noting-begins {s} kinds e w =
+      record {
+        begun = subst⁻¹ (LineBegun L ps m 0 7) e w;
+        noted = none-noted ps (segmentsIn L ps m) (s .segments - 1) kinds (omega (arith, ap (λ (t : Survey). t .segments) e));
+        kept = refl;
+      }
+
+  -- a line has been seen, which joined to the open segment
+  module _ {at from next : ℕ} {s more : Survey} {kinds₀ kinds : List ℕ}
+      (w : Noting L ps m at from s kinds₀ kinds) (on : Underway L ps m next more) (same : more .segments ≡ s .segments) where
+    still-noted : Noted ps (segmentsIn L ps m) (more .segments - 1) kinds
+    still-noted = fewer-noted ps (segmentsIn L ps m) (s .segments - 1) (more .segments - 1) kinds (omega (arith, same)) (w .noted)
+
+    -- and the next one is an addendum
+    pub noting-goes-on : {then : ℕ} → LineBegun L ps m next then more → Noting L ps m next then more kinds₀ kinds
+    noting-goes-on begun = record { begun = begun; noted = still-noted; kept = w .kept }
+
+    -- or it is none, and the open segment is closed: it is whole, so the kind noted is that of the message's segment
+    module _ {then : ℕ} {kinds′ : List ℕ} (is-then : then ≡ textFrom (ps .field) next (drop next m)) (here : then ≡ next) (wide : 7 ≤ L .line)
+        (stored : kinds′ ≡ set kinds (more .segments - 1) (kindSeen more)) where
+      whole-segments : segmentsIn L ps m ≡ on .done ++ on .last ∷ joined (ps .field) (texts (walkFrom L next (drop next m)))
+      whole-segments =
+          let rest : List (List ℕ) = joined (ps .field) (texts (walkFrom L next (drop next m))) in
+          let other : addendum (ps .field) (drop next m) ≡ false = begins-segment (ps .field) next (drop next m) (sym is-then ∙ here) in
+          on .left .joins
+          ∙ ap (λ (t : List ℕ). on .done ++ (on .last ++ t) ∷ rest) (nothing-carried L (ps .field) m next other (omega (arith, wide)))
+          ∙ ap (λ (t : List ℕ). on .done ++ t ∷ rest) (append-nil (on .last))
+
+      kind-closed : kindSeen more ≡ getD (kindsOf ps (segmentsIn L ps m)) (more .segments - 1) 0
+      kind-closed =
+          let place : more .segments - 1 ≡ length (on .done) = omega (arith, on .seen .count) in
+          kind-seen ps more (on .done) (on .last) (on .seen)
+          ∙ sym (kind-behind ps (on .done) (on .last) (joined (ps .field) (texts (walkFrom L next (drop next m)))))
+          ∙ sym (ap₂ (λ (ss : List (List ℕ)) (i : ℕ). getD (kindsOf ps ss) i 0) whole-segments place)
+
+      pub closed-noted : {n : ℕ} → n ≡ more .segments → Noted ps (segmentsIn L ps m) n kinds′
+      closed-noted {n} count =
+          subst⁻¹ (Noted ps (segmentsIn L ps m) n) stored
+          (fewer-noted ps (segmentsIn L ps m) (suc (more .segments - 1)) n (set kinds (more .segments - 1) (kindSeen more))
+          (omega (arith, count, on .seen .count))
+          (one-more-noted ps (segmentsIn L ps m) (more .segments - 1) (kindSeen more) kinds kind-closed still-noted))
+
+      pub closed-kept : length kinds′ ≡ length kinds₀
+      closed-kept = ap length stored ∙ length-set kinds (more .segments - 1) (kindSeen more) ∙ w .kept
+
+      -- the next segment begun
+      pub noting-next : {opened : Survey} → opened .segments ≡ more .segments + 1 → LineBegun L ps m next then opened
+          → Noting L ps m next then opened kinds₀ kinds′
+      noting-next {opened} count begun =
+          record {
+            begun = begun;
+            noted =
+                fewer-noted ps (segmentsIn L ps m) (more .segments) (opened .segments - 1) kinds′ (omega (arith, count))
+                (closed-noted refl);
+            kept = closed-kept;
+          }
