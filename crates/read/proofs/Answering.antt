@@ -24,6 +24,7 @@ use Rattle.line.specs.Lines.{walk, faultNumber, faultPlace}
 use Rattle.read.specs.Classes.{classTable}
 use Rattle.read.specs.Filling.{segmentsIn, Fillable, Filled}
 use Rattle.read.specs.Judging.{Roomy, verdictAt, verdictOf, decided}
+use Rattle.read.specs.Noting.{Noted}
 use Rattle.read.specs.Surveying.{Known, placeSeen}
 
 module _ {o : Outcome} {text segments leaves : List ℕ} where
@@ -117,6 +118,11 @@ passed-fillable r c f k p =
       segmentRoom = r .segmentRoom;
       leafRoom = r .leafRoom;
     }
+
+-- as many kinds are noted as there are segments
+pub noted-whole : (kinds : List ℕ) {ps : Separators} {segments : List (List ℕ)} {s : Survey} → Known ps segments s
+    → Noted ps segments (s .segments) kinds → Noted ps segments (length segments) kinds
+noted-whole kinds k noted i before = noted i (omega (arith, k .count))
 
 -- a message by its lines: judged where they are sound, else refused by its first fault
 module _ (L : Limits) (levels : ℕ → ℕ → ℕ) (message : List ℕ) (ps : Separators) where

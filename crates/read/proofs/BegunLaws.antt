@@ -20,14 +20,11 @@ use Rattle.table.specs.OnePass.{passOver}
 use Rattle.table.proofs.Counting.{length-segmentLeaves, length-headerLeaves}
 use Rattle.table.proofs.Growing.{filed-joined, filed-next, pass-joined, pass-next, pass-ended}
 use Rattle.table.proofs.RowsGrowing.{leavesBehind, messageLeaves-last, allLeaves-last, kindsOf-last, length-kinds, length-messageLeaves, length-segmentRows, segmentRows-last}
-use Rattle.read.specs.declared.letters.Letters.{Letters}
 use Rattle.read.specs.declared.fill.Filling.{Filling}
 use Rattle.read.specs.declared.fill.Line.{Line}
 use Rattle.read.specs.Classes.{classTable}
-use Rattle.read.specs.Letters.{fresh, withBytes}
 use Rattle.read.specs.Laying.{nextSegment, Held}
-use Rattle.read.specs.Segments.{segmentRow, kindSpelled, ClosedBy, begunAfter, lineText, LineFilled, closedRows, Begun}
-use Rattle.read.proofs.LetterLaws.{bytes-none, bytes-append, segment-kind}
+use Rattle.read.specs.Segments.{segmentRow, ClosedBy, begunAfter, lineText, LineFilled, closedRows, Begun}
 use Rattle.read.proofs.HeldLaws.{Ends, segment-closes, held-segment, held-ended}
 
 -- each segment has a leaf
@@ -91,12 +88,9 @@ module _ {lv : ℕ → ℕ} {ps : Separators} {text₀ segments₀ leaves₀ : L
         length-append (allLeaves ps closed) (leavesBehind ps closed begun),
       )
 
-  pub begun-kind : kindSpelled (f .kind) ≡ kindOfSegment ps begun
-  begun-kind = ap kindSpelled (b .kind) ∙ segment-kind ps begun
-
   -- a line is joined
   pub begun-joined : {class message : List ℕ} {from : ℕ} {r : Line} {text′ leaves′ : List ℕ} → class ≡ classTable ps
-      → Without CR (lineText class message from) → LineFilled class (ps .field) message from f text leaves r text′ leaves′
+      → Without CR (lineText class message from) → LineFilled class message from f text leaves r text′ leaves′
       → Begun lv ps text₀ segments₀ leaves₀ closed (begun ++ lineText class message from) (r .filling) nearest text′ segments leaves′
   begun-joined {class} {message} {from} {r} {text′} {leaves′} is clear filled =
       let t : List ℕ = lineText class message from in
@@ -108,22 +102,15 @@ module _ {lv : ℕ → ℕ} {ps : Separators} {text₀ segments₀ leaves₀ : L
         counted = filled .laid .counted;
         number = filled .laid .segment ∙ b .number;
         first = filled .first ∙ b .first;
-        kind =
-            filled .kind
-            ∙ ap (λ (k : Letters). withBytes (ps .field) k t) (b .kind)
-            ∙ sym (bytes-append (ps .field) (fresh 1) begun t);
         rows = b .rows;
         known = b .known;
       }
 
-  -- the segment is closed: its row comes behind the rows
-  module _ {levels : List ℕ} {context : ℕ} {nearest′ segments′ leaves′ : List ℕ} (by : (k : ℕ) → lv k ≡ levelIn levels context k)
-      (w : ClosedBy f levels context nearest segments leaves nearest′ segments′ leaves′) where
-    abbrev k : ℕ
-    k = kindSpelled (f .kind)
-
-    place-by : placeOf k (levelIn levels context k) ≡ placeOf (kindOfSegment ps begun) (lv (kindOfSegment ps begun))
-    place-by = ap (placeOf k) (sym (by k)) ∙ ap (λ (j : ℕ). placeOf j (lv j)) begun-kind
+  -- the segment is closed by its kind: its row comes behind the rows
+  module _ {kind : ℕ} {levels : List ℕ} {context : ℕ} {nearest′ segments′ leaves′ : List ℕ} (by : (k : ℕ) → lv k ≡ levelIn levels context k)
+      (is : kind ≡ kindOfSegment ps begun) (w : ClosedBy f kind levels context nearest segments leaves nearest′ segments′ leaves′) where
+    place-by : placeOf kind (levelIn levels context kind) ≡ placeOf (kindOfSegment ps begun) (lv (kindOfSegment ps begun))
+    place-by = ap (placeOf kind) (sym (by kind)) ∙ ap (λ (j : ℕ). placeOf j (lv j)) is
 
     owner-by : w .owner ≡ ownerBehind lv ps closed (kindOfSegment ps begun)
     owner-by = w .owns .owner ∙ ap₂ (λ (n : List ℕ) (p : ℕ). getD n p 0) (b .known) place-by
@@ -136,7 +123,7 @@ module _ {lv : ℕ → ℕ} {ps : Separators} {text₀ segments₀ leaves₀ : L
         = omega (arith, length-closedRows lv ps closed, b .number) in
         w .row
         ∙ ap₂ (λ (s r : List ℕ). sets s ((f .laying .segment - 1) * 4) r) (b .rows)
-        (ap₂ (λ (x o : ℕ). segmentRow x o (f .first / 7 + 1) ((f .laying .row + 7 - f .first) / 7)) begun-kind owner-by
+        (ap₂ (λ (x o : ℕ). segmentRow x o (f .first / 7 + 1) ((f .laying .row + 7 - f .first) / 7)) is owner-by
         ∙ ap₂ (λ (n m : ℕ). segmentRow (kindOfSegment ps begun) (ownerBehind lv ps closed (kindOfSegment ps begun)) n m) first count)
         ∙ sets-behind segments₀ (closedRows lv ps closed)
         (segmentRow (kindOfSegment ps begun) (ownerBehind lv ps closed (kindOfSegment ps begun)) (1 + length (allLeaves ps closed))
@@ -167,7 +154,6 @@ module _ {lv : ℕ → ℕ} {ps : Separators} {text₀ segments₀ leaves₀ : L
           counted = segment-closes (f .laying) .counted (b .counted);
           number = omega (arith, b .number, length-append closed (begun ∷ []));
           first = omega (arith, begun-leaves);
-          kind = sym (bytes-none (ps .field) (fresh 1));
           rows = closed-rows;
           known = closed-known;
         }

@@ -25,14 +25,12 @@ use Rattle.table.specs.Filed.{headerBytes, Filed}
 use Rattle.table.specs.OnePass.{passOver}
 use Rattle.table.proofs.HeaderBytes.{header-bytes}
 use Rattle.table.proofs.Growing.{count-leaves}
-use Rattle.read.specs.declared.letters.Letters.{Letters}
 use Rattle.read.specs.declared.fill.Filling.{Filling}
 use Rattle.read.specs.Scan.{run}
-use Rattle.read.specs.Letters.{fresh, withLetter, withByte, withBytes}
 use Rattle.read.specs.Filling.{segmentsIn, Fillable}
+use Rattle.read.specs.Noting.{Noted}
 use Rattle.read.specs.Segments.{HeaderPut, lineText, lineAfter, closedRows, Begun, Left, Came, LevelsBelow, Surveyed, AtLine}
 use Rattle.read.proofs.ScanLaws.{Bytes}
-use Rattle.read.proofs.LetterLaws.{byte-separator, byte-letter, bytes-settled}
 use Rattle.read.proofs.LeftLaws.{no-addendum, line-within, left-begins, leaves-line}
 use Rattle.read.proofs.StandLaws.{readable}
 
@@ -78,25 +76,14 @@ module _ {m : List ℕ} {ps : Separators} (s : SoundHeader m ps) where
             none;
       }
 
-  -- and the letters of the kind are gathered
-  header-letters : withBytes (ps .field) (fresh 1) (headerBytes ps) ≡ record { left = 0; length = 1; first = 72; second = 0; third = 0 }
-  unfolding headerBytes withBytes withLetter fresh
-  header-letters =
-      let rest : List ℕ = ps .subfield ∷ ps .repeater ∷ ps .escape ∷ ps .subsubfield ∷ ps .field ∷ [] in
-      let letter : Letters = record { left = 1; length = 1; first = 72; second = 0; third = 0 } in
-      let settled : Letters = record { left = 0; length = 1; first = 72; second = 0; third = 0 } in
-      ap (λ (l : Letters). withBytes (ps .field) (withByte (ps .field) l (ps .field)) rest)
-      (byte-letter (ps .field) (fresh 1) 72 (λ z. omega arith) (λ z. s .allowed .field .noCapital (omega arith) (omega arith)) refl)
-      ∙ ap (λ (l : Letters). withBytes (ps .field) l rest) (byte-separator (ps .field) letter (ps .field) (λ z. omega arith) refl)
-      ∙ bytes-settled (ps .field) settled rest refl
-
 -- what the second pass starts with
-pub surveyed : (levels : List ℕ) {L : Limits} {ps : Separators} {class m text segments leaves : List ℕ} {context : ℕ}
-    → Fillable L ps class m text segments leaves → context ≡ contextIn ps (segmentsIn L ps m) → LevelsBelow levels → Bytes m
-    → Surveyed (record { limits = L; text = text; segments = segments; leaves = leaves }) class levels context ps m
-surveyed levels given named below bytes = record { given = given; named = named; below = below; bytes = bytes }
+pub surveyed : (kinds levels : List ℕ) {L : Limits} {ps : Separators} {class m text segments leaves : List ℕ} {context : ℕ}
+    → Fillable L ps class m text segments leaves → context ≡ contextIn ps (segmentsIn L ps m) → LevelsBelow levels
+    → Noted ps (segmentsIn L ps m) (length (segmentsIn L ps m)) kinds → length (segmentsIn L ps m) ≤ length kinds → Bytes m
+    → Surveyed (record { limits = L; text = text; segments = segments; leaves = leaves }) class kinds levels context ps m
+surveyed kinds levels given named below noted all bytes = record { given = given; named = named; below = below; noted = noted; all = all; bytes = bytes }
 
-module _ {c : Came} {class levels : List ℕ} {context : ℕ} {ps : Separators} {m : List ℕ} (y : Surveyed c class levels context ps m) where
+module _ {c : Came} {class kinds levels : List ℕ} {context : ℕ} {ps : Separators} {m : List ℕ} (y : Surveyed c class kinds levels context ps m) where
   header : SoundHeader m ps
   header = sound-header m ps (y .given .header)
 
@@ -129,13 +116,12 @@ module _ {c : Came} {class levels : List ℕ} {context : ℕ} {ps : Separators} 
           counted = put .counted;
           number = put .number;
           first = put .first;
-          kind = put .kind ∙ sym (header-letters header);
           rows = refl;
           known = rows;
         }
 
     -- the rest of the first line goes to the first segment
-    pub header-line : AtLine c class levels context ps m 7 r nearest text (c .segments) leaves
+    pub header-line : AtLine c class kinds levels context ps m 7 r nearest text (c .segments) leaves
     header-line =
         record {
           surveyed = y;

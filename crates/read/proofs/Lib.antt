@@ -10,6 +10,7 @@ pub mod StartLaws
 pub mod SeenLaws
 pub mod UnderwayLaws
 pub mod NotingLaws
+pub mod KindLookup
 pub mod SegmentLaws
 pub mod BegunLaws
 pub mod LeftLaws

@@ -1,10 +1,10 @@
 -- What the functions around a segment give, from what their callees give: the header's leaves, a line, a segment closed.
 -- Assumes nothing.
 use mathlib.Core.List.{List, [], _∷_}
-use mathlib.Core.Path.{_≡_, refl, ap, ap₂, _∙_, subst, subst⁻¹}
+use mathlib.Core.Path.{_≡_, refl, ap, _∙_, subst, subst⁻¹}
 use Prim.Native.Nat.{ℕ, _+_, _*_, _-_, _/_}
 use native.Mathlib.Omega.{arith}
-use lib.ListN.{take, drop}
+use lib.ListN.{drop}
 use lib.Seq.{sets}
 use Rattle.form.specs.declared.separators.Separators.{Separators}
 use Rattle.line.specs.Finding.{lowRun}
@@ -14,54 +14,42 @@ use Rattle.table.specs.Filed.{headerBytes}
 use Rattle.table.specs.OnePass.{headerPass}
 use Rattle.read.specs.declared.lay.Laying.{Laying}
 use Rattle.read.specs.declared.lay.Laid.{Laid}
-use Rattle.read.specs.declared.letters.Letters.{Letters}
 use Rattle.read.specs.declared.fill.Filling.{Filling}
-use Rattle.read.specs.Scan.{run}
-use Rattle.read.specs.Letters.{fresh, withBytes}
 use Rattle.read.specs.Laying.{placeOf, rowOf, nextLeaf, nextSegment, Counted, Held, LaidBy}
-use Rattle.read.specs.Segments.{segmentRow, kindSpelled, ClosedBy, begunAfter, HeaderPut, LineFilled}
+use Rattle.read.specs.Segments.{segmentRow, ClosedBy, begunAfter, HeaderPut, LineFilled}
 use Rattle.read.proofs.HeldLaws.{leaf-closes, held-begins, held-copied, held-put}
 
--- a segment closed, from the kind, the level and the owner that were told
+-- a segment closed, from the level and the owner that were told of its kind
 pub closed-by : {f : Filling} {levels : List ℕ} {context : ℕ} {nearest segments leaves nearest′ segments′ leaves′ : List ℕ} {kind level owner : ℕ}
-    → kind ≡ kindSpelled (f .kind) → level ≡ levelIn levels context kind → Owned nearest nearest′ (f .laying .segment) kind level owner
+    → level ≡ levelIn levels context kind → Owned nearest nearest′ (f .laying .segment) kind level owner
     → leaves′ ≡ sets leaves (f .laying .row) (rowOf (f .laying))
     → segments′ ≡ sets segments ((f .laying .segment - 1) * 4) (segmentRow kind owner (f .first / 7 + 1) ((f .laying .row + 7 - f .first) / 7))
-    → ClosedBy f levels context nearest segments leaves nearest′ segments′ leaves′
-closed-by {f} {levels} {context} {nearest} {segments} {nearest′ = nearest′} {kind = kind} {owner = owner} is told owns leaf row =
+    → ClosedBy f kind levels context nearest segments leaves nearest′ segments′ leaves′
+closed-by {f} {nearest = nearest} {nearest′ = nearest′} {kind = kind} {owner = owner} told owns leaf row =
     record {
       leafRow = leaf;
       owner = owner;
-      owns =
-          subst (λ (k : ℕ). Owned nearest nearest′ (f .laying .segment) k (levelIn levels context k) owner) is
-          (subst (λ (l : ℕ). Owned nearest nearest′ (f .laying .segment) kind l owner) told owns);
-      row =
-          row
-          ∙ ap (λ (k : ℕ). sets segments ((f .laying .segment - 1) * 4) (segmentRow k owner (f .first / 7 + 1) ((f .laying .row + 7 - f .first) / 7))) is;
+      owns = subst (λ (l : ℕ). Owned nearest nearest′ (f .laying .segment) kind l owner) told owns;
+      row = row;
     }
 
 -- the segment after it
-pub begun-after : (f : Filling) {l : Laying} {k : Letters} → l ≡ nextSegment (f .laying) → k ≡ fresh 1
-    → record { laying = l; first = f .laying .row + 7; kind = k } ≡ begunAfter f
-begun-after f e g = ap₂ {C = Filling} (λ (l : Laying) (k : Letters). record { laying = l; first = f .laying .row + 7; kind = k }) e g
+pub begun-after : (f : Filling) {l : Laying} → l ≡ nextSegment (f .laying) → record { laying = l; first = f .laying .row + 7 } ≡ begunAfter f
+begun-after f e = ap {B = Filling} (λ (l : Laying). record { laying = l; first = f .laying .row + 7 }) e
 
 -- a line
-pub line-filled : {class : List ℕ} {field : ℕ} {message : List ℕ} {from : ℕ} {f : Filling} {text leaves text′ leaves′ : List ℕ}
-    {laid : Laid} {kind : Letters} {next : ℕ}
+pub line-filled : {class message : List ℕ} {from : ℕ} {f : Filling} {text leaves text′ leaves′ : List ℕ}
+    {laid : Laid} {next : ℕ}
     → LaidBy class message from (f .laying) text leaves laid text′ leaves′
-    → kind ≡ withBytes field (f .kind) (take (laid .end - from) (drop from message))
     → next ≡ laid .end + 1 + lowRun (drop (laid .end + 1) message)
-    → LineFilled class field message from f text leaves
-    (record { filling = record { laying = laid .laying; first = f .first; kind = kind }; next = next }) text′ leaves′
-line-filled {class} {field} {message} {from} {f} {text} {leaves} {text′} {leaves′} {laid} d gathered after =
-    let length-of : laid .end - from ≡ run class (drop from message) = omega (arith, d .ends) in
+    → LineFilled class message from f text leaves (record { filling = record { laying = laid .laying; first = f .first }; next = next }) text′ leaves′
+line-filled {class} {message} {from} {f} {text} {leaves} {text′} {leaves′} {laid} d after =
     record {
       laid =
           subst (λ (e : ℕ). LaidBy class message from (f .laying) text leaves (record { laying = laid .laying; end = e }) text′ leaves′)
           (d .ends) d;
       next = after ∙ ap (λ (e : ℕ). e + 1 + lowRun (drop (e + 1) message)) (d .ends);
       first = refl;
-      kind = gathered ∙ ap (λ (n : ℕ). withBytes field (f .kind) (take n (drop from message))) length-of;
     }
 
 -- the header: the leaf of the letter, and the leaf of the four separators after the first
@@ -91,7 +79,7 @@ module _ (ps : Separators) (text leaves : List ℕ) where
 
   pub header-put : {leaves₁ leaves₂ : List ℕ} {l : Laying} → leaves₁ ≡ sets leaves 0 (rowOf nameLeaf)
       → leaves₂ ≡ sets leaves₁ 7 (rowOf statedLeaf) → l ≡ nextLeaf statedLeaf 1
-      → HeaderPut ps text leaves (record { laying = l; first = 0; kind = record { left = 0; length = 1; first = 72; second = 0; third = 0 } })
+      → HeaderPut ps text leaves (record { laying = l; first = 0 })
       (sets text 0 (72 ∷ stated)) leaves₂
   unfolding nextLeaf
   header-put {leaves₁} {leaves₂} {l} name rest is =
@@ -104,5 +92,4 @@ module _ (ps : Separators) (text leaves : List ℕ) where
         number = ap (λ (k : Laying). k .segment) is;
         out = ap (λ (k : Laying). k .out) is;
         first = refl;
-        kind = refl;
       }

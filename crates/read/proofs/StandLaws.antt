@@ -1,12 +1,12 @@
 -- The second pass line by line: there is room for a line and for the rows it closes; after it the pass stands at the next place, where an
 -- addendum goes on with the segment begun, any other line with the next one, and at the message's end the buffers hold the table.
 -- Assumes nothing.
-use mathlib.Core.List.{List, [], _∷_, _++_}
+use mathlib.Core.List.{List, [], _∷_, _++_, append-assoc}
 use mathlib.Core.Logic.{⊎-elim}
 use mathlib.Core.Path.{_≡_, refl, sym, ap, _∙_, subst, subst⁻¹}
-use Prim.Native.Nat.{ℕ, _+_, _*_, _≤_, _<_}
+use Prim.Native.Nat.{ℕ, _+_, _*_, _-_, _≤_, _<_}
 use native.Mathlib.Omega.{arith}
-use lib.ListN.{length, drop}
+use lib.ListN.{length, getD, drop}
 use lib.Seq.{sets, length-sets}
 use Rattle.laws.proofs.Tests.{Tested, passed, failed, tested}
 use Rattle.laws.proofs.Cases.{less-or-not}
@@ -16,7 +16,7 @@ use Rattle.line.specs.Joining.{addendum}
 use Rattle.order.specs.Levels.{levelIn}
 use Rattle.order.specs.Owners.{owners}
 use Rattle.order.proofs.Owner.{owned-owners}
-use Rattle.table.specs.Leaves.{messageLeaves}
+use Rattle.table.specs.Leaves.{kindOfSegment, messageLeaves}
 use Rattle.table.specs.Rows.{segmentRowsFrom, leafRowsFrom, textOf, kindsOf, allLeaves, tableOf}
 use Rattle.read.specs.declared.fill.Filling.{Filling}
 use Rattle.read.specs.declared.fill.Line.{Line}
@@ -24,12 +24,13 @@ use Rattle.read.specs.Scan.{run}
 use Rattle.read.specs.Starting.{textFrom}
 use Rattle.read.specs.Laying.{nextSegment, Counted, Lays}
 use Rattle.read.specs.Filling.{segmentsIn, tableIn, Filled}
-use Rattle.read.specs.Segments.{Closable, ClosedBy, begunAfter, lineText, lineAfter, LineFilled, closedRows, Begun, Left, Came, Surveyed, Stands, AtLine}
+use Rattle.read.specs.Segments.{kindNoted, Closable, ClosedBy, begunAfter, lineText, lineAfter, LineFilled, closedRows, Begun, Left, Came, Surveyed, Stands, AtLine}
+use Rattle.read.proofs.KindLookup.{kind-found}
 use Rattle.read.proofs.BegunLaws.{leaves-some, begun-leaves, begun-own, begun-joined, closed-rows, begun-next, begun-ends}
 use Rattle.read.proofs.StartLaws.{begins-segment, carries-on, carried-from, from-past}
 use Rattle.read.proofs.LeftLaws.{Readable, line-clear, addendum-within, segment-within, left-addendum, left-segment, left-none, segments-left, leaves-left, leaves-line}
 
-pub readable : {c : Came} {class levels : List ℕ} {context : ℕ} {ps : Separators} {m : List ℕ} → Surveyed c class levels context ps m
+pub readable : {c : Came} {class kinds levels : List ℕ} {context : ℕ} {ps : Separators} {m : List ℕ} → Surveyed c class kinds levels context ps m
     → Readable (c .limits) ps class m
 readable {ps = ps} {m = m} y =
     let header = sound-header m ps (y .given .header) in
@@ -53,8 +54,8 @@ module _ {lv : ℕ → ℕ} {ps : Separators} {text₀ segments₀ leaves₀ : L
   leaves-kept = ap length (b .held .rows) ∙ (simp length-sets)
 
 -- a line from `from` on, whose text goes to the segment begun
-module _ {c : Came} {class levels : List ℕ} {context : ℕ} {ps : Separators} {m : List ℕ} {from : ℕ} {f : Filling}
-    {nearest text segments leaves : List ℕ} (j : AtLine c class levels context ps m from f nearest text segments leaves) where
+module _ {c : Came} {class kinds levels : List ℕ} {context : ℕ} {ps : Separators} {m : List ℕ} {from : ℕ} {f : Filling}
+    {nearest text segments leaves : List ℕ} (j : AtLine c class kinds levels context ps m from f nearest text segments leaves) where
   pub line-lays : Lays class m from (f .laying) text leaves
   line-lays =
       let given = j .surveyed .given in
@@ -72,8 +73,8 @@ module _ {c : Came} {class levels : List ℕ} {context : ℕ} {ps : Separators} 
         counted = j .begins .counted;
       }
 
-  pub line-on : {r : Line} {text′ leaves′ : List ℕ} → LineFilled class (ps .field) m from f text leaves r text′ leaves′
-      → Stands c class levels context ps m (r .next) (r .filling) nearest text′ segments leaves′
+  pub line-on : {r : Line} {text′ leaves′ : List ℕ} → LineFilled class m from f text leaves r text′ leaves′
+      → Stands c class kinds levels context ps m (r .next) (r .filling) nearest text′ segments leaves′
   line-on {r} filled =
       let out = filled .laid .out in
       let next = filled .next in
@@ -90,15 +91,15 @@ module _ {c : Came} {class levels : List ℕ} {context : ℕ} {ps : Separators} 
       }
 
 -- closing the segment begun
-module _ {c : Came} {class levels : List ℕ} {context : ℕ} {ps : Separators} {m : List ℕ} {at : ℕ} {f : Filling}
-    {nearest text segments leaves : List ℕ} (w : Stands c class levels context ps m at f nearest text segments leaves) where
+module _ {c : Came} {class kinds levels : List ℕ} {context : ℕ} {ps : Separators} {m : List ℕ} {at : ℕ} {f : Filling}
+    {nearest text segments leaves : List ℕ} (w : Stands c class kinds levels context ps m at f nearest text segments leaves) where
   row-few : f .laying .row + 7 ≤ c .limits .leaves * 7
   row-few =
       let few = leaves-left (readable (w .surveyed)) (w .closed) (w .begun) (w .begins .filed) at (w .left) in
       let rows = begun-leaves (w .begins) in
       omega (arith, w .surveyed .given .fewLeaves)
 
-  pub stands-closable : Closable f segments leaves
+  pub stands-closable : Closable f kinds segments leaves
   stands-closable =
       let given = w .surveyed .given in
       let few = row-few in
@@ -115,6 +116,7 @@ module _ {c : Came} {class levels : List ℕ} {context : ℕ} {ps : Separators} 
         short = omega (arith, w .within, given .bytes, given .small);
         counted = w .begins .counted;
         numbered = omega arith;
+        noted = omega (arith, w .surveyed .all);
         segmentRoom = omega (arith, given .few, given .segmentRoom);
         some = omega arith;
       }
@@ -122,9 +124,15 @@ module _ {c : Came} {class levels : List ℕ} {context : ℕ} {ps : Separators} 
   pub stands-next : (f .laying .row < 65535 * 7) × Counted (f .laying)
   stands-next = (stands-closable .fewLeaves, stands-closable .counted)
 
+  -- the kind noted of the segment begun is its own, once no line carries it on
+  kind-own : (rest : List (List ℕ)) → segmentsIn (c .limits) ps m ≡ w .closed ++ (w .begun ∷ rest) → kindNoted kinds f ≡ kindOfSegment ps (w .begun)
+  kind-own rest whole =
+      let place : f .laying .segment - 1 ≡ length (w .closed) = omega (arith, w .begins .number) in
+      ap (λ (n : ℕ). getD kinds n 0) place ∙ kind-found ps kinds (w .surveyed .noted) (w .surveyed .all) (w .closed) (w .begun) rest whole
+
   -- the line at `at` is an addendum: its text after the mark goes to the segment begun
   pub stands-addendum : {from : ℕ} → from ≡ textFrom (ps .field) at (drop at m) → (from ≡ at → ⊥)
-      → AtLine c class levels context ps m from f nearest text segments leaves
+      → AtLine c class kinds levels context ps m from f nearest text segments leaves
   stands-addendum {from} e past =
       let other : textFrom (ps .field) at (drop at m) ≡ at → ⊥ = λ z. past (e ∙ z) in
       let marked = carries-on (ps .field) at (drop at m) other in
@@ -147,26 +155,27 @@ module _ {c : Came} {class levels : List ℕ} {context : ℕ} {ps : Separators} 
 
   -- it begins a segment: the one begun has been closed, and the next begun
   pub stands-segment : at < length m → {from : ℕ} → from ≡ textFrom (ps .field) at (drop at m) → from ≡ at
-      → {nearest′ segments′ leaves′ : List ℕ} → ClosedBy f levels context nearest segments leaves nearest′ segments′ leaves′
-      → {g : Filling} → g ≡ begunAfter f → AtLine c class levels context ps m from g nearest′ text segments′ leaves′
+      → {nearest′ segments′ leaves′ : List ℕ} → ClosedBy f (kindNoted kinds f) levels context nearest segments leaves nearest′ segments′ leaves′
+      → {g : Filling} → g ≡ begunAfter f → AtLine c class kinds levels context ps m from g nearest′ text segments′ leaves′
   unfolding nextSegment
   stands-segment h {from} e here {nearest′} {segments′} {leaves′} closes {g} is =
       let other = begins-segment (ps .field) at (drop at m) (sym e ∙ here) in
-      subst⁻¹ (λ (j : ℕ). AtLine c class levels context ps m j g nearest′ text segments′ leaves′) here
-      (subst⁻¹ (λ (k : Filling). AtLine c class levels context ps m at k nearest′ text segments′ leaves′) is
+      let next = left-segment (readable (w .surveyed)) (w .left) h other in
+      subst⁻¹ (λ (j : ℕ). AtLine c class kinds levels context ps m j g nearest′ text segments′ leaves′) here
+      (subst⁻¹ (λ (k : Filling). AtLine c class kinds levels context ps m at k nearest′ text segments′ leaves′) is
       (record {
         surveyed = w .surveyed;
         closed = w .closed ++ (w .begun ∷ []);
         begun = [];
-        begins = begun-next (w .begins) (λ k. refl) closes;
-        left = left-segment (readable (w .surveyed)) (w .left) h other;
+        begins = begun-next (w .begins) (λ k. refl) (kind-own _ (next .whole ∙ append-assoc (w .closed) (w .begun ∷ []) _)) closes;
+        left = next;
         inside = segment-within (readable (w .surveyed)) (w .left) h;
         behind = w .behind;
       }))
 
   -- at the end the segment begun is closed, and the buffers hold the table
   module _ (h : length m ≤ at) {nearest′ segments′ leaves′ : List ℕ}
-      (closes : ClosedBy f levels context nearest segments leaves nearest′ segments′ leaves′) where
+      (closes : ClosedBy f (kindNoted kinds f) levels context nearest segments leaves nearest′ segments′ leaves′) where
     abbrev all : List (List ℕ)
     all = w .closed ++ (w .begun ∷ [])
 
@@ -183,11 +192,11 @@ module _ {c : Came} {class levels : List ℕ} {context : ℕ} {ps : Separators} 
     pub stands-filled : Filled (tableIn (c .limits) levels ps m) (c .text) (c .segments) (c .leaves) text segments′ leaves′ (f .laying .out)
     unfolding tableOf
     stands-filled =
-        let ends = begun-ends (w .begins) (λ k. refl) closes in
+        let ends = begun-ends (w .begins) (λ k. refl) (kind-own [] whole) closes in
         record {
           texts = ends .texts ∙ ap (λ (ss : List (List ℕ)). sets (c .text) 0 (textOf (allLeaves ps ss))) (sym whole);
           segmentRows =
-              closed-rows (w .begins) (λ k. refl) closes
+              closed-rows (w .begins) (λ k. refl) (kind-own [] whole) closes
               ∙ ap (sets (c .segments) 0)
               (ap (closedRows (levelIn levels context) ps) (sym whole)
               ∙ rows-owned (segmentsIn (c .limits) ps m)
@@ -207,7 +216,7 @@ from-reaches field at s = go (tested (addendum field s))
     go (passed h) = rw (h, textFrom) (omega arith)
     go (failed h) = rw (h, textFrom) (omega arith)
 
-pub line-ahead : {class : List ℕ} {field : ℕ} {m : List ℕ} {from : ℕ} {f : Filling} {text leaves : List ℕ} {r : Line} {text′ leaves′ : List ℕ}
-    {from′ : ℕ} → LineFilled class field m from f text leaves r text′ leaves′ → from′ ≡ textFrom field (r .next) (drop (r .next) m)
+pub line-ahead : (field : ℕ) {class m : List ℕ} {from : ℕ} {f : Filling} {text leaves : List ℕ} {r : Line} {text′ leaves′ : List ℕ}
+    {from′ : ℕ} → LineFilled class m from f text leaves r text′ leaves′ → from′ ≡ textFrom field (r .next) (drop (r .next) m)
     → from < from′
-line-ahead {class} {field} {m} {from} {r = r} filled e = omega (arith, filled .next, from-reaches field (r .next) (drop (r .next) m))
+line-ahead field {class} {m} {from} {r = r} filled e = omega (arith, filled .next, from-reaches field (r .next) (drop (r .next) m))

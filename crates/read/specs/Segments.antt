@@ -3,12 +3,11 @@
 use mathlib.Core.List.{List, [], _∷_, _++_}
 use mathlib.Core.Path.{_≡_}
 use Prim.Native.Nat.{ℕ, _+_, _*_, _-_, _/_, _≤_, _<_}
-use lib.ListN.{length, take, drop}
+use lib.ListN.{length, getD, take, drop}
 use lib.Seq.{sets}
 use Rattle.laws.specs.Every.{All}
 use Rattle.form.specs.declared.limits.Limits.{Limits}
 use Rattle.form.specs.declared.separators.Separators.{Separators}
-use Rattle.form.specs.Names.{kindNames, spelledAmong}
 use Rattle.line.specs.Lines.{walkFrom, texts, faultNumber}
 use Rattle.line.specs.Joining.{carried, joined}
 use Rattle.line.specs.Finding.{lowRun}
@@ -18,55 +17,53 @@ use Rattle.table.specs.Leaves.{messageLeaves}
 use Rattle.table.specs.Rows.{segmentRowsFrom, kindsOf, contextIn, allLeaves}
 use Rattle.table.specs.Filed.{Filed}
 use Rattle.table.specs.OnePass.{headerPass, passOver}
-use Rattle.read.specs.declared.letters.Letters.{Letters}
 use Rattle.read.specs.declared.fill.Filling.{Filling}
 use Rattle.read.specs.declared.fill.Line.{Line}
 use Rattle.read.specs.Scan.{run}
-use Rattle.read.specs.Letters.{fresh, withBytes}
 use Rattle.read.specs.Laying.{rowOf, nextSegment, Counted, Held, LaidBy}
 use Rattle.read.specs.Filling.{segmentsIn, Fillable}
+use Rattle.read.specs.Noting.{Noted}
 
 -- "kind, owner, first leaf, leaf count"
 abbrev pub segmentRow : (kind owner first count : ℕ) → List ℕ
 segmentRow kind owner first count = kind ∷ owner ∷ first ∷ count ∷ []
 
--- the kind that gathered letters stand for
-abbrev pub kindSpelled : Letters → ℕ
-kindSpelled l = spelledAmong kindNames (l .length) (l .first) (l .second) (l .third)
+-- the kind that is noted of the segment begun
+abbrev pub kindNoted : List ℕ → Filling → ℕ
+kindNoted kinds f = getD kinds (f .laying .segment - 1) 0
 
--- what closing the segment begun asks: room for the row of its last leaf and for its own row, whose numbers fit 16 bits
-pub record Closable (f : Filling) (segments leaves : List ℕ) : Type 0 where
+-- what closing the segment begun asks: its kind noted, and room for the row of its last leaf and for its own row, whose numbers fit 16 bits
+pub record Closable (f : Filling) (kinds segments leaves : List ℕ) : Type 0 where
   pub leafRoom : f .laying .row + 7 ≤ length leaves
   pub fewLeaves : f .laying .row < 65535 * 7
   pub short : f .laying .out < 65536
   pub counted : Counted (f .laying)
   pub numbered : 1 ≤ f .laying .segment
+  pub noted : f .laying .segment ≤ length kinds
   pub segmentRoom : f .laying .segment * 4 ≤ length segments
   pub some : f .first ≤ f .laying .row
 
--- what it gives: both rows, and what is known of the rows so far
-pub record ClosedBy (f : Filling) (levels : List ℕ) (context : ℕ) (nearest segments leaves nearest′ segments′ leaves′ : List ℕ) : Type 0 where
+-- what it gives, by the kind noted: both rows, and what is known of the rows so far
+pub record ClosedBy (f : Filling) (kind : ℕ) (levels : List ℕ) (context : ℕ) (nearest segments leaves nearest′ segments′ leaves′ : List ℕ) : Type 0 where
   pub leafRow : leaves′ ≡ sets leaves (f .laying .row) (rowOf (f .laying))
   pub owner : ℕ
-  pub owns :
-      Owned nearest nearest′ (f .laying .segment) (kindSpelled (f .kind)) (levelIn levels context (kindSpelled (f .kind))) owner
+  pub owns : Owned nearest nearest′ (f .laying .segment) kind (levelIn levels context kind) owner
   pub row :
       segments′
       ≡ sets segments ((f .laying .segment - 1) * 4)
-      (segmentRow (kindSpelled (f .kind)) owner (f .first / 7 + 1) ((f .laying .row + 7 - f .first) / 7))
+      (segmentRow kind owner (f .first / 7 + 1) ((f .laying .row + 7 - f .first) / 7))
 
 -- the state after a segment that has been closed
 abbrev pub begunAfter : Filling → Filling
-begunAfter f = record { laying = nextSegment (f .laying); first = f .laying .row + 7; kind = fresh 1 }
+begunAfter f = record { laying = nextSegment (f .laying); first = f .laying .row + 7 }
 
--- the first two leaves of the H, and the letter of its kind: of a message that begins with the bytes of these separators
+-- the first two leaves of the H: of a message that begins with the bytes of these separators
 pub record HeaderPut (ps : Separators) (text leaves : List ℕ) (r : Filling) (text′ leaves′ : List ℕ) : Type 0 where
   pub held : Held text leaves (headerPass ps) (r .laying) text′ leaves′
   pub counted : Counted (r .laying)
   pub number : r .laying .segment ≡ 1
   pub out : r .laying .out ≡ 5
   pub first : r .first ≡ 0
-  pub kind : r .kind ≡ record { left = 0; length = 1; first = 72; second = 0; third = 0 }
 
 -- the bytes of a line from `from` on
 abbrev pub lineText : List ℕ → List ℕ → ℕ → List ℕ
@@ -79,14 +76,13 @@ lineAfter class message from =
 
 -- the text of one line joined to the segment begun
 pub record LineFilled
-    (class : List ℕ) (field : ℕ) (message : List ℕ) (from : ℕ) (f : Filling) (text leaves : List ℕ) (r : Line) (text′ leaves′ : List ℕ)
+    (class message : List ℕ) (from : ℕ) (f : Filling) (text leaves : List ℕ) (r : Line) (text′ leaves′ : List ℕ)
     : Type 0 where
   pub laid :
       LaidBy class message from (f .laying) text leaves
       (record { laying = r .filling .laying; end = from + run class (drop from message) }) text′ leaves′
   pub next : r .next ≡ lineAfter class message from
   pub first : r .filling .first ≡ f .first
-  pub kind : r .filling .kind ≡ withBytes field (f .kind) (lineText class message from)
 
 -- the rows of closed segments, their owners by what is known as they come
 unfoldable pub closedRows : (ℕ → ℕ) → Separators → List (List ℕ) → List ℕ
@@ -103,7 +99,6 @@ pub record Begun
   pub counted : Counted (f .laying)
   pub number : f .laying .segment ≡ length closed + 1
   pub first : f .first ≡ length (allLeaves ps closed) * 7
-  pub kind : f .kind ≡ withBytes (ps .field) (fresh 1) begun
   pub rows : segments ≡ sets segments₀ 0 (closedRows lv ps closed)
   pub known : nearest ≡ knownAfter lv noRows 1 (kindsOf ps closed)
 
@@ -127,19 +122,21 @@ pub record Came : Type 0 where
 abbrev pub LevelsBelow : List ℕ → Type 0
 LevelsBelow levels = (c k : ℕ) → levelIn levels c k < 8
 
--- what is known before the second pass: what the survey has shown, the context, the levels, and that each element is a byte
-pub record Surveyed (c : Came) (class levels : List ℕ) (context : ℕ) (ps : Separators) (message : List ℕ) : Type 0 where
+-- what is known before the second pass: what the survey has shown and noted, the context, the levels, and that each element is a byte
+pub record Surveyed (c : Came) (class kinds levels : List ℕ) (context : ℕ) (ps : Separators) (message : List ℕ) : Type 0 where
   pub given : Fillable (c .limits) ps class message (c .text) (c .segments) (c .leaves)
   pub named : context ≡ contextIn ps (segmentsIn (c .limits) ps message)
   pub below : LevelsBelow levels
+  pub noted : Noted ps (segmentsIn (c .limits) ps message) (length (segmentsIn (c .limits) ps message)) kinds
+  pub all : length (segmentsIn (c .limits) ps message) ≤ length kinds
   pub bytes : All (λ (b : ℕ). b < 256) message
 
 -- the second pass stands at the place `at`, where a line begins or the message ends
 pub record Stands
-    (c : Came) (class levels : List ℕ) (context : ℕ) (ps : Separators) (message : List ℕ) (at : ℕ) (f : Filling)
+    (c : Came) (class kinds levels : List ℕ) (context : ℕ) (ps : Separators) (message : List ℕ) (at : ℕ) (f : Filling)
     (nearest text segments leaves : List ℕ)
     : Type 0 where
-  pub surveyed : Surveyed c class levels context ps message
+  pub surveyed : Surveyed c class kinds levels context ps message
   pub closed : List (List ℕ)
   pub begun : List ℕ
   pub begins : Begun (levelIn levels context) ps (c .text) (c .segments) (c .leaves) closed begun f nearest text segments leaves
@@ -150,10 +147,10 @@ pub record Stands
 -- the second pass is about to fill a line from `from` on, whose text goes to the segment begun: the line's end lies ahead, and with
 -- its text the lines after it give the rest
 pub record AtLine
-    (c : Came) (class levels : List ℕ) (context : ℕ) (ps : Separators) (message : List ℕ) (from : ℕ) (f : Filling)
+    (c : Came) (class kinds levels : List ℕ) (context : ℕ) (ps : Separators) (message : List ℕ) (from : ℕ) (f : Filling)
     (nearest text segments leaves : List ℕ)
     : Type 0 where
-  pub surveyed : Surveyed c class levels context ps message
+  pub surveyed : Surveyed c class kinds levels context ps message
   pub closed : List (List ℕ)
   pub begun : List ℕ
   pub begins : Begun (levelIn levels context) ps (c .text) (c .segments) (c .leaves) closed begun f nearest text segments leaves
@@ -163,9 +160,9 @@ pub record AtLine
 
 -- the lines from one place on to another: whatever the pass came with, from the one it comes to the other
 abbrev pub Onward :
-    (class levels : List ℕ) (context : ℕ) (ps : Separators) (message : List ℕ)
+    (class kinds levels : List ℕ) (context : ℕ) (ps : Separators) (message : List ℕ)
     (from : ℕ) (f : Filling) (nearest text segments leaves : List ℕ)
     (from′ : ℕ) (f′ : Filling) (nearest′ text′ segments′ leaves′ : List ℕ) → Type 0
-Onward class levels context ps message from f nearest text segments leaves from′ f′ nearest′ text′ segments′ leaves′ =
-    (c : Came) → AtLine c class levels context ps message from f nearest text segments leaves
-    → AtLine c class levels context ps message from′ f′ nearest′ text′ segments′ leaves′
+Onward class kinds levels context ps message from f nearest text segments leaves from′ f′ nearest′ text′ segments′ leaves′ =
+    (c : Came) → AtLine c class kinds levels context ps message from f nearest text segments leaves
+    → AtLine c class kinds levels context ps message from′ f′ nearest′ text′ segments′ leaves′

@@ -2,10 +2,7 @@
 use crate::lay::Laying;
 use crate::lay::lay_line;
 use crate::lay::put_leaf;
-use crate::letters::Letters;
-use crate::letters::gather;
 use crate::start::text_from;
-use form::kind::Kind;
 use form::limits::Limits;
 use form::separators::Separators;
 use line::finder::low_end;
@@ -19,13 +16,13 @@ ghost use lib.Seq.{sets};
 ghost use Rattle.table.specs.Rows.{contextIn};
 ghost use Rattle.read.specs.Laying.{Counted, Lays};
 ghost use Rattle.read.specs.Filling.{segmentsIn, tableIn, Fillable, Filled};
-ghost use Rattle.read.specs.Segments.{segmentRow, Closable, ClosedBy, begunAfter, HeaderPut, LineFilled, LevelsBelow};
+ghost use Rattle.read.specs.Noting.{Noted};
+ghost use Rattle.read.specs.Segments.{segmentRow, kindNoted, Closable, ClosedBy, begunAfter, HeaderPut, LineFilled, LevelsBelow};
 
-// How far the second pass has come: its leaves, and of the open segment where the row of its first leaf stands, and its kind.
+// How far the second pass has come: its leaves, and where the row of the open segment's first leaf stands.
 pub struct Filling {
     pub laying: Laying,
     pub first: usize,
-    pub kind: Letters,
 }
 
 // How far it has come with a line, and where the next one begins.
@@ -46,24 +43,25 @@ fn put_segment(segments: &mut [u16], row: usize, kind: u8, owner: u16, first: u1
     segments[at + 3] = count;
 }
 
-// The open segment is closed: its last leaf and its own row are written.
+// The open segment is closed: its last leaf and its own row are written. Its kind is the one that the survey noted.
 fn close_segment(
     filling: Filling,
+    kinds: &[u8],
     levels: &[u8; 84],
     context: u8,
     nearest: &mut [u16; 9],
     segments: &mut [u16],
     leaves: &mut [u16],
 )
-    requires { ⌜ Closable filling (now segments) (now leaves) ⌝ }
-    ensures { λ _. ⌜ ClosedBy filling (now (levels .entry)) context
+    requires { ⌜ Closable filling (now kinds) (now segments) (now leaves) ⌝ }
+    ensures { λ _. ⌜ ClosedBy filling (kindNoted (now (kinds .entry)) filling) (now (levels .entry)) context
         (now (nearest .entry)) (now (segments .entry)) (now (leaves .entry))
         (now (nearest .exit)) (now (segments .exit)) (now (leaves .exit)) ⌝ }
 {
     let laying = filling.laying;
     put_leaf(laying, leaves);
-    let letters = filling.kind;
-    let kind = Kind::spelled(letters.length, letters.first, letters.second, letters.third);
+    let row = laying.segment - 1;
+    let kind = kinds[row];
     let owner = owner_of(
         nearest,
         laying.segment as u16,
@@ -72,7 +70,7 @@ fn close_segment(
     );
     put_segment(
         segments,
-        laying.segment - 1,
+        row,
         kind,
         owner,
         (filling.first / 7 + 1) as u16,
@@ -115,20 +113,12 @@ fn put_header(separators: Separators, text: &mut [u8], leaves: &mut [u16]) -> Fi
     Filling {
         laying: stated.next_leaf(1),
         first: 0,
-        kind: Letters {
-            left: 0,
-            length: 1,
-            first: b'H',
-            second: 0,
-            third: 0,
-        },
     }
 }
 
 // The text of one line from `from` on, joined to the open segment.
 fn fill_line(
     class: &[u8; 256],
-    field: u8,
     message: &[u8],
     from: usize,
     filling: Filling,
@@ -136,18 +126,16 @@ fn fill_line(
     leaves: &mut [u16],
 ) -> Line
     requires { ⌜ Lays (now class) (now message) from (filling .laying) (now text) (now leaves) ⌝ }
-    ensures { λ r. ⌜ LineFilled (now (class .entry)) field (now (message .entry)) from filling (now (text .entry)) (now (leaves .entry))
+    ensures { λ r. ⌜ LineFilled (now (class .entry)) (now (message .entry)) from filling (now (text .entry)) (now (leaves .entry))
         r (now (text .exit)) (now (leaves .exit)) ⌝ }
 {
     let laying = filling.laying;
     let laid = lay_line(class, message, from, laying, text, leaves);
-    let kind = filling.kind;
     let gone = laid.laying;
     Line {
         filling: Filling {
             laying: gone,
             first: filling.first,
-            kind: gather(kind, field, message, from, laid.end),
         },
         next: low_end(message, laid.end + 1),
     }
@@ -162,7 +150,6 @@ fn next_segment(filling: Filling) -> Filling
     Filling {
         laying: laying.next_segment(),
         first: laying.row + 7,
-        kind: Letters::fresh(1),
     }
 }
 
@@ -171,6 +158,7 @@ fn next_segment(filling: Filling) -> Filling
 // the filling is compiled into the loop and its state is not carried through memory.
 pub(crate) fn fill(
     class: &[u8; 256],
+    kinds: &[u8],
     levels: &[u8; 84],
     context: u8,
     limits: Limits,
@@ -183,6 +171,8 @@ pub(crate) fn fill(
     requires { ⌜ Fillable limits separators (now class) (now message) (now text) (now segments) (now leaves) ⌝ }
     requires { ⌜ context ≡ contextIn separators (segmentsIn limits separators (now message)) ⌝ }
     requires { ⌜ LevelsBelow (now levels) ⌝ }
+    requires { ⌜ Noted separators (segmentsIn limits separators (now message)) (length (segmentsIn limits separators (now message))) (now kinds) ⌝ }
+    requires { ⌜ length (segmentsIn limits separators (now message)) ≤ length (now kinds) ⌝ }
     ensures { λ r. ⌜ Filled (tableIn limits (now (levels .entry)) separators (now (message .entry)))
         (now (text .entry)) (now (segments .entry)) (now (leaves .entry))
         (now (text .exit)) (now (segments .exit)) (now (leaves .exit)) r ⌝ }
@@ -191,13 +181,20 @@ pub(crate) fn fill(
     let mut filling = put_header(separators, text, leaves);
     let mut from = 7;
     loop {
-        let field = separators.field;
-        let line = fill_line(class, field, message, from, filling, text, leaves);
+        let line = fill_line(class, message, from, filling, text, leaves);
         filling = line.filling;
         let at = line.next;
-        from = text_from(message, at, field);
+        from = text_from(message, at, separators.field);
         if from == at {
-            close_segment(filling, levels, context, &mut nearest, segments, leaves);
+            close_segment(
+                filling,
+                kinds,
+                levels,
+                context,
+                &mut nearest,
+                segments,
+                leaves,
+            );
             if message.len() <= at {
                 return filling.laying.out;
             }

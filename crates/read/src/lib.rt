@@ -165,6 +165,7 @@ fn file(
     let context = watcher.context;
     let bytes = fill::fill(
         class,
+        kinds,
         levels,
         context,
         limits,

@@ -13,7 +13,7 @@ use Rattle.read.specs.declared.Verdict.{Verdict}
 use Rattle.read.specs.Filling.{segmentsIn}
 use Rattle.read.specs.Judging.{verdictOf, decided}
 use Rattle.read.proofs.Judging.{known-decides}
-use Rattle.read.proofs.Answering.{gives-refusal, gives-table, passed-fillable, decided-refuses, decided-accepts, Passed, verdict-passed, known-card}
+use Rattle.read.proofs.Answering.{gives-refusal, gives-table, passed-fillable, decided-refuses, decided-accepts, Passed, verdict-passed, noted-whole, known-card}
 use Rattle.read.proofs.file.Statement.{statement}
 use Rattle.read.proofs.file.Tie as tie
 
@@ -36,11 +36,12 @@ returns c =
 
 fill-requires : tie.Need-fill-requires
 fill-requires c κs =
-    let at-pre = c .before .before .before .before .before .before .before .before .before .before .before .before .pre in
     let at-args = c .before .before .before .before .before .before .before .before .before .before .before .before .args in
     let at-judge = c .before .before .before .before .before .before .judge in
     let at-if1 = c .before .before .before .before .if1 in
-    (passed-fillable (at-pre .0) (at-pre .1 .1 .0) (at-pre .1 .1 .1 .0) (at-pre .1 .1 .1 .1 .0) (verdict-passed (at-args .limits) (at-args .seen) (sym (ap (λ (v : Verdict). v .number) (at-judge .ensures)) ∙ at-if1 .left)), (at-pre .1 .1 .1 .1 .0 .context, at-pre .1 .0))
+    let at-pre = c .before .before .before .before .before .before .before .before .before .before .before .before .pre in
+    let p : Passed (at-args .limits) (at-args .seen) = verdict-passed (at-args .limits) (at-args .seen) (sym (ap (λ (v : Verdict). v .number) (at-judge .ensures)) ∙ at-if1 .left) in
+    (passed-fillable (at-pre .0) (at-pre .1 .1 .0) (at-pre .1 .1 .1 .0) (at-pre .1 .1 .1 .1 .0) p, (at-pre .1 .1 .1 .1 .0 .context, (at-pre .1 .0, (noted-whole (at-args .kinds .now) (at-pre .1 .1 .1 .1 .0) (at-pre .1 .1 .1 .1 .1 .0), omega (arith, at-pre .1 .1 .1 .1 .0 .count, p .segments, at-pre .1 .1 .1 .1 .1 .1)))))
 
 add-t22 : tie.Need-add-t22
 add-t22 c =

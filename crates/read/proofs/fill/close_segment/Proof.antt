@@ -9,8 +9,15 @@ use Rattle.read.proofs.fill.close_segment.Tie as tie
 put-leaf-requires : tie.Need-put-leaf-requires
 put-leaf-requires c κs = search needs
 
-spelled-requires : tie.Need-spelled-requires
-spelled-requires c κs = search needs
+sub-row : tie.Need-sub-row
+sub-row c =
+    let at-pre = c .before .before .before .before .before .before .before .before .before .pre in
+    omega (arith, at-pre)
+
+shared-slice-read-kind : tie.Need-shared-slice-read-kind
+shared-slice-read-kind c =
+    let at-pre = c .before .before .before .before .before .before .before .before .before .before .pre in
+    omega (arith, at-pre)
 
 cast-owner-of : tie.Need-cast-owner-of
 cast-owner-of c = search needs
@@ -20,9 +27,6 @@ level-of-requires c κs = search needs
 
 owner-of-requires : tie.Need-owner-of-requires
 owner-of-requires c κs = search needs
-
-sub-put-segment : tie.Need-sub-put-segment
-sub-put-segment c = search needs
 
 add-put-segment : tie.Need-add-put-segment
 add-put-segment c =
@@ -39,8 +43,8 @@ add-put-segment-2 c =
     let at-pre = c .before .before .before .before .before .before .before .before .before .before .before .before .before .before .before .before .before .pre in
     omega (arith, at-pre)
 
-sub-put-segment-2 : tie.Need-sub-put-segment-2
-sub-put-segment-2 c =
+sub-put-segment : tie.Need-sub-put-segment
+sub-put-segment c =
     let at-pre = c .before .before .before .before .before .before .before .before .before .before .before .before .before .before .before .before .before .before .pre in
     omega (arith, at-pre)
 
@@ -59,32 +63,31 @@ same-length c = search needs
 
 same-length-2 : tie.Need-same-length-2
 same-length-2 c =
-    let at-put-leaf = c .before .before .before .before .before .before .before .before .before .before .before .before .before .before .before .before .put-leaf in
+    let at-put-leaf = c .before .before .before .before .before .before .before .before .before .before .before .before .before .before .before .put-leaf in
     at-put-leaf .kept .1 .0
 
 returns : tie.Need-returns
 returns c =
-    let at-spelled = c .before .before .before .before .before .before .before .before .before .before .before .before .spelled in
-    let at-level-of = c .before .before .before .before .before .before .before .before .before .level-of in
-    let at-owner-of = c .before .before .before .before .before .before .before .before .owner-of in
-    let at-put-leaf = c .before .before .before .before .before .before .before .before .before .before .before .before .before .before .before .before .put-leaf in
+    let at-level-of = c .before .before .before .before .before .before .before .before .level-of in
+    let at-owner-of = c .before .before .before .before .before .before .before .owner-of in
+    let at-put-leaf = c .before .before .before .before .before .before .before .before .before .before .before .before .before .before .before .put-leaf in
     let at-put-segment = c .before .before .put-segment in
-    closed-by (at-spelled .ensures) (at-level-of .ensures) (at-owner-of .ensures) (at-put-leaf .ensures) (at-put-segment .ensures)
+    closed-by (at-level-of .ensures) (at-owner-of .ensures) (at-put-leaf .ensures) (at-put-segment .ensures)
 
 pub close-segment-spec : {M : Type 1} → statement M
 close-segment-spec =
     tie.close
     (tie.spec
     put-leaf-requires
-    spelled-requires
+    sub-row
+    shared-slice-read-kind
     cast-owner-of
     level-of-requires
     owner-of-requires
-    sub-put-segment
     add-put-segment
     cast-put-segment
     add-put-segment-2
-    sub-put-segment-2
+    sub-put-segment
     cast-put-segment-2
     put-segment-requires
     same-length

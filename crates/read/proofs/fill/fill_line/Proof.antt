@@ -1,4 +1,4 @@
--- `read::fill::fill_line` meets its contract: the line is laid, the letters of its bytes are gathered, and the next line begins after the bytes below 32.
+-- `read::fill::fill_line` meets its contract: the line is laid, and the next line begins after the bytes below 32.
 -- Assumes nothing.
 use native.Mathlib.Omega.{arith}
 use Rattle.read.proofs.SegmentLaws.{line-filled}
@@ -9,14 +9,11 @@ use Rattle.read.proofs.fill.fill_line.Tie as tie
 lay-line-requires : tie.Need-lay-line-requires
 lay-line-requires c κs = search needs
 
-gather-requires : tie.Need-gather-requires
-gather-requires c κs = search needs
-
 add-low-end : tie.Need-add-low-end
 add-low-end c =
-    let at-lay-line = c .before .before .before .before .before .before .before .before .lay-line in
-    let at-pre = c .before .before .before .before .before .before .before .before .before .before .before .before .before .before .before .pre in
-    let at-good = c .before .before .before .before .before .before .before .before .before .before .before .before .before .before .before .good in
+    let at-lay-line = c .before .before .before .before .before .before .lay-line in
+    let at-pre = c .before .before .before .before .before .before .before .before .before .before .before .before .before .pre in
+    let at-good = c .before .before .before .before .before .before .before .before .before .before .before .before .before .good in
     omega (arith, at-lay-line .ensures .ends, at-pre .ahead, at-good)
 
 low-end-requires : tie.Need-low-end-requires
@@ -30,17 +27,15 @@ same-length-2 c = search needs
 
 returns : tie.Need-returns
 returns c =
-    let at-lay-line = c .before .before .before .before .before .before .before .before .before .lay-line in
-    let at-gather = c .before .before .gather in
+    let at-lay-line = c .before .before .before .before .before .before .before .lay-line in
     let at-low-end = c .low-end in
-    line-filled (at-lay-line .ensures) (at-gather .ensures) (at-low-end .ensures)
+    line-filled (at-lay-line .ensures) (at-low-end .ensures)
 
 pub fill-line-spec : {M : Type 1} → statement M
 fill-line-spec =
     tie.close
     (tie.spec
     lay-line-requires
-    gather-requires
     add-low-end
     low-end-requires
     same-length

@@ -1,4 +1,4 @@
--- `read::fill::next_segment` meets its contract: the next leaf, its number and no letters yet.
+-- `read::fill::next_segment` meets its contract: the next leaf, and where its row stands.
 -- Assumes nothing.
 use Rattle.read.proofs.SegmentLaws.{begun-after}
 use borrow.Author.Needs.{needs}
@@ -11,15 +11,11 @@ next-segment-requires c κs = search needs
 add-t4 : tie.Need-add-t4
 add-t4 c = search needs
 
-fresh-requires : tie.Need-fresh-requires
-fresh-requires c κs = search needs
-
 returns : tie.Need-returns
 returns c =
-    let at-args = c .before .before .before .before .args in
-    let at-next-segment = c .before .before .next-segment in
-    let at-fresh = c .fresh in
-    begun-after (at-args .filling) (at-next-segment .ensures) (at-fresh .ensures)
+    let at-args = c .before .before .before .args in
+    let at-next-segment = c .before .next-segment in
+    begun-after (at-args .filling) (at-next-segment .ensures)
 
 pub next-segment-spec : {M : Type 1} → statement M
-next-segment-spec = tie.close (tie.spec next-segment-requires add-t4 fresh-requires returns)
+next-segment-spec = tie.close (tie.spec next-segment-requires add-t4 returns)
