@@ -1,77 +1,24 @@
 -- Leaf rows that go on soundly, row by row, and the header's two rows.
 -- Assumes nothing.
-use mathlib.Core.Bool.{Bool, true, false, _&&_, and-true}
+use mathlib.Core.Bool.{Bool, true, false, _&&_}
 use mathlib.Core.List.{List, [], _∷_}
 use mathlib.Core.Path.{_≡_, refl, sym, ap, ap₂, _∙_}
-use Prim.Native.Nat.{ℕ, suc, _+_, _-_, _*_, _≤_, _<_}
+use Prim.Native.Nat.{ℕ, _+_, _-_, _≤_, _<_}
 use native.Mathlib.Omega.{arith}
 use lib.Dec.{eqb}
 use lib.ListN.{length, take, drop, getD}
 use lib.Seq.{getD-take, getD-drop}
 use borrow.Author.Tests.{eq-eqb, ne-eqb}
 use Rattle.laws.specs.Lists.{same}
-use Rattle.laws.specs.Tables.{values}
 use Rattle.laws.proofs.Lists.{different-same}
 use Rattle.laws.proofs.Parts.{left-cons}
 use Rattle.laws.proofs.Tests.{and-passed, and-both, and-fails-first, and-fails-second}
-use Rattle.form.specs.declared.separators.Separators.{Separators}
 use Rattle.table.specs.Leaves.{Leaf}
-use Rattle.table.specs.Rows.{leafRowSize}
 use Rattle.table.specs.Back.{leafAt}
-use Rattle.table.specs.RowTests.{nextPlace, leafText, goOn, goOnFrom}
+use Rattle.table.specs.RowTests.{leafText, goOn, goOnFrom}
 use Rattle.write.specs.Local.{thirdPlace}
 use Rattle.write.specs.Tests.{leavesFrom, headerLeavesAt, separatorsAt}
-use Rattle.write.proofs.SegmentTests.{row-length, leaves-cons, leaves-none}
-
--- the rows from the fourth on: those up to i have been passed
-pub record Going (ps rows text : List ℕ) (count i : ℕ) : Type 0 where
-  pub low : 3 ≤ i
-  pub within : i ≤ count
-  pub so : goOn ps (leafAt rows text (i - 1) .place) (leavesFrom rows text i count) ≡ goOn ps (leafAt rows text 2 .place) (leavesFrom rows text 3 count)
-
-pub going-begins : {ps rows text : List ℕ} {count : ℕ} → 3 ≤ count → Going ps rows text count 3
-going-begins h = record { low = omega arith; within = h; so = refl }
-
-module _ {ps rows text : List ℕ} {count i : ℕ} (w : Going ps rows text count i) (h : i < count) where
-  abbrev next : Bool
-  next = nextPlace (take 5 (drop (i * leafRowSize - leafRowSize) rows)) (take 5 (drop (i * leafRowSize) rows))
-
-  abbrev own : Bool
-  own = leafText ps (leafAt rows text i .text)
-
-  abbrev others : Bool
-  others = goOn ps (leafAt rows text i .place) (leavesFrom rows text (i + 1) count)
-
-  going-turn : (next && own && others) ≡ goOn ps (leafAt rows text 2 .place) (leavesFrom rows text 3 count)
-  unfolding goOn leafAt
-  going-turn =
-      ap (λ (k : ℕ). nextPlace (take 5 (drop k rows)) (take 5 (drop (i * leafRowSize) rows)) && own && others)
-      (let e : i * leafRowSize - leafRowSize ≡ (i - 1) * leafRowSize = omega (arith, w .low) in e)
-      ∙ ap (goOn ps (leafAt rows text (i - 1) .place)) (sym (leaves-cons rows text i count h))
-      ∙ w .so
-
-  pub going-misplaced : next ≡ false → false ≡ goOn ps (leafAt rows text 2 .place) (leavesFrom rows text 3 count)
-  going-misplaced e = sym (and-fails-first others (and-fails-first own e)) ∙ going-turn
-
-  pub going-no-text : own ≡ false → false ≡ goOn ps (leafAt rows text 2 .place) (leavesFrom rows text 3 count)
-  going-no-text e = sym (and-fails-first others (and-fails-second next e)) ∙ going-turn
-
-  pub going-further : next ≡ true → own ≡ true → Going ps rows text count (i + 1)
-  going-further e f =
-      record {
-        low = omega (arith, w .low);
-        within = omega arith;
-        so =
-            ap (λ (k : ℕ). goOn ps (leafAt rows text k .place) (leavesFrom rows text (i + 1) count)) (let q : i + 1 - 1 ≡ i = omega arith in q)
-            ∙ sym (and-passed others (and-both e f))
-            ∙ going-turn;
-      }
-
-pub going-done : {ps rows text : List ℕ} {count i : ℕ} → Going ps rows text count i → count ≤ i
-    → true ≡ goOn ps (leafAt rows text 2 .place) (leavesFrom rows text 3 count)
-unfolding goOn
-going-done {ps} {rows} {text} {count} {i} w h =
-    ap (goOn ps (leafAt rows text (i - 1) .place)) (sym (leaves-none rows text i count h)) ∙ w .so
+use Rattle.write.proofs.SegmentTests.{row-length, leaves-cons}
 
 -- the third row: field 3 of the header
 module _ (ps rows text : List ℕ) (count : ℕ) (h : 3 ≤ count) where
@@ -90,12 +37,6 @@ module _ (ps rows text : List ℕ) (count : ℕ) (h : 3 ≤ count) where
 
   pub third-elsewhere : third ≡ false → false ≡ goOnFrom ps thirdPlace (leavesFrom rows text 2 count)
   third-elsewhere e = sym (and-fails-first after-third (and-fails-first third-text e)) ∙ begun
-
-  pub third-no-text : third-text ≡ false → false ≡ goOnFrom ps thirdPlace (leavesFrom rows text 2 count)
-  third-no-text e = sym (and-fails-first after-third (and-fails-second third e)) ∙ begun
-
-  pub third-sound : third ≡ true → third-text ≡ true → after-third ≡ goOnFrom ps thirdPlace (leavesFrom rows text 2 count)
-  third-sound e f = sym (and-passed after-third (and-both e f)) ∙ begun
 
 -- the header's two rows
 module _ (rows text : List ℕ) where

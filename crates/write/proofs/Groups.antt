@@ -8,9 +8,9 @@ use Prim.Native.Nat.{ℕ, zero, suc, _+_, _-_, _*_, _≤_, _<_}
 use native.Mathlib.Nat.{div-le-self}
 use native.Mathlib.Omega.{arith}
 use native.Mathlib.Numerals.{add-one}
-use lib.Dec.{ltb, leb, eqb}
+use lib.Dec.{eqb}
 use lib.ListN.{length, getD}
-use borrow.Author.Tests.{eq-eqb, ne-eqb, lt-ltb, le-ltb, le-leb, lt-leb}
+use borrow.Author.Tests.{eq-eqb, ne-eqb, lt-ltb, le-ltb}
 use Rattle.laws.specs.Every.{All}
 use Rattle.laws.specs.Sums.{sumOf}
 use Rattle.laws.specs.Tables.{values}
@@ -21,13 +21,13 @@ use Rattle.laws.proofs.Tests.{Tested, passed, failed, tested, and-passed, and-f
 use Rattle.form.specs.declared.limits.Limits.{Limits}
 use Rattle.form.specs.Limits.{Lawful, lineCount, linesUnder, roundedUp}
 use Rattle.form.proofs.LineCount.{one-line, more-lines, lines-lawful}
-use Rattle.form.specs.Names.{numberAmong, contextNames, contextOf}
+use Rattle.form.specs.Names.{numberAmong, contextNames}
 use Rattle.table.specs.Leaves.{Leaf}
 use Rattle.table.specs.Rows.{leafRowSize, textOf, segmentRowSize}
 use Rattle.table.specs.Flat.{leaf}
 use Rattle.table.specs.Back.{leafAt}
 use Rattle.table.specs.BySegment.{segmentOf, withLeaf, bySegment, kindAmong, numberOfField, contextAmong, segmentBytes, writtenBytes}
-use Rattle.table.proofs.BySegment.{InSegment, Ended, group-first, leaf-joins, leaf-begins}
+use Rattle.table.proofs.BySegment.{InSegment, Ended, group-first}
 use Rattle.write.specs.Tests.{leavesFrom, SegmentEnd, FieldLeaf, rowStates, groupsStated}
 use Rattle.write.proofs.SegmentTests.{row-segment, leaves-cons, leaves-none, SomeEnd, segment-ends}
 

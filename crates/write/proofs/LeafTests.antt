@@ -1,25 +1,18 @@
 -- The tests of leaf rows as loops make them: what is left of the rows, of a place or of a text gives the whole.
 -- Assumes nothing.
-use mathlib.Core.Bool.{Bool, true, false, not, _&&_}
-use mathlib.Core.List.{List, [], _∷_}
-use mathlib.Core.Path.{_≡_, refl, sym, ap, ap₂, _∙_}
+use mathlib.Core.Bool.{true, false, _&&_}
+use mathlib.Core.List.{List}
+use mathlib.Core.Path.{_≡_, refl, sym, ap, _∙_}
 use Prim.Native.Nat.{ℕ, suc, _+_, _-_, _*_, _≤_, _<_}
 use native.Mathlib.Omega.{arith}
 use native.Mathlib.Numerals.{add-one}
-use lib.Dec.{leb, eqb}
-use lib.ListN.{length, take, drop, getD, replicate}
-use borrow.Author.Tests.{eq-eqb, ne-eqb, le-leb, lt-leb}
-use Rattle.laws.specs.Lists.{same, among}
-use Rattle.laws.proofs.Lists.{among-at, among-miss}
-use Rattle.laws.proofs.Parts.{left-cons, part-cons, part-none}
-use Rattle.laws.proofs.Tests.{and-passed, and-fails-first, and-fails-second}
-use Rattle.form.specs.declared.separators.Separators.{Separators}
-use Rattle.form.specs.Header.{splitting}
-use Rattle.line.specs.Lines.{space}
+use lib.Dec.{eqb}
+use lib.ListN.{length, take, drop, getD}
+use borrow.Author.Tests.{eq-eqb, ne-eqb}
+use Rattle.laws.proofs.Parts.{part-cons, part-none}
+use Rattle.laws.proofs.Tests.{and-passed, and-fails-first}
 use Rattle.table.specs.Rows.{leafRowSize}
-use Rattle.table.specs.Flat.{ones}
-use Rattle.table.specs.RowTests.{endToEnd, nextPlace, leafText}
-use Rattle.table.proofs.RowTests.{next-same, next-raised}
+use Rattle.table.specs.RowTests.{endToEnd, leafText}
 use Rattle.write.specs.Tests.{leafByte}
 
 -- texts end to end: i rows have been passed, and the next one is to begin at `start`

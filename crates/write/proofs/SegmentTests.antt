@@ -1,13 +1,13 @@
 -- The tests of segments as loops make them over leaf rows: where a segment ends, where one of its fields stands, what its texts count.
 -- Assumes nothing.
-use mathlib.Core.Bool.{Bool, true, false, not, _&&_, cond}
-use mathlib.Core.List.{List, [], _∷_, _++_}
+use mathlib.Core.Bool.{Bool, false, not, _&&_, cond}
+use mathlib.Core.List.{List, [], _∷_}
 use mathlib.Core.Logic.{_⊎_, inl, inr}
-use mathlib.Core.Path.{_≡_, refl, sym, ap, ap₂, _∙_, subst}
+use mathlib.Core.Path.{_≡_, refl, sym, ap, ap₂, _∙_}
 use Prim.Native.Nat.{ℕ, zero, suc, _+_, _-_, _*_, _≤_, _<_}
 use native.Mathlib.Omega.{arith}
 use native.Mathlib.Numerals.{add-one}
-use lib.Dec.{ltb, leb, eqb}
+use lib.Dec.{eqb}
 use lib.ListN.{length, take, drop, getD, length-append, length-drop}
 use lib.Seq.{getD-take, getD-drop, length-take-le}
 use borrow.Author.Tests.{eq-eqb, ne-eqb, lt-ltb, le-ltb}
@@ -18,7 +18,6 @@ use Rattle.form.specs.Names.{numberAmong}
 use Rattle.table.specs.Leaves.{Leaf}
 use Rattle.table.specs.Rows.{segmentRowSize, leafRowSize, textOf}
 use Rattle.table.specs.Back.{leafAt}
-use Rattle.table.specs.RowTests.{leafText}
 use Rattle.table.specs.BySegment.{segmentOf, fieldOf, goesOn, numberOfField}
 use Rattle.table.proofs.FieldNames.{number-one, number-more, number-later}
 use Rattle.write.specs.Tests.{leavesFrom, SegmentEnd, FieldLeaf, rowStates}

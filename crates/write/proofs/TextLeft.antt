@@ -9,9 +9,8 @@ use lib.Dec.{eqb}
 use lib.ListN.{length, getD, take, drop, set, length-set, length-take, length-drop}
 use lib.Seq.{sets, length-sets, take-add, drop-drop}
 use borrow.Author.Tests.{eqb-false}
-use Rattle.laws.specs.Every.{none, also}
 use Rattle.laws.proofs.Every.{all-first, all-left, all-right}
-use Rattle.laws.proofs.Parts.{left-cons, part-cons, part-none}
+use Rattle.laws.proofs.Parts.{left-cons, part-cons}
 use Rattle.laws.proofs.Stores.{sets-first}
 use Rattle.form.specs.declared.limits.Limits.{Limits}
 use Rattle.line.specs.Lines.{CR}
