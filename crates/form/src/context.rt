@@ -1,7 +1,7 @@
 // The seven contexts: their numbers, and the number of a name.
 ghost use mathlib.Core.Path.{_≡_};
 ghost use mathlib.Core.List.{[], _∷_};
-ghost use Rattle.form.specs.Names.{contextNames, contextOf, spelledAmong};
+ghost use Rattle.form.specs.Names.{contextNames, contextOf, spelledAmong, packedAmong};
 use crate::letters;
 
 // A context is its number, from 1 to 7; 0 is no context.
@@ -31,6 +31,22 @@ impl Context {
             three_letters(first, second, third)
         } else {
             0
+        }
+    }
+
+    // The context of a name that was packed into one number: 1 and then its letters, as digits to base 256. 0 where no context has it.
+    pub fn packed(name: u32) -> u8
+        ensures { λ r. ⌜ r ≡ packedAmong contextNames name ⌝ }
+    {
+        match name {
+            21054541 => Context::ADM,
+            21975629 => Context::ORM,
+            21975617 => Context::ORA,
+            22168903 => Context::REG,
+            21320274 => Context::ERR,
+            21975637 => Context::ORU,
+            21381443 => Context::FAC,
+            _ => 0,
         }
     }
 

@@ -1,7 +1,7 @@
 // The twelve kinds of segment: their numbers, and the number of a name.
 ghost use mathlib.Core.Path.{_≡_};
 ghost use mathlib.Core.List.{[], _∷_};
-ghost use Rattle.form.specs.Names.{kindNames, kindOf, spelledAmong};
+ghost use Rattle.form.specs.Names.{kindNames, kindOf, spelledAmong, packedAmong};
 use crate::letters;
 
 // A kind is its number, from 1 to 12; 0 is no kind.
@@ -41,6 +41,27 @@ impl Kind {
             1 => one_letter(first),
             2 => two_letters(first, second),
             3 => three_letters(first, second, third),
+            _ => 0,
+        }
+    }
+
+    // The kind of a name that was packed into one number: 1 and then its letters, as digits to base 256. 0 where no kind has it.
+    pub fn packed(name: u32) -> u8
+        ensures { λ r. ⌜ r ≡ packedAmong kindNames name ⌝ }
+    {
+        match name {
+            328 => Kind::H,
+            336 => Kind::P,
+            82256 => Kind::AP,
+            82243 => Kind::AC,
+            21971538 => Kind::OBR,
+            21971544 => Kind::OBX,
+            21381443 => Kind::FAC,
+            22168903 => Kind::REG,
+            21054292 => Kind::ACT,
+            21320274 => Kind::ERR,
+            332 => Kind::L,
+            323 => Kind::C,
             _ => 0,
         }
     }

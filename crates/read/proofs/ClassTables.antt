@@ -2,19 +2,18 @@
 -- Assumes nothing.
 use mathlib.Core.Bool.{Bool, true, false}
 use mathlib.Core.List.{List}
-use mathlib.Core.Logic.{_⊎_, inl, inr, ⊎-elim}
+use mathlib.Core.Logic.{⊎-elim}
 use mathlib.Core.Path.{_≡_, refl, ap, sym, _∙_}
 use Prim.Native.Nat.{ℕ, _+_, _≤_, _<_}
 use native.Mathlib.Nat.{zero-add}
 use native.Mathlib.Omega.{arith}
-use lib.Dec.{ltb, eqb}
-use lib.ListN.{length, getD, set, replicate}
-use lib.Seq.{ext-getD}
+use lib.Dec.{ltb}
+use lib.ListN.{set, replicate}
 use borrow.Author.Tests.{lt-ltb, le-ltb}
 use Rattle.laws.specs.Lists.{firstFrom}
 use Rattle.laws.specs.Tables.{values}
 use Rattle.laws.proofs.Cases.{less-or-not}
-use Rattle.laws.proofs.Tables.{changed, changed-here, changed-other, values-same, set-values, replicate-values, getD-values-zero, length-values}
+use Rattle.laws.proofs.Tables.{changed, changed-here, changed-other, values-same, set-values, replicate-values}
 use Rattle.form.specs.declared.separators.Separators.{Separators}
 use Rattle.form.specs.Header.{splitting}
 use Rattle.read.specs.Classes.{sortOf, classOf, classTable}

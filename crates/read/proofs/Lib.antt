@@ -1,5 +1,6 @@
 pub mod ClassTables
-pub mod LetterLaws
+pub mod FieldLaws
+pub mod NameLaws
 pub mod ScanLaws
 pub mod PlainLaws
 pub mod Copying

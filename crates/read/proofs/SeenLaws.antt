@@ -5,7 +5,7 @@ use mathlib.Core.Bool.{Bool, not}
 use mathlib.Core.List.{List, [], _∷_, _++_}
 use mathlib.Core.Logic.{⊎-elim}
 use mathlib.Core.Path.{_≡_, refl, sym, ap, ap₂, _∙_}
-use Prim.Native.Nat.{ℕ, suc, _+_, _-_, _≤_}
+use Prim.Native.Nat.{ℕ, suc, _+_, _-_, _≤_, _<_}
 use native.Mathlib.Omega.{arith}
 use lib.Dec.{eqb}
 use lib.ListN.{length, getD, drop, length-append, length-map}
@@ -14,7 +14,9 @@ use borrow.Author.Tests.{eq-eqb, ne-eqb}
 use Rattle.laws.specs.Lists.{same, among, count, firstFrom, firstOf}
 use Rattle.laws.specs.Texts.{bytes}
 use Rattle.laws.specs.Sums.{sumOf}
+use Rattle.laws.specs.Every.{All, none}
 use Rattle.laws.proofs.Cases.{equal-or-not}
+use Rattle.laws.proofs.Every.{all-append}
 use Rattle.laws.proofs.Lists.{map-append, count-append, first-append}
 use Rattle.laws.proofs.Sums.{sumOf-nil, sumOf-cons, sumOf-append}
 use Rattle.form.specs.declared.separators.Separators.{Separators}
@@ -35,13 +37,13 @@ use Rattle.table.specs.Filed.{headerBytes}
 use Rattle.table.specs.Rows.{kindsOf, contextIn, allLeaves}
 use Rattle.table.specs.Reading.{firstUnknown}
 use Rattle.table.proofs.Counting.{length-allSegments}
-use Rattle.read.specs.declared.letters.Letters.{Letters}
+use Rattle.read.specs.declared.name.Name.{Name}
 use Rattle.read.specs.declared.survey.Survey.{Survey}
-use Rattle.read.specs.Letters.{fresh, withBytes}
+use Rattle.read.specs.Naming.{fresh, withBytes}
 use Rattle.read.specs.Seeing.{nothingSeen, contextWith, withText, kindSeen, contextSeen, watching, toldNow, closed, nextSegment}
 use Rattle.read.specs.Surveying.{placeSeen, Known}
 use Rattle.read.specs.Underway.{Seen}
-use Rattle.read.proofs.LetterLaws.{numberGathered, first-letter, byte-separator, byte-letter, bytes-none, bytes-more, bytes-settled, bytes-append, segment-kind, header-context}
+use Rattle.read.proofs.NameLaws.{numberPacked, letter-kept, byte-separator, byte-letter, bytes-none, bytes-more, bytes-settled, bytes-append, segment-kind, header-context}
 
 -- the context's letters, and the watcher: only the first segment matters
 module _ (s : Survey) where
@@ -63,7 +65,7 @@ module _ (s : Survey) where
 
 -- the struct that a step makes, from what its calls answer
 module _ (s : Survey) (f : ℕ) (t : List ℕ) (n : ℕ) where
-  abbrev textStruct : Letters → Letters → Survey
+  abbrev textStruct : Name → Name → Survey
   textStruct kind context =
       record {
         segments = s .segments;
@@ -75,11 +77,11 @@ module _ (s : Survey) (f : ℕ) (t : List ℕ) (n : ℕ) where
         context = context;
       }
 
-  pub text-first : {kind context : Letters} → s .segments ≡ 1 → kind ≡ withBytes f (s .kind) t → context ≡ withBytes f (s .context) t
+  pub text-first : {kind context : Name} → s .segments ≡ 1 → kind ≡ withBytes f (s .kind) t → context ≡ withBytes f (s .context) t
       → textStruct kind context ≡ withText f s t n
   text-first h k x = ap₂ textStruct k (x ∙ sym (context-first s f t h))
 
-  pub text-later : {kind : Letters} → (s .segments ≡ 1 → ⊥) → kind ≡ withBytes f (s .kind) t → textStruct kind (s .context) ≡ withText f s t n
+  pub text-later : {kind : Name} → (s .segments ≡ 1 → ⊥) → kind ≡ withBytes f (s .kind) t → textStruct kind (s .context) ≡ withText f s t n
   text-later h k = ap₂ textStruct k (sym (context-later s f t h))
 
 module _ (s : Survey) (may : ℕ → ℕ → ℕ → Bool) where
@@ -147,29 +149,31 @@ module _ (ps : Separators) where
       (arith, length-allSegments ps h ((ds ++ last ∷ []) ++ [] ∷ []), length-allSegments ps h (ds ++ last ∷ []), leafSum-last (ds ++ last ∷ []) [])
 
 -- a text joined to the open segment
-module _ (ps : Separators) (s : Survey) (t : List ℕ) (n : ℕ) (all : n ≡ count (among (splitting ps)) t) where
+module _ (ps : Separators) (s : Survey) (t : List ℕ) (n : ℕ) (all : n ≡ count (among (splitting ps)) t) (b : All (λ (a : ℕ). a < 256) t) where
   pub seen-text : (done : List (List ℕ)) (last : List ℕ) → Seen ps done last s → Seen ps done (last ++ t) (withText (ps .field) s t n)
   seen-text [] last w =
       record {
         count = w .count;
         leaves = omega (arith, w .leaves, leaves-text ps [] last t (w .header));
         judged = record { unknown = w .judged .unknown; misplaced = w .judged .misplaced; watcher = w .judged .watcher };
-        kind = ap (λ (l : Letters). withBytes (ps .field) l t) (w .kind) ∙ sym (bytes-append (ps .field) (fresh 1) last t);
+        kind = ap (λ (l : Name). withBytes (ps .field) l t) (w .kind) ∙ sym (bytes-append (ps .field) (fresh 1) last t);
         context =
             context-first s (ps .field) t (w .count)
-            ∙ ap (λ (l : Letters). withBytes (ps .field) l t) (w .context)
+            ∙ ap (λ (l : Name). withBytes (ps .field) l t) (w .context)
             ∙ sym (bytes-append (ps .field) (fresh 5) (drop 7 last) t)
             ∙ ap (withBytes (ps .field) (fresh 5)) (sym (drop-append-le 7 last t (w .header)));
         header = omega (arith, length-append last t, w .header);
+        bytes = all-append (w .bytes) b;
       }
   seen-text (h ∷ ds) last w =
       record {
         count = w .count;
         leaves = omega (arith, w .leaves, leaves-text ps (h ∷ ds) last t (w .header));
         judged = record { unknown = w .judged .unknown; misplaced = w .judged .misplaced; watcher = w .judged .watcher };
-        kind = ap (λ (l : Letters). withBytes (ps .field) l t) (w .kind) ∙ sym (bytes-append (ps .field) (fresh 1) last t);
+        kind = ap (λ (l : Name). withBytes (ps .field) l t) (w .kind) ∙ sym (bytes-append (ps .field) (fresh 1) last t);
         context = context-later s (ps .field) t (λ e. omega (arith, w .count)) ∙ w .context;
         header = w .header;
+        bytes = all-append (w .bytes) b;
       }
 
 -- the first segment, whatever follows
@@ -179,7 +183,7 @@ first-stays (h ∷ ds) last more = refl
 
 -- the letters gathered of the open segment spell its kind
 pub kind-seen : (ps : Separators) (s : Survey) (done : List (List ℕ)) (last : List ℕ) → Seen ps done last s → kindSeen s ≡ kindOfSegment ps last
-kind-seen ps s done last w = ap (numberGathered kindNames) (w .kind) ∙ segment-kind ps last
+kind-seen ps s done last w = ap (numberPacked kindNames) (w .kind) ∙ segment-kind ps (w .bytes)
 
 -- closing the open segment
 module _ (ps : Separators) (s : Survey) (table : List ℕ) (is : table ≡ followers) where
@@ -201,7 +205,7 @@ module _ (ps : Separators) (s : Survey) (table : List ℕ) (is : table ≡ follo
   watching-seen : (done : List (List ℕ)) (last : List ℕ) → Seen ps done last s → watching s ≡ watched (watcherOf done last) (kindsOf ps done)
   unfolding kindsOf watched contextIn
   watching-seen [] last w =
-      watching-first s (w .count) ∙ ap begun (ap (numberGathered contextNames) (w .context) ∙ header-context ps last)
+      watching-first s (w .count) ∙ ap begun (ap (numberPacked contextNames) (w .context) ∙ header-context ps (w .bytes))
   watching-seen (h ∷ ds) last w = watching-later s (λ e. omega (arith, w .count)) ∙ w .judged .watcher
 
   misplaced-seen : (done : List (List ℕ)) (last : List ℕ) → Seen ps done last s → s .misplaced ≡ firstNo 1 (watcherOf done last) (kindsOf ps done)
@@ -258,6 +262,7 @@ module _ (ps : Separators) (s : Survey) (table : List ℕ) (is : table ≡ follo
           kind = sym (bytes-none (ps .field) (fresh 1));
           context = w .context ∙ ap (λ (h : List ℕ). withBytes (ps .field) (fresh 5) (drop 7 h)) (sym (first-stays done last ([] ∷ [])));
           header = rw (first-stays done last ([] ∷ [])) (w .header);
+          bytes = none;
         }
 
     place-closed : placeSeen (closed (listed table) s) ≡ misplaced (contextIn ps (segmentsOf done last)) (kindsOf ps (segmentsOf done last))
@@ -294,18 +299,18 @@ no-context ps = refl
 header-kind : (ps : Separators) → (72 ≡ ps .field → ⊥) → withBytes (ps .field) (fresh 1) (headerBytes ps) ≡ nothingSeen .kind
 unfolding headerBytes fresh
 header-kind ps other =
-    let one : Letters = record { left = 1; length = 1; first = 72; second = 0; third = 0 } in
+    let one : Name = record { left = 1; packed = 328 } in
     let rest : List ℕ = drop 2 (headerBytes ps) in
     bytes-more (ps .field) (fresh 1) 72 (ps .field ∷ rest)
-    ∙ ap (λ (l : Letters). withBytes (ps .field) l (ps .field ∷ rest))
-    (byte-letter (ps .field) (fresh 1) 72 (λ e. omega arith) other refl ∙ first-letter (fresh 1) 72 refl)
+    ∙ ap (λ (l : Name). withBytes (ps .field) l (ps .field ∷ rest))
+    (byte-letter (ps .field) (fresh 1) 72 (λ e. omega arith) other refl ∙ letter-kept (fresh 1) 72 (omega arith))
     ∙ bytes-more (ps .field) one (ps .field) rest
-    ∙ ap (λ (l : Letters). withBytes (ps .field) l rest) (byte-separator (ps .field) one (ps .field) (λ e. omega arith) refl)
+    ∙ ap (λ (l : Name). withBytes (ps .field) l rest) (byte-separator (ps .field) one (ps .field) (λ e. omega arith) refl)
     ∙ bytes-settled (ps .field) (nothingSeen .kind) rest refl
 
-pub seen-begins : (ps : Separators) → (72 ≡ ps .field → ⊥) → Seen ps [] (headerBytes ps) nothingSeen
+pub seen-begins : (ps : Separators) → (72 ≡ ps .field → ⊥) → All (λ (b : ℕ). b < 256) (headerBytes ps) → Seen ps [] (headerBytes ps) nothingSeen
 unfolding headerBytes count sumOf firstUnknown kindsOf firstFrom firstNo watched
-seen-begins ps other =
+seen-begins ps other b =
     record {
       count = refl;
       leaves = sym (length-allSegments ps (headerBytes ps) []);
@@ -313,4 +318,5 @@ seen-begins ps other =
       kind = sym (header-kind ps other);
       context = sym (bytes-none (ps .field) (fresh 5));
       header = omega arith;
+      bytes = b;
     }

@@ -265,7 +265,8 @@ module _ {L : Limits} {ps : Separators} {m : List ℕ} {at from : ℕ} {s : Surv
           last = q .begun .last ++ take (e - from) (drop from m);
           seen =
               seen-text ps s (take (e - from) (drop from m)) separators
-              (all-marked ∙ ap (λ (k : ℕ). count (among (splitting ps)) (take (k - from) (drop from m))) (sym here)) (q .begun .done) (q .begun .last) (q .begun .seen);
+              (all-marked ∙ ap (λ (k : ℕ). count (among (splitting ps)) (take (k - from) (drop from m))) (sym here))
+              (all-take (e - from) (all-drop from (q .bytes))) (q .begun .done) (q .begun .last) (q .begun .seen);
           left = q .begun .joins (e - from) (walkFrom L n (drop n m)) walked;
           few-segments = omega (arith, q .begun .few-segments);
           few-separators = omega (arith, few-marked);
@@ -282,15 +283,16 @@ module _ {L : Limits} {ps : Separators} {m : List ℕ} {at from : ℕ} {s : Surv
       (sym (q .begun .fault .number ∙ ap faultNumber walked), subst (EndedAt i) h (ended-at m at i), sym (q .begun .fault .place ∙ ap faultPlace walked))
 
 -- the first line: its seven header bytes are known
-pub message-begins : (L : Limits) (ps : Separators) (m : List ℕ) → 7 ≤ L .line → SoundHeader m ps → LineBegun L ps m 0 7 nothingSeen
+pub message-begins : (L : Limits) (ps : Separators) (m : List ℕ) → Bytes m → 7 ≤ L .line → SoundHeader m ps → LineBegun L ps m 0 7 nothingSeen
 unfolding walk headerBytes
-message-begins L ps m wide h =
+message-begins L ps m b wide h =
     let starts : take 7 m ≡ headerBytes ps = header-bytes ps m h in
     let field = h .allowed .field in
     record {
       done = [];
       last = take 7 m;
-      seen = subst⁻¹ (λ (t : List ℕ). Seen ps [] t nothingSeen) starts (seen-begins ps (λ e. field .noCapital (omega arith) (omega arith)));
+      seen = subst⁻¹ (λ (t : List ℕ). Seen ps [] t nothingSeen) starts
+          (seen-begins ps (λ e. field .noCapital (omega arith) (omega arith)) (subst Bytes starts (all-take 7 b)));
       joins = λ k ls e.
           left-first (ps .field) (walk L m) (take 7 m ++ take k (drop 7 m)) ls e
           (ap (λ (r : List ℕ). addendum (ps .field) (r ++ take k (drop 7 m))) starts

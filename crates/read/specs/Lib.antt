@@ -1,5 +1,5 @@
 pub mod Classes
-pub mod Letters
+pub mod Naming
 pub mod Scan
 pub mod Laying
 pub mod Starting

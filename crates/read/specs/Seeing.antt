@@ -5,13 +5,13 @@ use mathlib.Core.List.{List}
 use Prim.Native.Nat.{ℕ, _+_}
 use lib.Dec.{eqb}
 use Rattle.laws.specs.Lists.{firstOf}
-use Rattle.form.specs.Names.{kindNames, contextNames, spelledAmong}
+use Rattle.form.specs.Names.{kindNames, contextNames, packedAmong}
 use Rattle.order.specs.Watcher.{begun, tellBy}
 use Rattle.order.specs.declared.watcher.Watcher.{Watcher}
 use Rattle.order.specs.declared.watcher.Told.{Told}
-use Rattle.read.specs.declared.letters.Letters.{Letters}
+use Rattle.read.specs.declared.name.Name.{Name}
 use Rattle.read.specs.declared.survey.Survey.{Survey}
-use Rattle.read.specs.Letters.{fresh, withBytes}
+use Rattle.read.specs.Naming.{fresh, withBytes}
 
 -- before the first line: its seven header bytes are known, so the open segment is an H
 abbrev pub nothingSeen : Survey
@@ -22,12 +22,12 @@ nothingSeen =
       unknown = 0;
       misplaced = 0;
       watcher = begun 0;
-      kind = record { left = 0; length = 1; first = 72; second = 0; third = 0 };
+      kind = record { left = 0; packed = 328 };
       context = fresh 5;
     }
 
 -- a text with so many separators joined to the open segment; only the first segment's goes to the context
-unfoldable pub contextWith : ℕ → Survey → List ℕ → Letters
+unfoldable pub contextWith : ℕ → Survey → List ℕ → Name
 contextWith field s t = elim (eqb (s .segments) 1) [ true ↦ withBytes field (s .context) t | false ↦ s .context ]
 
 abbrev pub withText : ℕ → Survey → List ℕ → ℕ → Survey
@@ -42,12 +42,12 @@ withText field s t separators =
       context = contextWith field s t;
     }
 
--- the kind of the open segment, and the context that the first segment names, by the letters gathered
+-- the kind of the open segment, and the context that the first segment names, by what was packed of their names
 abbrev pub kindSeen : Survey → ℕ
-kindSeen s = spelledAmong kindNames (s .kind .length) (s .kind .first) (s .kind .second) (s .kind .third)
+kindSeen s = packedAmong kindNames (s .kind .packed)
 
 abbrev pub contextSeen : Survey → ℕ
-contextSeen s = spelledAmong contextNames (s .context .length) (s .context .first) (s .context .second) (s .context .third)
+contextSeen s = packedAmong contextNames (s .context .packed)
 
 -- the watcher that is told the open segment's kind: the first segment's field 7.7 begins it
 unfoldable pub watching : Survey → Watcher

@@ -4,6 +4,7 @@ use mathlib.Core.List.{List, [], _∷_, _++_}
 use mathlib.Core.Path.{_≡_}
 use Prim.Native.Nat.{ℕ, suc, _+_, _-_, _≤_, _<_}
 use lib.ListN.{length, getD, take, drop}
+use Rattle.laws.specs.Every.{All}
 use Rattle.form.specs.declared.limits.Limits.{Limits}
 use Rattle.form.specs.declared.separators.Separators.{Separators}
 use Rattle.line.specs.Lines.{Lines, line, walkFrom, walk, texts, faultNumber, faultPlace}
@@ -16,7 +17,7 @@ use Rattle.table.specs.Reading.{firstUnknown}
 use Rattle.read.specs.declared.survey.Survey.{Survey}
 use Rattle.read.specs.declared.survey.Step.{Step}
 use Rattle.read.specs.declared.survey.Step.the-variants.{On, Fault}
-use Rattle.read.specs.Letters.{fresh, withBytes}
+use Rattle.read.specs.Naming.{fresh, withBytes}
 
 -- what has been judged of closed segments: the first of unknown kind, the first that may not stand there, the watcher
 pub record Judged (ps : Separators) (segments : List (List ℕ)) (s : Survey) : Type 0 where
@@ -32,6 +33,7 @@ pub record Seen (ps : Separators) (done : List (List ℕ)) (last : List ℕ) (s 
   pub kind : s .kind ≡ withBytes (ps .field) (fresh 1) last
   pub context : s .context ≡ withBytes (ps .field) (fresh 5) (drop 7 (getD (done ++ last ∷ []) 0 []))
   pub header : 7 ≤ length (getD (done ++ last ∷ []) 0 [])
+  pub bytes : All (λ (b : ℕ). b < 256) last
 
 -- the fault that a walk ends in is the one that its last lines end in
 pub record SameFault (whole ls : Lines) : Type 0 where

@@ -27,7 +27,7 @@ ghost use Rattle.read.specs.Surveying.{Known};
 mod class;
 mod fill;
 mod lay;
-mod letters;
+mod name;
 mod scan;
 mod start;
 mod survey;

@@ -1,7 +1,7 @@
 // The first pass: every line is judged, segments and leaves are counted, kinds, context and order are looked at. Nothing is written but
 // the kinds, which it notes for the second pass.
-use crate::letters::Letters;
-use crate::letters::gather;
+use crate::name::Name;
+use crate::name::gather;
 use crate::scan::scan;
 use crate::start::text_from;
 use form::context::Context;
@@ -35,8 +35,8 @@ pub struct Survey {
     // told the kinds of the closed segments
     pub watcher: Watcher,
     // the kind of the open segment, and field 7.7 of the first one, as far as they have come
-    pub kind: Letters,
-    pub context: Letters,
+    pub kind: Name,
+    pub context: Name,
 }
 
 // What one line comes to: the survey with its text and where the next line begins, or a fault.
@@ -62,14 +62,12 @@ impl Survey {
             unknown: 0,
             misplaced: 0,
             watcher: Watcher::begin(0),
-            kind: Letters {
+            // 256 and the letter H, and no byte can matter any more
+            kind: Name {
                 left: 0,
-                length: 1,
-                first: b'H',
-                second: 0,
-                third: 0,
+                packed: 328,
             },
-            context: Letters::fresh(5),
+            context: Name::fresh(5),
         }
     }
 
@@ -97,12 +95,12 @@ impl Survey {
         next
     }
 
-    // The kind of the open segment by number, from the letters gathered.
+    // The kind of the open segment by number, from the name gathered.
     fn kind_number(self) -> u8
         ensures { λ r. ⌜ r ≡ kindSeen self ⌝ }
     {
-        let letters = self.kind;
-        Kind::spelled(letters.length, letters.first, letters.second, letters.third)
+        let name = self.kind;
+        Kind::packed(name.packed)
     }
 
     // The open segment is closed: its kind is noted and judged, and the watcher told.
@@ -128,13 +126,8 @@ impl Survey {
         ensures { λ r. ⌜ r ≡ watching self ⌝ }
     {
         if self.segments == 1 {
-            let letters = self.context;
-            return Watcher::begin(Context::spelled(
-                letters.length,
-                letters.first,
-                letters.second,
-                letters.third,
-            ));
+            let name = self.context;
+            return Watcher::begin(Context::packed(name.packed));
         }
         self.watcher
     }
@@ -146,7 +139,7 @@ impl Survey {
     {
         let mut next = self;
         next.segments = self.segments + 1;
-        next.kind = Letters::fresh(1);
+        next.kind = Name::fresh(1);
         next
     }
 }

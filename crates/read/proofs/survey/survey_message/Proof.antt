@@ -6,6 +6,7 @@ use mathlib.Core.Path.{ap, _∙_, subst}
 use Prim.Native.Nat.{_+_, _-_}
 use native.Mathlib.Omega.{arith}
 use lib.ListN.{length}
+use Rattle.laws.proofs.Bytes.{bytes-known}
 use Rattle.form.proofs.HeaderRule.{sound-header}
 use Rattle.read.specs.declared.survey.Survey.{Survey}
 use Rattle.read.specs.declared.survey.Step.the-variants.{On}
@@ -27,13 +28,14 @@ begin-requires c κs = search needs
 
 loop-holds : tie.Need-loop-holds Inv-loop μ-loop
 loop-holds c =
+    let at-shared-slice-known = c .before .before .shared-slice-known in
     let at-args = c .before .before .before .args in
     let at-begin = c .begin in
     let at-pre = c .before .before .before .pre in
     let a = at-args in
     let m = a .message .now in
     noting-begins (a .kinds .now) (at-begin .ensures)
-    (message-begins (a .limits) (a .separators) m (at-pre .lawful .header) (sound-header m (a .separators) (at-pre .header)))
+    (message-begins (a .limits) (a .separators) m (bytes-known m (at-shared-slice-known .given)) (at-pre .lawful .header) (sound-header m (a .separators) (at-pre .header)))
 
 see-line-requires : tie.Need-see-line-requires Inv-loop μ-loop
 see-line-requires c κs =

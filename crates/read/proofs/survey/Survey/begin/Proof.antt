@@ -1,9 +1,9 @@
--- `Survey::begin` meets its contract: the watcher begins with no context, the letters of field 7.7 with none.
+-- `Survey::begin` meets its contract: the watcher begins with no context, and field 7.7 with no letter.
 -- Assumes nothing.
 use borrow.Author.Needs.{needs}
 use mathlib.Core.Path.{ap₂}
 use Rattle.order.specs.declared.watcher.Watcher.{Watcher}
-use Rattle.read.specs.declared.letters.Letters.{Letters}
+use Rattle.read.specs.declared.name.Name.{Name}
 use Rattle.read.specs.declared.survey.Survey.{Survey}
 use Rattle.read.specs.Seeing.{nothingSeen}
 use Rattle.read.proofs.survey.Survey.begin.Statement.{statement}
@@ -20,7 +20,7 @@ returns c =
     let at-begin = c .before .begin in
     let at-fresh = c .fresh in
     ap₂ {C = Survey}
-    (λ (w : Watcher) (l : Letters). record { segments = 1; separators = 0; unknown = 0; misplaced = 0; watcher = w; kind = nothingSeen .kind; context = l })
+    (λ (w : Watcher) (l : Name). record { segments = 1; separators = 0; unknown = 0; misplaced = 0; watcher = w; kind = nothingSeen .kind; context = l })
     (at-begin .ensures) (at-fresh .ensures)
 
 pub begin-spec : {M : Type 1} → statement M

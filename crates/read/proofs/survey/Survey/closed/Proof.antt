@@ -1,4 +1,4 @@
--- `Survey::closed` meets its contract: the kind that the letters spell is noted and judged, and told to the watcher.
+-- `Survey::closed` meets its contract: the kind that the packed name stands for is noted and judged, and told to the watcher.
 -- Assumes nothing.
 use mathlib.Core.List.{List}
 use mathlib.Core.Path.{ap, _∙_}

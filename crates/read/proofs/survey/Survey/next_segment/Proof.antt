@@ -3,7 +3,7 @@
 use borrow.Author.Needs.{needs}
 use mathlib.Core.Path.{ap}
 use Prim.Native.Nat.{_+_}
-use Rattle.read.specs.declared.letters.Letters.{Letters}
+use Rattle.read.specs.declared.name.Name.{Name}
 use Rattle.read.specs.declared.survey.Survey.{Survey}
 use Rattle.read.proofs.survey.Survey.next_segment.Statement.{statement}
 use Rattle.read.proofs.survey.Survey.next_segment.Tie as tie
@@ -20,7 +20,7 @@ returns c =
     let at-fresh = c .fresh in
     let a = at-args in
     ap {B = Survey}
-    (λ (l : Letters).
+    (λ (l : Name).
     record {
       segments = a .self .segments + 1;
       separators = a .self .separators;

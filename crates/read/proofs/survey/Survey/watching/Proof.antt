@@ -7,8 +7,8 @@ use Rattle.read.proofs.SeenLaws.{watching-first, watching-later}
 use Rattle.read.proofs.survey.Survey.watching.Statement.{statement}
 use Rattle.read.proofs.survey.Survey.watching.Tie as tie
 
-spelled-requires : tie.Need-spelled-requires
-spelled-requires c κs = search needs
+packed-requires : tie.Need-packed-requires
+packed-requires c κs = search needs
 
 begin-requires : tie.Need-begin-requires
 begin-requires c κs = search needs
@@ -16,10 +16,10 @@ begin-requires c κs = search needs
 returns : tie.Need-returns
 returns c =
     let at-begin = c .begin in
-    let at-spelled = c .before .spelled in
+    let at-packed = c .before .packed in
     let at-args = c .before .before .before .before .before .args in
     let at-if1 = c .before .before .before .if1 in
-    at-begin .ensures ∙ ap begun (at-spelled .ensures) ∙ sym (watching-first (at-args .self) (at-if1 .taken))
+    at-begin .ensures ∙ ap begun (at-packed .ensures) ∙ sym (watching-first (at-args .self) (at-if1 .taken))
 
 returns-2 : tie.Need-returns-2
 returns-2 c =
@@ -28,4 +28,4 @@ returns-2 c =
     sym (watching-later (at-args .self) (at-if1 .left))
 
 pub watching-spec : {M : Type 1} → statement M
-watching-spec = tie.close (tie.spec spelled-requires begin-requires returns returns-2)
+watching-spec = tie.close (tie.spec packed-requires begin-requires returns returns-2)

@@ -1,15 +1,15 @@
--- `read::letters::gather` meets its contract. The loop's invariant: what is left from `i` on, gathered on, gives the whole.
+-- `read::name::gather` meets its contract. The loop's invariant: what is left from `i` on, gathered on, gives the whole.
 -- Assumes nothing.
 use mathlib.Core.Path.{_≡_, refl, sym, ap, _∙_}
 use Prim.Native.Nat.{_≤_, _-_, _+_}
 use native.Mathlib.Omega.{arith}
 use borrow.Author.Needs.{needs}
-use lib.ListN.{length, take, drop}
-use Rattle.read.specs.declared.letters.Letters.{Letters}
-use Rattle.read.specs.Letters.{withBytes}
-use Rattle.read.proofs.LetterLaws.{bytes-settled, bytes-turn, bytes-end}
-use Rattle.read.proofs.letters.gather.Statement.{statement}
-use Rattle.read.proofs.letters.gather.Tie as tie
+use lib.ListN.{take, drop}
+use Rattle.read.specs.declared.name.Name.{Name}
+use Rattle.read.specs.Naming.{withBytes}
+use Rattle.read.proofs.NameLaws.{bytes-settled, bytes-turn, bytes-end}
+use Rattle.read.proofs.name.gather.Statement.{statement}
+use Rattle.read.proofs.name.gather.Tie as tie
 
 abbrev Inv-loop : tie.InvT-loop
 Inv-loop field message from end gathered₀ i₀ gathered i =
@@ -50,7 +50,7 @@ loop-again c =
     let i = at-loop .i in
     let part = take (at-args .end - (i + 1)) (drop (i + 1) (at-args .message .now)) in (
       omega arith,
-      ap (λ (l : Letters). withBytes (at-args .field) l part) (at-with-byte .ensures)
+      ap (λ (l : Name). withBytes (at-args .field) l part) (at-with-byte .ensures)
           ∙ sym (bytes-turn (at-args .field) (at-loop .gathered) (at-args .message .now) i (at-args .end) (omega arith) (omega arith))
           ∙ at-loop .inv .1,
     )

@@ -1,10 +1,10 @@
--- `Letters::with_byte` meets its contract: one step equation a return.
+-- `Name::with_byte` meets its contract: one step equation a return.
 -- Assumes nothing.
 use borrow.Author.Needs.{needs}
 use mathlib.Core.Path.{sym, _∙_}
-use Rattle.read.proofs.LetterLaws.{byte-settled, byte-separator, byte-letter, byte-earlier}
-use Rattle.read.proofs.letters.Letters.with_byte.Statement.{statement}
-use Rattle.read.proofs.letters.Letters.with_byte.Tie as tie
+use Rattle.read.proofs.NameLaws.{byte-settled, byte-separator, byte-letter, byte-earlier}
+use Rattle.read.proofs.name.Name.with_byte.Statement.{statement}
+use Rattle.read.proofs.name.Name.with_byte.Tie as tie
 
 returns : tie.Need-returns
 returns c =

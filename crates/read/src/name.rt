@@ -1,0 +1,73 @@
+// The name in one field of a segment, packed into one number as its lines come: a name may be cut anywhere.
+ghost use mathlib.Core.Path.{_≡_};
+ghost use Prim.Native.Nat.{_≤_, _-_};
+ghost use lib.ListN.{length, take, drop};
+ghost use Rattle.read.specs.Naming.{fresh, withLetter, withByte, withBytes};
+
+// No number of more than three letters is kept: this one stands for them all.
+const TOO_MANY: u32 = 33554432;
+
+pub struct Name {
+    // field separators up to the end of the field: 1 in the field itself, 0 once no byte can matter
+    pub left: usize,
+    // 1 and then the letters that the field has so far, as digits to base 256
+    pub packed: u32,
+}
+
+impl Name {
+    // Nothing gathered yet of the field that so many field separators end.
+    pub fn fresh(left: usize) -> Name
+        ensures { λ r. ⌜ r ≡ fresh left ⌝ }
+    {
+        Name { left, packed: 1 }
+    }
+
+    // The name with one more letter. None has more than three: a fourth letter settles the field.
+    pub fn with_letter(self, b: u8) -> Name
+        ensures { λ r. ⌜ r ≡ withLetter self b ⌝ }
+    {
+        let mut next = self;
+        if self.packed < 16777216 {
+            next.packed = self.packed * 256 + b as u32;
+            return next;
+        }
+        next.left = 0;
+        next.packed = TOO_MANY;
+        next
+    }
+
+    // The name once one more byte of the segment has come.
+    pub fn with_byte(self, field: u8, b: u8) -> Name
+        ensures { λ r. ⌜ r ≡ withByte field self b ⌝ }
+    {
+        let mut next = self;
+        if self.left == 0 {
+            return next;
+        }
+        if b == field {
+            next.left = self.left - 1;
+            return next;
+        }
+        if self.left == 1 {
+            return self.with_letter(b);
+        }
+        next
+    }
+}
+
+// The name once the bytes from `from` up to `end` have come; it stops as soon as no byte can matter.
+pub(crate) fn gather(name: Name, field: u8, message: &[u8], from: usize, end: usize) -> Name
+    requires { ⌜ (from ≤ end) × (end ≤ length (now message)) ⌝ }
+    ensures { λ r. ⌜ r ≡ withBytes field name (take (end - from) (drop from (now (message .entry)))) ⌝ }
+{
+    let mut gathered = name;
+    let mut i = from;
+    while i < end {
+        if gathered.left == 0 {
+            return gathered;
+        }
+        gathered = gathered.with_byte(field, message[i]);
+        i += 1;
+    }
+    gathered
+}
