@@ -8,7 +8,7 @@ use mathlib.Core.Path.{_≡_, refl, sym, ap, ap₂, _∙_, subst}
 use Prim.Native.Nat.{ℕ, zero, suc, _+_, _-_, _*_, _≤_, _<_}
 use native.Mathlib.Omega.{arith}
 use lib.Dec.{leb, eqb}
-use lib.ListN.{length, take, drop, getD, length-drop, take-append-drop, drop-of-length-le}
+use lib.ListN.{length, take, drop, getD, length-append, length-drop, take-append-drop, drop-of-length-le}
 use lib.Seq.{getD-take, getD-drop, drop-drop, take-all}
 use borrow.Author.Tests.{eqb-true, eqb-false, not-true, not-false}
 use Rattle.laws.specs.Lists.{same, among}
@@ -19,17 +19,18 @@ use Rattle.laws.proofs.Tests.{never-both, and-first, and-second}
 use Rattle.form.specs.Header.{allAllowed, different, splitting}
 use Rattle.form.specs.Header as header
 use Rattle.line.specs.Lines.{space}
-use Rattle.table.specs.Rows.{leafRowSize}
+use Rattle.table.specs.Leaves.{Leaf}
+use Rattle.table.specs.Rows.{leafRowSize, textOf}
 use Rattle.table.specs.Flat.{ones}
 use Rattle.table.specs.Back.{leafAt}
 use Rattle.table.specs.RowTests.{endToEnd, nextPlace, leafText, goOn, goOnFrom}
 use Rattle.table.proofs.EndToEnd.{ends-start, ends-later, ends-last}
 use Rattle.table.proofs.RowTests.{next-same, next-raised}
 use Rattle.write.specs.Local.{thirdPlace}
-use Rattle.write.specs.Tests.{Decides, placeOf, PlacesFollow, Laid, SegmentEnd, finer, leavesFrom, separatorsAt, headerLeavesAt, soundLeaves}
+use Rattle.write.specs.Tests.{Decides, InText, placeOf, PlacesFollow, Laid, SegmentEnd, finer, leavesFrom, separatorsAt, headerLeavesAt, soundLeaves}
 use Rattle.write.proofs.LeafTests.{Ending, ending-begins, ending-fails, ending-on, ending-done}
 use Rattle.write.proofs.PlaceTests.{five-at, Next, next-numbers}
-use Rattle.write.proofs.SegmentTests.{leaves-cons}
+use Rattle.write.proofs.SegmentTests.{row-length, leaves-cons, leaves-none}
 
 -- the starts of rows that lie end to end
 module _ (rows : List ℕ) (count finish : ℕ) (h : endToEnd rows finish 0 count 0 ≡ true) where
@@ -66,15 +67,50 @@ module _ (rows : List ℕ) (count finish : ℕ) (h : endToEnd rows finish 0 coun
       (subst (λ (n : ℕ). endToEnd rows finish (suc k) n (start k + size k) ≡ true) (let e : count - suc k ≡ suc (count - suc k - 1) = omega arith in e)
       (after k (omega arith)))
 
-  pub ended-last : (k : ℕ) → suc k ≡ count → start k + size k ≡ finish
-  ended-last k e =
-      ends-last rows finish (suc k) (start k + size k) .0
-      (subst (λ (n : ℕ). endToEnd rows finish (suc k) n (start k + size k) ≡ true) (let d : count - suc k ≡ 0 = omega arith in d) (after k (omega arith)))
-
   pub ended-first : 0 < count → start 0 ≡ 0
   ended-first l =
       ends-start rows finish 0 (count - 1) 0
       (subst (λ (n : ℕ). endToEnd rows finish 0 n 0 ≡ true) (let e : count ≡ suc (count - 1) = omega arith in e) h)
+
+-- the bytes of texts that lie end to end: from the first one's start up to the last one's end
+module _ (rows text : List ℕ) (count : ℕ) (w : InText rows text count) (h : endToEnd rows (length text) 0 count 0 ≡ true) where
+  span : (n first : ℕ) → first + n < count
+      → length (textOf (leavesFrom rows text first (first + n + 1))) + getD rows (first * leafRowSize + 5) 0
+      ≡ getD rows ((first + n) * leafRowSize + 5) 0 + getD rows ((first + n) * leafRowSize + 6) 0
+  unfolding textOf
+  span zero first l =
+      let one : length (textOf (leavesFrom rows text first (first + 0 + 1))) ≡ getD rows (first * leafRowSize + 6) 0 =
+      ap (λ (ls : List Leaf). length (textOf ls))
+      (leaves-cons rows text first (first + 0 + 1) (omega arith)
+      ∙ ap (λ (ls : List Leaf). leafAt rows text first ∷ ls) (leaves-none rows text (first + 1) (first + 0 + 1) (omega arith)))
+      ∙ length-append (leafAt rows text first .text) []
+      ∙ omega (arith, row-length rows text first (w .fits first (omega arith))) in
+      subst
+      (λ (k : ℕ).
+      length (textOf (leavesFrom rows text first (first + 0 + 1))) + getD rows (first * leafRowSize + 5) 0
+      ≡ getD rows (k * leafRowSize + 5) 0 + getD rows (k * leafRowSize + 6) 0)
+      (let e : first ≡ first + 0 = omega arith in e) (omega (arith, one))
+  span (suc n) first l =
+      let more : length (textOf (leavesFrom rows text first (first + suc n + 1)))
+      ≡ getD rows (first * leafRowSize + 6) 0 + length (textOf (leavesFrom rows text (suc first) (suc first + n + 1))) =
+      ap (λ (ls : List Leaf). length (textOf ls)) (leaves-cons rows text first (first + suc n + 1) (omega arith))
+      ∙ length-append (leafAt rows text first .text) (textOf (leavesFrom rows text (first + 1) (first + suc n + 1)))
+      ∙ ap₂ _+_ (row-length rows text first (w .fits first (omega arith)))
+      (ap₂ (λ (a b : ℕ). length (textOf (leavesFrom rows text a b))) (let e : first + 1 ≡ suc first = omega arith in e) (let e : first + suc n + 1 ≡ suc first + n + 1 = omega arith in e)) in
+      subst
+      (λ (k : ℕ).
+      length (textOf (leavesFrom rows text first (first + suc n + 1))) + getD rows (first * leafRowSize + 5) 0
+      ≡ getD rows (k * leafRowSize + 5) 0 + getD rows (k * leafRowSize + 6) 0)
+      (let e : suc first + n ≡ first + suc n = omega arith in e)
+      (omega (arith, more, span n (suc first) (omega arith), ended-next rows count (length text) h first (omega arith)))
+
+  pub texts-span : (first end : ℕ) → first < end → end ≤ count
+      → length (textOf (leavesFrom rows text first end)) + getD rows (first * leafRowSize + 5) 0
+      ≡ getD rows ((end - 1) * leafRowSize + 5) 0 + getD rows ((end - 1) * leafRowSize + 6) 0
+  texts-span first end from to =
+      ap (λ (k : ℕ). length (textOf (leavesFrom rows text first k)) + getD rows (first * leafRowSize + 5) 0) (let e : end ≡ first + (end - 1 - first) + 1 = omega arith in e)
+      ∙ span (end - 1 - first) first (omega arith)
+      ∙ ap (λ (k : ℕ). getD rows (k * leafRowSize + 5) 0 + getD rows (k * leafRowSize + 6) 0) (let e : first + (end - 1 - first) ≡ end - 1 = omega arith in e)
 
 -- a row in a field other than the one asked for, and the row after the only leaf of a field: its field tells its place
 pub place-other : (rows : List ℕ) (at field : ℕ) → (getD rows (at + 1) 0 ≡ field → ⊥) → same (take 5 (drop at rows)) (1 ∷ field ∷ 1 ∷ 1 ∷ 1 ∷ []) ≡ false

@@ -216,36 +216,3 @@ module _ (rows : List ℕ) (i kind first count : ℕ) where
   states-count n k f =
       sym (and-passed count-is
       (and-both (and-both (ap not (ne-eqb kind 0 n)) (eq-eqb (getD rows (i * segmentRowSize) 0) kind k)) (eq-eqb (getD rows (i * segmentRowSize + 2) 0) first f)))
-
--- the bytes of texts: those of the leaves up to i have been counted
-pub record Summing (rows text : List ℕ) (first end i bytes : ℕ) : Type 0 where
-  pub after : first ≤ i
-  pub within : i ≤ end
-  pub few : bytes ≤ i * 65535
-  pub so : bytes + length (textOf (leavesFrom rows text i end)) ≡ length (textOf (leavesFrom rows text first end))
-
-pub summing-begins : {rows text : List ℕ} {first end : ℕ} → first ≤ end → Summing rows text first end first 0
-summing-begins h = record { after = omega arith; within = h; few = omega arith; so = omega arith }
-
-module _ {rows text : List ℕ} {first end i bytes : ℕ} (w : Summing rows text first end i bytes) where
-  pub summing-on : i < end → getD rows (i * leafRowSize + 5) 0 + getD rows (i * leafRowSize + 6) 0 ≤ length text
-      → {size : ℕ} → size ≡ getD rows (i * leafRowSize + 6) 0 → size < 65536 → Summing rows text first end (i + 1) (bytes + size)
-  unfolding textOf
-  summing-on h fits {size} e small =
-      record {
-        after = omega (arith, w .after);
-        within = omega arith;
-        few = omega (arith, w .few);
-        so =
-            omega (
-              arith,
-              w .so,
-              ap (λ (ls : List Leaf). length (textOf ls)) (leaves-cons rows text i end h),
-              length-append (leafAt rows text i .text) (textOf (leavesFrom rows text (i + 1) end)),
-              row-length rows text i fits,
-            );
-      }
-
-  pub summing-done : end ≤ i → bytes ≡ length (textOf (leavesFrom rows text first end))
-  unfolding textOf
-  summing-done h = omega (arith, w .so, ap (λ (ls : List Leaf). length (textOf ls)) (leaves-none rows text i end h))

@@ -2,7 +2,7 @@
 -- Assumes nothing.
 use mathlib.Core.Bool.{true, false}
 use mathlib.Core.List.{List}
-use mathlib.Core.Path.{_≡_, sym, ap, _∙_}
+use mathlib.Core.Path.{_≡_, sym, ap, subst, _∙_}
 use Prim.Native.Nat.{ℕ, _*_, _≤_}
 use native.Mathlib.Omega.{arith}
 use lib.Dec.{ltb}
@@ -14,6 +14,7 @@ use Rattle.form.specs.declared.limits.Limits.{Limits}
 use Rattle.form.specs.Limits.{Lawful}
 use Rattle.table.specs.Rows.{Table, leafRowSize}
 use Rattle.table.specs.Back.{leafAt, leavesOf, linesOf, written}
+use Rattle.table.specs.RowTests.{endToEnd}
 use Rattle.table.specs.BySegment.{bySegment, writtenBytes}
 use Rattle.table.specs.Lent.{Lent, counted}
 use Rattle.write.specs.Local.{groupsOf}
@@ -30,6 +31,7 @@ pub record Counts (L : Limits) (levels : ℕ → ℕ → ℕ) (l : Lent) : Type 
   pub within : Within l
   pub few : l .card .leaves ≤ L .leaves
   pub inText : InText (take (l .card .leaves * leafRowSize) (l .leafRows)) (take (l .card .text) (l .text)) (l .card .leaves)
+  pub laid : endToEnd (take (l .card .leaves * leafRowSize) (l .leafRows)) (length (take (l .card .text) (l .text))) 0 (l .card .leaves) 0 ≡ true
   pub size : sumOf (writtenBytes L)
       (bySegment (values (leafAt (take (l .card .leaves * leafRowSize) (l .leafRows)) (take (l .card .text) (l .text))) 0 (l .card .leaves)))
       ≡ writtenSize L levels l
@@ -46,6 +48,7 @@ module _ (L : Limits) (lawful : Lawful L) (levels : ℕ → ℕ → ℕ) (l : Le
         inText =
             laid-in-text (counted l .leafRows) (counted l .text) (l .card .leaves) (l .card .text) (sized .leafRows)
             (omega (arith, w .1 .few .leaves)) (sized .text) (w .1 .laid);
+        laid = subst (λ (n : ℕ). endToEnd (counted l .leafRows) n 0 (l .card .leaves) 0 ≡ true) (sym (sized .text)) (w .1 .laid);
         size =
             local-bytes lawful (rows-local sized (w .1))
             ∙ sym (ap (λ v. answer v .bytes) (table-written-out L lawful levels l (L .bytes) (le-ltb (L .bytes) (L .bytes) (omega arith)) e));

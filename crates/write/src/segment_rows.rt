@@ -8,7 +8,7 @@ use form::limits::Limits;
 use order::levels;
 use order::owners;
 use order::watcher::Watcher;
-ghost use mathlib.Core.Bool.{_&&_};
+ghost use mathlib.Core.Bool.{true, _&&_};
 ghost use mathlib.Core.Path.{_≡_};
 ghost use Prim.Native.Nat.{ℕ, _+_, _-_, _*_, _≤_, _<_};
 ghost use lib.Dec.{leb, eqb};
@@ -23,6 +23,7 @@ ghost use Rattle.order.specs.Owners.{owners};
 ghost use Rattle.order.specs.Place.{misplaced};
 ghost use Rattle.table.specs.Rows.{textOf};
 ghost use Rattle.table.specs.Back.{leafAt};
+ghost use Rattle.table.specs.RowTests.{endToEnd};
 ghost use Rattle.table.specs.BySegment.{bySegment, kindAmong, contextAmong, writtenBytes};
 ghost use Rattle.write.specs.Tests.{Decides, Small, InText, PlacesFollow, leavesFrom, SegmentEnd, FieldLeaf, rowStates, groupsStated, kindColumn, ownerColumn, KindsStated};
 
@@ -219,18 +220,14 @@ pub(crate) fn owned(table: &[u8; 84], context: u8, segments: &[u16], many: usize
     true
 }
 
-// The bytes of the texts of the leaves from `first` up to `end`.
+// The bytes of the texts of the leaves from `first` up to `end`, which lie end to end: from the first one's start up to the last one's end.
 fn text_bytes(rows: &[u16], text: &[u8], count: usize, first: usize, end: usize) -> usize
-    requires { ⌜ InText (now rows) (now text) count × (first ≤ end) × (end ≤ count) ⌝ }
+    requires { ⌜ InText (now rows) (now text) count × (first < end) × (end ≤ count) × (endToEnd (now rows) (length (now text)) 0 count 0 ≡ true) ⌝ }
     ensures { λ r. ⌜ (r ≡ length (textOf (leavesFrom (now (rows .entry)) (now (text .entry)) first end))) × (r ≤ 4294836225) ⌝ }
 {
-    let mut bytes = 0;
-    let mut i = first;
-    while i < end {
-        bytes += wide(rows[i * LEAF + LENGTH]);
-        i += 1;
-    }
-    bytes
+    let last = (end - 1) * LEAF;
+    let finish = wide(rows[last + START]) + wide(rows[last + LENGTH]);
+    finish - wide(rows[first * LEAF + START])
 }
 
 // The bytes that are written for the segment of the leaves from `first` up to `end`: its texts and separators, a CR for each line, and
@@ -243,7 +240,8 @@ fn segment_bytes(
     first: usize,
     end: usize,
 ) -> usize
-    requires { ⌜ Lawful limits × InText (now rows) (now text) count × (first < end) × (end ≤ count) ⌝ }
+    requires { ⌜ Lawful limits × InText (now rows) (now text) count × (first < end) × (end ≤ count)
+        × (endToEnd (now rows) (length (now text)) 0 count 0 ≡ true) ⌝ }
     ensures { λ r. ⌜ (r ≡ writtenBytes limits (leavesFrom (now (rows .entry)) (now (text .entry)) first end)) × (r ≤ 4294967296 * 4) ⌝ }
 {
     let bytes = text_bytes(rows, text, count, first, end) + (end - first - 1);
@@ -252,7 +250,7 @@ fn segment_bytes(
 
 // The bytes that are written for all segments.
 pub(crate) fn message_bytes(limits: Limits, rows: &[u16], text: &[u8], count: usize) -> usize
-    requires { ⌜ Lawful limits × InText (now rows) (now text) count ⌝ }
+    requires { ⌜ Lawful limits × InText (now rows) (now text) count × (endToEnd (now rows) (length (now text)) 0 count 0 ≡ true) ⌝ }
     ensures { λ r. ⌜ r ≡ sumOf (writtenBytes limits) (bySegment (values (leafAt (now (rows .entry)) (now (text .entry))) 0 count)) ⌝ }
 {
     let mut total = 0;
@@ -267,7 +265,7 @@ pub(crate) fn message_bytes(limits: Limits, rows: &[u16], text: &[u8], count: us
 
 // Whether they keep to the limit.
 pub(crate) fn short(limits: Limits, rows: &[u16], text: &[u8], count: usize) -> bool
-    requires { ⌜ Lawful limits × InText (now rows) (now text) count ⌝ }
+    requires { ⌜ Lawful limits × InText (now rows) (now text) count × (endToEnd (now rows) (length (now text)) 0 count 0 ≡ true) ⌝ }
     ensures { λ r. ⌜ r ≡ leb (sumOf (writtenBytes limits) (bySegment (values (leafAt (now (rows .entry)) (now (text .entry))) 0 count))) (limits .bytes) ⌝ }
 {
     message_bytes(limits, rows, text, count) <= limits.bytes

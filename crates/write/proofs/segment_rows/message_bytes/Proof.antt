@@ -28,7 +28,7 @@ segment-bytes-requires : tie.Need-segment-bytes-requires Inv-loop μ-loop
 segment-bytes-requires c κs =
     let at-pre = c .before .before .before .before .before .pre in
     let at-segment-end = c .segment-end in
-    (at-pre .0, at-pre .1, at-segment-end .ensures .from, at-segment-end .ensures .to)
+    (at-pre .0, at-pre .1, at-segment-end .ensures .from, at-segment-end .ensures .to, at-pre .2)
 
 add-total : tie.Need-add-total Inv-loop μ-loop
 add-total c =

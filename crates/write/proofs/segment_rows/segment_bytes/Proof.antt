@@ -14,7 +14,7 @@ use Rattle.write.proofs.segment_rows.segment_bytes.Tie as tie
 text-bytes-requires : tie.Need-text-bytes-requires
 text-bytes-requires c κs =
     let at-pre = c .before .before .pre in
-    (at-pre .1, omega (arith, at-pre .2), at-pre .3)
+    (at-pre .1, at-pre .2, at-pre .3, at-pre .4)
 
 sub-bytes : tie.Need-sub-bytes
 sub-bytes c =

@@ -66,7 +66,7 @@ message-bytes-requires c κs =
     let at-args = c .before .before .before .before .before .before .before .before .before .args in
     let at-is-table = c .before .before .before .before .before .is-table in
     let at-if1 = c .before .before .before .before .if1 in
-    (subst⁻¹ Lawful (at-limits .ensures) form-lawful, counts (lent (at-args .card) (at-args .segments .now) (at-args .leaves .now) (at-args .text .now)) (sym (at-is-table .ensures) ∙ at-if1 .taken) .inText)
+    (subst⁻¹ Lawful (at-limits .ensures) form-lawful, counts (lent (at-args .card) (at-args .segments .now) (at-args .leaves .now) (at-args .text .now)) (sym (at-is-table .ensures) ∙ at-if1 .taken) .inText, counts (lent (at-args .card) (at-args .segments .now) (at-args .leaves .now) (at-args .text .now)) (sym (at-is-table .ensures) ∙ at-if1 .taken) .laid)
 
 returns : tie.Need-returns
 returns c =

@@ -2,6 +2,9 @@
 -- Assumes nothing.
 use mathlib.Core.Path.{_≡_, sym, subst, _∙_}
 use borrow.Author.Tests.{not-true, not-false}
+use mathlib.Core.Bool.{true}
+use Prim.Native.Nat.{ℕ}
+use Rattle.table.specs.RowTests.{endToEnd}
 use Rattle.laws.specs.Tables.{values}
 use Rattle.laws.proofs.Tests.{never-both}
 use Rattle.order.specs.Levels.{levelIn}
@@ -109,7 +112,7 @@ short-requires c κs =
     let at-args = c .before .before .before .before .before .before .before .before .before .before .before .before .before .before .args in
     let at-laid = c .before .before .before .before .before .before .before .before .before .laid in
     let at-if2 = c .before .before .before .before .before .before .before .before .if2 in
-    (at-pre .lawful, (laid-in-text (at-args .leaves .now) (at-args .text .now) (at-args .card .leaves) (at-args .card .text) (at-pre .sized .leafRows) (omega (arith, at-pre .leaves, at-pre .small .leaves)) (at-pre .sized .text) (at-laid .ensures .0 (not-false (at-laid .result) (at-if2 .left)) .ended)))
+    (at-pre .lawful, (laid-in-text (at-args .leaves .now) (at-args .text .now) (at-args .card .leaves) (at-args .card .text) (at-pre .sized .leafRows) (omega (arith, at-pre .leaves, at-pre .small .leaves)) (at-pre .sized .text) (at-laid .ensures .0 (not-false (at-laid .result) (at-if2 .left)) .ended)), subst (λ (n : ℕ). endToEnd (at-args .leaves .now) n 0 (at-args .card .leaves) 0 ≡ true) (sym (at-pre .sized .text)) (at-laid .ensures .0 (not-false (at-laid .result) (at-if2 .left)) .ended))
 
 returns-7 : tie.Need-returns-7
 returns-7 c =
