@@ -117,13 +117,13 @@ module _ {lv : ℕ → ℕ} {ps : Separators} {text₀ segments₀ leaves₀ : L
 
     pub closed-rows : segments′ ≡ sets segments₀ 0 (closedRows lv ps so-far)
     closed-rows =
-        let count : (f .laying .row + 7 - f .first) / 7 ≡ length (leavesBehind ps closed begun) = omega (arith, begun-own, b .first) in
-        let first : f .first / 7 + 1 ≡ 1 + length (allLeaves ps closed) = omega (arith, b .first) in
+        let count : f .laying .row / 7 + 2 - f .first ≡ length (leavesBehind ps closed begun) = omega (arith, begun-own, b .first) in
+        let first : f .first ≡ 1 + length (allLeaves ps closed) = omega (arith, b .first) in
         let place : (f .laying .segment - 1) * 4 ≡ length (closedRows lv ps closed)
         = omega (arith, length-closedRows lv ps closed, b .number) in
         w .row
         ∙ ap₂ (λ (s r : List ℕ). sets s ((f .laying .segment - 1) * 4) r) (b .rows)
-        (ap₂ (λ (x o : ℕ). segmentRow x o (f .first / 7 + 1) ((f .laying .row + 7 - f .first) / 7)) is owner-by
+        (ap₂ (λ (x o : ℕ). segmentRow x o (f .first) (f .laying .row / 7 + 2 - f .first)) is owner-by
         ∙ ap₂ (λ (n m : ℕ). segmentRow (kindOfSegment ps begun) (ownerBehind lv ps closed (kindOfSegment ps begun)) n m) first count)
         ∙ sets-behind segments₀ (closedRows lv ps closed)
         (segmentRow (kindOfSegment ps begun) (ownerBehind lv ps closed (kindOfSegment ps begun)) (1 + length (allLeaves ps closed))

@@ -23,7 +23,7 @@ use Rattle.read.proofs.HeldLaws.{leaf-closes, held-begins, held-copied,
 pub closed-by : {f : Filling} {levels : List ℕ} {context : ℕ} {nearest segments leaves nearest′ segments′ leaves′ : List ℕ} {kind level owner : ℕ}
     → level ≡ levelIn levels context kind → Owned nearest nearest′ (f .laying .segment) kind level owner
     → leaves′ ≡ sets leaves (f .laying .row) (rowOf (f .laying))
-    → segments′ ≡ sets segments ((f .laying .segment - 1) * 4) (segmentRow kind owner (f .first / 7 + 1) ((f .laying .row + 7 - f .first) / 7))
+    → segments′ ≡ sets segments ((f .laying .segment - 1) * 4) (segmentRow kind owner (f .first) (f .laying .row / 7 + 2 - f .first))
     → ClosedBy f kind levels context nearest segments leaves nearest′ segments′ leaves′
 closed-by {f} {nearest = nearest} {nearest′ = nearest′} {kind = kind} {owner = owner} told owns leaf row =
     record {
@@ -34,8 +34,8 @@ closed-by {f} {nearest = nearest} {nearest′ = nearest′} {kind = kind} {owner
     }
 
 -- the segment after it
-pub begun-after : (f : Filling) {l : Laying} → l ≡ nextSegment (f .laying) → record { laying = l; first = f .laying .row + 7 } ≡ begunAfter f
-begun-after f e = ap {B = Filling} (λ (l : Laying). record { laying = l; first = f .laying .row + 7 }) e
+pub begun-after : (f : Filling) {l : Laying} → l ≡ nextSegment (f .laying) → record { laying = l; first = f .laying .row / 7 + 2 } ≡ begunAfter f
+begun-after f e = ap {B = Filling} (λ (l : Laying). record { laying = l; first = f .laying .row / 7 + 2 }) e
 
 -- a line
 pub line-filled : {class message : List ℕ} {from : ℕ} {f : Filling} {text leaves text′ leaves′ : List ℕ}
@@ -79,7 +79,7 @@ module _ (ps : Separators) (text leaves : List ℕ) where
 
   pub header-put : {leaves₁ leaves₂ : List ℕ} {l : Laying} → leaves₁ ≡ sets leaves 0 (rowOf nameLeaf)
       → leaves₂ ≡ sets leaves₁ 7 (rowOf statedLeaf) → l ≡ nextLeaf statedLeaf 1
-      → HeaderPut ps text leaves (record { laying = l; first = 0 })
+      → HeaderPut ps text leaves (record { laying = l; first = 1 })
       (sets text 0 (72 ∷ stated)) leaves₂
   unfolding nextLeaf
   header-put {leaves₁} {leaves₂} {l} name rest is =

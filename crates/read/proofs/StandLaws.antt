@@ -118,6 +118,7 @@ module _ {c : Came} {class kinds levels : List ℕ} {context : ℕ} {ps : Separa
         numbered = omega arith;
         noted = omega (arith, w .surveyed .all);
         segmentRoom = omega (arith, given .few, given .segmentRoom);
+        begins = omega arith;
         some = omega arith;
       }
 

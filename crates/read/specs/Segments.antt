@@ -41,7 +41,8 @@ pub record Closable (f : Filling) (kinds segments leaves : List ℕ) : Type 0 wh
   pub numbered : 1 ≤ f .laying .segment
   pub noted : f .laying .segment ≤ length kinds
   pub segmentRoom : f .laying .segment * 4 ≤ length segments
-  pub some : f .first ≤ f .laying .row
+  pub begins : 1 ≤ f .first
+  pub some : f .first ≤ f .laying .row / 7 + 1
 
 -- what it gives, by the kind noted: both rows, and what is known of the rows so far
 pub record ClosedBy (f : Filling) (kind : ℕ) (levels : List ℕ) (context : ℕ) (nearest segments leaves nearest′ segments′ leaves′ : List ℕ) : Type 0 where
@@ -51,11 +52,11 @@ pub record ClosedBy (f : Filling) (kind : ℕ) (levels : List ℕ) (context : �
   pub row :
       segments′
       ≡ sets segments ((f .laying .segment - 1) * 4)
-      (segmentRow kind owner (f .first / 7 + 1) ((f .laying .row + 7 - f .first) / 7))
+      (segmentRow kind owner (f .first) (f .laying .row / 7 + 2 - f .first))
 
 -- the state after a segment that has been closed
 abbrev pub begunAfter : Filling → Filling
-begunAfter f = record { laying = nextSegment (f .laying); first = f .laying .row + 7 }
+begunAfter f = record { laying = nextSegment (f .laying); first = f .laying .row / 7 + 2 }
 
 -- the first two leaves of the H: of a message that begins with the bytes of these separators
 pub record HeaderPut (ps : Separators) (text leaves : List ℕ) (r : Filling) (text′ leaves′ : List ℕ) : Type 0 where
@@ -63,7 +64,7 @@ pub record HeaderPut (ps : Separators) (text leaves : List ℕ) (r : Filling) (t
   pub counted : Counted (r .laying)
   pub number : r .laying .segment ≡ 1
   pub out : r .laying .out ≡ 5
-  pub first : r .first ≡ 0
+  pub first : r .first ≡ 1
 
 -- the bytes of a line from `from` on
 abbrev pub lineText : List ℕ → List ℕ → ℕ → List ℕ
@@ -98,7 +99,7 @@ pub record Begun
   pub held : Held text₀ leaves₀ (passOver ps (closed ++ (begun ∷ []))) (f .laying) text leaves
   pub counted : Counted (f .laying)
   pub number : f .laying .segment ≡ length closed + 1
-  pub first : f .first ≡ length (allLeaves ps closed) * 7
+  pub first : f .first ≡ length (allLeaves ps closed) + 1
   pub rows : segments ≡ sets segments₀ 0 (closedRows lv ps closed)
   pub known : nearest ≡ knownAfter lv noRows 1 (kindsOf ps closed)
 

@@ -61,6 +61,7 @@ fn close_segment(
     let laying = filling.laying;
     put_leaf(laying, leaves);
     let row = laying.segment - 1;
+    let next = laying.row / 7 + 2;
     let kind = kinds[row];
     let owner = owner_of(
         nearest,
@@ -73,8 +74,8 @@ fn close_segment(
         row,
         kind,
         owner,
-        (filling.first / 7 + 1) as u16,
-        ((laying.row + 7 - filling.first) / 7) as u16,
+        filling.first as u16,
+        (next - filling.first) as u16,
     );
 }
 
@@ -112,7 +113,7 @@ fn put_header(separators: Separators, text: &mut [u8], leaves: &mut [u16]) -> Fi
     put_leaf(stated, leaves);
     Filling {
         laying: stated.next_leaf(1),
-        first: 0,
+        first: 1,
     }
 }
 
@@ -149,7 +150,7 @@ fn next_segment(filling: Filling) -> Filling
     let laying = filling.laying;
     Filling {
         laying: laying.next_segment(),
-        first: laying.row + 7,
+        first: laying.row / 7 + 2,
     }
 }
 

@@ -14,10 +14,11 @@ sub-row c =
     let at-pre = c .before .before .before .before .before .before .before .before .before .pre in
     omega (arith, at-pre)
 
+add-next : tie.Need-add-next
+add-next c = search needs
+
 shared-slice-read-kind : tie.Need-shared-slice-read-kind
-shared-slice-read-kind c =
-    let at-pre = c .before .before .before .before .before .before .before .before .before .before .pre in
-    omega (arith, at-pre)
+shared-slice-read-kind c = search needs
 
 cast-owner-of : tie.Need-cast-owner-of
 cast-owner-of c = search needs
@@ -28,20 +29,8 @@ level-of-requires c κs = search needs
 owner-of-requires : tie.Need-owner-of-requires
 owner-of-requires c κs = search needs
 
-add-put-segment : tie.Need-add-put-segment
-add-put-segment c =
-    let at-pre = c .before .before .before .before .before .before .before .before .before .before .before .before .before .before .before .before .pre in
-    omega (arith, at-pre)
-
 cast-put-segment : tie.Need-cast-put-segment
-cast-put-segment c =
-    let at-pre = c .before .before .before .before .before .before .before .before .before .before .before .before .before .before .before .before .pre in
-    omega (arith, at-pre)
-
-add-put-segment-2 : tie.Need-add-put-segment-2
-add-put-segment-2 c =
-    let at-pre = c .before .before .before .before .before .before .before .before .before .before .before .before .before .before .before .before .before .pre in
-    omega (arith, at-pre)
+cast-put-segment c = search needs
 
 sub-put-segment : tie.Need-sub-put-segment
 sub-put-segment c =
@@ -62,14 +51,12 @@ same-length : tie.Need-same-length
 same-length c = search needs
 
 same-length-2 : tie.Need-same-length-2
-same-length-2 c =
-    let at-put-leaf = c .before .before .before .before .before .before .before .before .before .before .before .before .before .before .before .put-leaf in
-    at-put-leaf .kept .1 .0
+same-length-2 c = search needs
 
 returns : tie.Need-returns
 returns c =
-    let at-level-of = c .before .before .before .before .before .before .before .before .level-of in
-    let at-owner-of = c .before .before .before .before .before .before .before .owner-of in
+    let at-level-of = c .before .before .before .before .before .before .before .level-of in
+    let at-owner-of = c .before .before .before .before .before .before .owner-of in
     let at-put-leaf = c .before .before .before .before .before .before .before .before .before .before .before .before .before .before .before .put-leaf in
     let at-put-segment = c .before .before .put-segment in
     closed-by (at-level-of .ensures) (at-owner-of .ensures) (at-put-leaf .ensures) (at-put-segment .ensures)
@@ -80,13 +67,12 @@ close-segment-spec =
     (tie.spec
     put-leaf-requires
     sub-row
+    add-next
     shared-slice-read-kind
     cast-owner-of
     level-of-requires
     owner-of-requires
-    add-put-segment
     cast-put-segment
-    add-put-segment-2
     sub-put-segment
     cast-put-segment-2
     put-segment-requires

@@ -1,4 +1,4 @@
--- `read::fill::next_segment` meets its contract: the next leaf, and where its row stands.
+-- `read::fill::next_segment` meets its contract: the next leaf, and its number.
 -- Assumes nothing.
 use Rattle.read.proofs.SegmentLaws.{begun-after}
 use borrow.Author.Needs.{needs}
@@ -8,8 +8,8 @@ use Rattle.read.proofs.fill.next_segment.Tie as tie
 next-segment-requires : tie.Need-next-segment-requires
 next-segment-requires c κs = search needs
 
-add-t4 : tie.Need-add-t4
-add-t4 c = search needs
+add-t5 : tie.Need-add-t5
+add-t5 c = search needs
 
 returns : tie.Need-returns
 returns c =
@@ -18,4 +18,4 @@ returns c =
     begun-after (at-args .filling) (at-next-segment .ensures)
 
 pub next-segment-spec : {M : Type 1} → statement M
-next-segment-spec = tie.close (tie.spec next-segment-requires add-t4 returns)
+next-segment-spec = tie.close (tie.spec next-segment-requires add-t5 returns)
