@@ -2,8 +2,8 @@
 -- letters of the field, however the segment was cut.
 -- Assumes nothing.
 use mathlib.Core.List.{List, [], _∷_, _++_}
-use mathlib.Core.Logic.{_⊎_, inl, inr, ⊎-elim}
-use mathlib.Core.Path.{_≡_, refl, sym, ap, ap₂, _∙_}
+use mathlib.Core.Logic.{⊎-elim}
+use mathlib.Core.Path.{_≡_, refl, sym, ap, _∙_}
 use Prim.Native.Nat.{ℕ, zero, suc, _+_, _*_, _-_, _≤_, _<_}
 use native.Mathlib.Omega.{arith}
 use lib.ListN.{length, getD, take, drop}
@@ -26,9 +26,9 @@ module _ (l : Name) (b : ℕ) where
   unfolding withLetter
   letter-kept h = rw (lt-ltb (l .packed) 16777216 h, withLetter)
 
-  pub letter-settles : 16777216 ≤ l .packed → withLetter l b ≡ record { left = 0; packed = tooMany }
+  pub letter-many : 16777216 ≤ l .packed → withLetter l b ≡ record { left = l .left; packed = tooMany }
   unfolding withLetter
-  letter-settles h = rw (le-ltb (l .packed) 16777216 h, withLetter)
+  letter-many h = rw (le-ltb (l .packed) 16777216 h, withLetter)
 
 -- one more byte: of no matter, a field separator, a letter of the field, or a byte of an earlier field
 module _ (field : ℕ) (l : Name) (b : ℕ) where
@@ -85,25 +85,20 @@ lettered : Name → List ℕ → Name
 lettered l [] = l
 lettered l (b ∷ t) = lettered (withLetter l b) t
 
--- a field being gathered, or settled by a fourth letter
-abbrev Gathering : Name → Type 0
-Gathering l = (l .left ≡ 1) ⊎ ((l .left ≡ 0) × (l .packed ≡ tooMany))
+-- after a fourth letter no later one changes anything
+many-letter : (l : Name) (b : ℕ) → l .packed ≡ tooMany → withLetter l b ≡ l
+many-letter l b k = letter-many l b (omega arith) ∙ ap {B = Name} (λ (y : ℕ). record { left = l .left; packed = y }) (sym k)
 
--- a fourth letter settles the field: no later one changes anything
-settled-letter : (l : Name) (b : ℕ) → l .left ≡ 0 → l .packed ≡ tooMany → withLetter l b ≡ l
-settled-letter l b h k =
-    letter-settles l b (omega arith) ∙ ap₂ {C = Name} (λ (x y : ℕ). record { left = x; packed = y }) (sym h) (sym k)
-
-settled-letters : (l : Name) (t : List ℕ) → l .left ≡ 0 → l .packed ≡ tooMany → lettered l t ≡ l
+many-letters : (l : Name) (t : List ℕ) → l .packed ≡ tooMany → lettered l t ≡ l
 unfolding lettered
-settled-letters l [] h k = refl
-settled-letters l (b ∷ t) h k = rw (settled-letter l b h k) (settled-letters l t h k)
+many-letters l [] k = refl
+many-letters l (b ∷ t) k = rw (many-letter l b k) (many-letters l t k)
 
--- one more letter of a field leaves it open, or settles it
-gathering-letter : (l : Name) (b : ℕ) → l .left ≡ 1 → Gathering (withLetter l b)
-gathering-letter l b h =
-    ⊎-elim (λ (e : l .packed < 16777216). rw (letter-kept l b e) (inl h)) (λ (e : 16777216 ≤ l .packed). rw (letter-settles l b e) (inr (refl, refl)))
-    (less-or-not (l .packed) 16777216)
+-- a letter leaves the field open
+letter-open : (l : Name) (b : ℕ) → withLetter l b .left ≡ l .left
+letter-open l b =
+    ⊎-elim (λ (e : l .packed < 16777216). ap (λ (k : Name). k .left) (letter-kept l b e))
+    (λ (e : 16777216 ≤ l .packed). ap (λ (k : Name). k .left) (letter-many l b e)) (less-or-not (l .packed) 16777216)
 
 -- the number among names of a packed name
 abbrev pub numberPacked : List (List ℕ) → Name → ℕ
@@ -111,11 +106,11 @@ numberPacked names l = packedAmong names (l .packed)
 
 module _ (names : List (List ℕ)) (field : ℕ) where
   -- once in the field, the bytes up to the next field separator are its letters
-  letters-of-field : (s : List ℕ) (l : Name) → Gathering l
+  letters-of-field : (s : List ℕ) (l : Name) → l .left ≡ 1
       → numberPacked names (withBytes field l s) ≡ numberPacked names (lettered l (getD (split field s) 0 []))
   unfolding lettered
-  letters-of-field [] l g = ap (numberPacked names) (bytes-none field l ∙ ap (lettered l) (sym (no-fields field 0)))
-  letters-of-field (b ∷ s) l (inl h) =
+  letters-of-field [] l h = ap (numberPacked names) (bytes-none field l ∙ ap (lettered l) (sym (no-fields field 0)))
+  letters-of-field (b ∷ s) l h =
       ⊎-elim
       (λ (e : b ≡ field).
       ap (numberPacked names)
@@ -126,12 +121,9 @@ module _ (names : List (List ℕ)) (field : ℕ) where
       (λ (e : b ≡ field → ⊥).
       ap (numberPacked names)
       (bytes-more field l b s ∙ ap (λ (k : Name). withBytes field k s) (byte-letter field l b (λ z. omega arith) e h))
-      ∙ letters-of-field s (withLetter l b) (gathering-letter l b h)
+      ∙ letters-of-field s (withLetter l b) (letter-open l b ∙ h)
       ∙ ap (λ (t : List ℕ). numberPacked names (lettered l t)) (sym (first-more field b s e)))
       (equal-or-not b field)
-  letters-of-field (b ∷ s) l (inr g) =
-      ap (numberPacked names)
-      (bytes-settled field l (b ∷ s) (g .0) ∙ sym (settled-letters l (getD (split field (b ∷ s)) 0 []) (g .0) (g .1)))
 
 -- a text packed from nothing: the number of its letters, or that of too many
 one-packed : (k a : ℕ) → lettered (fresh k) (a ∷ []) ≡ record { left = k; packed = packedOnto 1 (a ∷ []) }
@@ -148,12 +140,12 @@ unfolding lettered fresh packedOnto
 three-packed k a b c h i =
     ap (λ (l : Name). withLetter l c) (two-packed k a b h) ∙ letter-kept (record { left = k; packed = (1 * 256 + a) * 256 + b }) c (omega arith)
 
-more-packed : (k a b c d : ℕ) (t : List ℕ) → a < 256 → b < 256 → lettered (fresh k) (a ∷ b ∷ c ∷ d ∷ t) ≡ record { left = 0; packed = tooMany }
+more-packed : (k a b c d : ℕ) (t : List ℕ) → a < 256 → b < 256 → lettered (fresh k) (a ∷ b ∷ c ∷ d ∷ t) ≡ record { left = k; packed = tooMany }
 unfolding lettered fresh packedOnto
 more-packed k a b c d t h i =
     ap (λ (l : Name). lettered (withLetter l d) t) (three-packed k a b c h i)
-    ∙ ap (λ (l : Name). lettered l t) (letter-settles (record { left = k; packed = ((1 * 256 + a) * 256 + b) * 256 + c }) d (omega arith))
-    ∙ settled-letters (record { left = 0; packed = tooMany }) t refl refl
+    ∙ ap (λ (l : Name). lettered l t) (letter-many (record { left = k; packed = ((1 * 256 + a) * 256 + b) * 256 + c }) d (omega arith))
+    ∙ many-letters (record { left = k; packed = tooMany }) t refl
 
 module _ (names : List (List ℕ)) (p : Packable names) (field : ℕ) where
   -- the letters of a text of bytes, packed from nothing, tell its number
@@ -180,7 +172,7 @@ module _ (names : List (List ℕ)) (p : Packable names) (field : ℕ) where
       ∙ letters-of-text (suc n) none
       ∙ ap (numberAmong names) (sym (no-fields field n))
   field-packed (also {a = b} {s = s} x w) zero =
-      letters-of-field names field (b ∷ s) (fresh 1) (inl refl) ∙ letters-of-text 1 (field-bytes field (also x w) 0)
+      letters-of-field names field (b ∷ s) (fresh 1) refl ∙ letters-of-text 1 (field-bytes field (also x w) 0)
   field-packed (also {a = b} {s = s} x w) (suc n) =
       ⊎-elim
       (λ (e : b ≡ field).

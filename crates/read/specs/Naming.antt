@@ -11,12 +11,12 @@ use Rattle.read.specs.declared.name.Name.{Name}
 unfoldable pub fresh : ℕ → Name
 fresh left = record { left = left; packed = 1 }
 
--- one more letter of the field: three are kept, a fourth settles it
+-- one more letter of the field: three are kept, and no name has a fourth
 unfoldable pub withLetter : Name → ℕ → Name
 withLetter l b =
     elim (ltb (l .packed) 16777216) [
       | true ↦ record { left = l .left; packed = l .packed * 256 + b }
-      | false ↦ record { left = 0; packed = tooMany }
+      | false ↦ record { left = l .left; packed = tooMany }
     ]
 
 -- one more byte of the segment

@@ -19,7 +19,7 @@ ghost use Rattle.read.specs.Filling.{segmentsIn, tableIn, Fillable, Fill
 ghost use Rattle.read.specs.Noting.{Noted};
 ghost use Rattle.read.specs.Segments.{segmentRow, kindNoted, Closable, ClosedBy, begunAfter, HeaderPut, LineFilled, LevelsBelow};
 
-// How far the second pass has come: its leaves, and where the row of the open segment's first leaf stands.
+// How far the second pass has come: its leaves, and the number of the open segment's first leaf.
 pub struct Filling {
     pub laying: Laying,
     pub first: usize,

@@ -22,7 +22,7 @@ impl Name {
         Name { left, packed: 1 }
     }
 
-    // The name with one more letter. None has more than three: a fourth letter settles the field.
+    // The name with one more letter. None has more than three: from the fourth letter on the number stays.
     pub fn with_letter(self, b: u8) -> Name
         ensures { λ r. ⌜ r ≡ withLetter self b ⌝ }
     {
@@ -31,7 +31,6 @@ impl Name {
             next.packed = self.packed * 256 + b as u32;
             return next;
         }
-        next.left = 0;
         next.packed = TOO_MANY;
         next
     }

@@ -2,7 +2,7 @@
 -- Assumes nothing.
 use mathlib.Core.Path.{sym}
 use native.Mathlib.Omega.{arith}
-use Rattle.read.proofs.NameLaws.{letter-kept, letter-settles}
+use Rattle.read.proofs.NameLaws.{letter-kept, letter-many}
 use Rattle.read.proofs.name.Name.with_letter.Statement.{statement}
 use Rattle.read.proofs.name.Name.with_letter.Tie as tie
 
@@ -24,7 +24,7 @@ returns-2 : tie.Need-returns-2
 returns-2 c =
     let at-args = c .before .before .args in
     let at-if1 = c .if1 in
-    sym (letter-settles (at-args .self) (at-args .b) (at-if1 .left))
+    sym (letter-many (at-args .self) (at-args .b) (at-if1 .left))
 
 pub with-letter-spec : {M : Type 1} → statement M
 with-letter-spec = tie.close (tie.spec mul-next add-next returns returns-2)
