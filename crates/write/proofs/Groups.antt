@@ -10,14 +10,14 @@ use native.Mathlib.Omega.{arith}
 use native.Mathlib.Numerals.{add-one}
 use lib.Dec.{eqb}
 use lib.ListN.{length, getD}
-use borrow.Author.Tests.{eq-eqb, ne-eqb, lt-ltb, le-ltb}
+use borrow.Author.Tests.{eqb-true, eq-eqb, ne-eqb, lt-ltb, le-ltb}
 use Rattle.laws.specs.Every.{All}
 use Rattle.laws.specs.Sums.{sumOf}
 use Rattle.laws.specs.Tables.{values}
 use Rattle.laws.proofs.Cases.{less-or-not}
 use Rattle.laws.proofs.Every.{all-of}
 use Rattle.laws.proofs.Tables.{length-values, getD-values}
-use Rattle.laws.proofs.Tests.{Tested, passed, failed, tested, and-passed, and-fails-first, and-fails-second}
+use Rattle.laws.proofs.Tests.{Tested, passed, failed, tested, never-both, and-first, and-second, and-passed, and-fails-first, and-fails-second}
 use Rattle.form.specs.declared.limits.Limits.{Limits}
 use Rattle.form.specs.Limits.{Lawful, lineCount, linesUnder, roundedUp}
 use Rattle.form.proofs.LineCount.{one-line, more-lines, lines-lawful}
@@ -222,6 +222,41 @@ grouping-otherwise {segments} {many} {rows} {text} {count} {i} {first} w h {stat
     go : (first < count) ⊎ (count ≤ first) → false ≡ groupsStated segments 0 many 1 (bySegment (values (leafAt rows text) 0 count))
     go (inl l) = refuted (segment-ends rows count first l)
     go (inr l) = grouping-short w h (omega (arith, w .to))
+
+-- where all rows state their segments, each states the count of its own
+pub record StatedEnd (segments : List ℕ) (many : ℕ) (rows text : List ℕ) (count i first end : ℕ) : Type 0 where
+  pub ends : SegmentEnd rows count first end
+  pub on : Grouping segments many rows text count (i + 1) end
+
+pub grouping-ends : {segments : List ℕ} {many : ℕ} {rows text : List ℕ} {count i first : ℕ} → Grouping segments many rows text count i first → i < many
+    → groupsStated segments 0 many 1 (bySegment (values (leafAt rows text) 0 count)) ≡ true
+    → {stated : ℕ} → stated ≡ getD segments (i * segmentRowSize + 3) 0 → StatedEnd segments many rows text count i first (first + stated)
+unfolding rowStates
+grouping-ends {segments} {many} {rows} {text} {count} {i} {first} w h all {stated} is = go (less-or-not first count)
+  where
+    found : SomeEnd rows count first → StatedEnd segments many rows text count i first (first + stated)
+    found v =
+        let states = rowStates segments i (kindAmong (leavesFrom rows text first (v .end))) (first + 1) (v .end - first) in
+        let later = groupsStated segments (i + 1) (many - (i + 1)) (v .end + 1) (bySegment (leavesFrom rows text (v .end) count)) in
+        let so : states ≡ true = and-first states later (grouping-turn w h (v .ends) ∙ all) in
+        let counts : getD segments (i * segmentRowSize + 3) 0 ≡ v .end - first =
+        eqb-true (getD segments (i * segmentRowSize + 3) 0) (v .end - first)
+        (and-second
+        (not (eqb (kindAmong (leavesFrom rows text first (v .end))) 0)
+        && eqb (getD segments (i * segmentRowSize) 0) (kindAmong (leavesFrom rows text first (v .end)))
+        && eqb (getD segments (i * segmentRowSize + 2) 0) (first + 1))
+        (eqb (getD segments (i * segmentRowSize + 3) 0) (v .end - first)) so) in
+        subst (StatedEnd segments many rows text count i first) (let q : v .end ≡ first + stated = omega (arith, v .ends .from, is, counts) in q)
+        (record { ends = v .ends; on = grouping-on w h (v .ends) so })
+
+    go : (first < count) ⊎ (count ≤ first) → StatedEnd segments many rows text count i first (first + stated)
+    go (inl l) = found (segment-ends rows count first l)
+    go (inr l) = absurd (never-both all (sym (grouping-short w h (omega (arith, w .to)))))
+
+-- and the last of them ends with the leaves
+pub grouping-all : {segments : List ℕ} {many : ℕ} {rows text : List ℕ} {count i first : ℕ} → Grouping segments many rows text count i first → many ≤ i
+    → groupsStated segments 0 many 1 (bySegment (values (leafAt rows text) 0 count)) ≡ true → first ≡ count
+grouping-all {count = count} {first = first} w h all = eqb-true first count (grouping-done w h ∙ all)
 
 -- the bytes of one segment, within what a count holds
 pub few-lines : (L : Limits) → Lawful L → (n : ℕ) → lineCount L n ≤ n + 1

@@ -12,19 +12,19 @@ use Rattle.laws.specs.Sums.{sumOf}
 use Rattle.laws.specs.Tables.{values}
 use Rattle.form.specs.declared.limits.Limits.{Limits}
 use Rattle.form.specs.Limits.{Lawful}
-use Rattle.table.specs.Rows.{Table, leafRowSize}
+use Rattle.table.specs.Rows.{Table, segmentRowSize, leafRowSize}
 use Rattle.table.specs.Back.{leafAt, leavesOf, linesOf, written}
 use Rattle.table.specs.RowTests.{endToEnd}
 use Rattle.table.specs.BySegment.{bySegment, writtenBytes}
 use Rattle.table.specs.Lent.{Lent, counted}
 use Rattle.write.specs.Local.{groupsOf}
-use Rattle.write.specs.Tests.{InText}
+use Rattle.write.specs.Tests.{InText, groupsStated}
 use Rattle.write.specs.Writing.{isTable, writing}
 use Rattle.write.specs.Answer.{answer, writtenSize}
 use Rattle.write.proofs.LocalTables.{local-bytes}
 use Rattle.write.proofs.RowByRow.{rows-local}
 use Rattle.write.proofs.LentTables.{Within, within-buffers, counted-sized, is-table-rows, table-written-out, no-table-refused}
-use Rattle.write.proofs.TableTest.{laid-in-text}
+use Rattle.write.proofs.TableTest.{laid-in-text, rows-passed}
 
 -- what a lent table that passed the table test is known by
 pub record Counts (L : Limits) (levels : ℕ → ℕ → ℕ) (l : Lent) : Type 0 where
@@ -32,6 +32,10 @@ pub record Counts (L : Limits) (levels : ℕ → ℕ → ℕ) (l : Lent) : Type 
   pub few : l .card .leaves ≤ L .leaves
   pub inText : InText (take (l .card .leaves * leafRowSize) (l .leafRows)) (take (l .card .text) (l .text)) (l .card .leaves)
   pub laid : endToEnd (take (l .card .leaves * leafRowSize) (l .leafRows)) (length (take (l .card .text) (l .text))) 0 (l .card .leaves) 0 ≡ true
+  pub segments : length (take (l .card .segments * segmentRowSize) (l .segmentRows)) ≡ l .card .segments * segmentRowSize
+  pub grouped : groupsStated (take (l .card .segments * segmentRowSize) (l .segmentRows)) 0 (l .card .segments) 1
+      (bySegment (values (leafAt (take (l .card .leaves * leafRowSize) (l .leafRows)) (take (l .card .text) (l .text))) 0 (l .card .leaves)))
+      ≡ true
   pub size : sumOf (writtenBytes L)
       (bySegment (values (leafAt (take (l .card .leaves * leafRowSize) (l .leafRows)) (take (l .card .text) (l .text))) 0 (l .card .leaves)))
       ≡ writtenSize L levels l
@@ -49,6 +53,8 @@ module _ (L : Limits) (lawful : Lawful L) (levels : ℕ → ℕ → ℕ) (l : Le
             laid-in-text (counted l .leafRows) (counted l .text) (l .card .leaves) (l .card .text) (sized .leafRows)
             (omega (arith, w .1 .few .leaves)) (sized .text) (w .1 .laid);
         laid = subst (λ (n : ℕ). endToEnd (counted l .leafRows) n 0 (l .card .leaves) 0 ≡ true) (sym (sized .text)) (w .1 .laid);
+        segments = sized .segmentRows;
+        grouped = rows-passed L levels (counted l) sized (w .1) .grouped;
         size =
             local-bytes lawful (rows-local sized (w .1))
             ∙ sym (ap (λ v. answer v .bytes) (table-written-out L lawful levels l (L .bytes) (le-ltb (L .bytes) (L .bytes) (omega arith)) e));

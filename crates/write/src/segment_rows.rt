@@ -248,25 +248,46 @@ fn segment_bytes(
     bytes + 3 * limits.lines(bytes) - 2
 }
 
-// The bytes that are written for all segments.
-pub(crate) fn message_bytes(limits: Limits, rows: &[u16], text: &[u8], count: usize) -> usize
-    requires { ⌜ Lawful limits × InText (now rows) (now text) count × (endToEnd (now rows) (length (now text)) 0 count 0 ≡ true) ⌝ }
+// The bytes that are written for all segments, whose leaves the segment rows count.
+pub(crate) fn message_bytes(
+    limits: Limits,
+    segments: &[u16],
+    many: usize,
+    rows: &[u16],
+    text: &[u8],
+    count: usize,
+) -> usize
+    requires { ⌜ Lawful limits × InText (now rows) (now text) count × (endToEnd (now rows) (length (now text)) 0 count 0 ≡ true)
+        × (length (now segments) ≡ many * 4)
+        × (groupsStated (now segments) 0 many 1 (bySegment (values (leafAt (now rows) (now text)) 0 count)) ≡ true) ⌝ }
     ensures { λ r. ⌜ r ≡ sumOf (writtenBytes limits) (bySegment (values (leafAt (now (rows .entry)) (now (text .entry))) 0 count)) ⌝ }
 {
     let mut total = 0;
     let mut first = 0;
-    while first < count {
-        let end = segment_end(rows, count, first);
+    let mut i = 0;
+    while i < many {
+        let leaves = wide(segments[i * SIZE + 3]);
+        let end = first + leaves;
         total += segment_bytes(limits, rows, text, count, first, end);
         first = end;
+        i += 1;
     }
     total
 }
 
 // Whether they keep to the limit.
-pub(crate) fn short(limits: Limits, rows: &[u16], text: &[u8], count: usize) -> bool
-    requires { ⌜ Lawful limits × InText (now rows) (now text) count × (endToEnd (now rows) (length (now text)) 0 count 0 ≡ true) ⌝ }
+pub(crate) fn short(
+    limits: Limits,
+    segments: &[u16],
+    many: usize,
+    rows: &[u16],
+    text: &[u8],
+    count: usize,
+) -> bool
+    requires { ⌜ Lawful limits × InText (now rows) (now text) count × (endToEnd (now rows) (length (now text)) 0 count 0 ≡ true)
+        × (length (now segments) ≡ many * 4)
+        × (groupsStated (now segments) 0 many 1 (bySegment (values (leafAt (now rows) (now text)) 0 count)) ≡ true) ⌝ }
     ensures { λ r. ⌜ r ≡ leb (sumOf (writtenBytes limits) (bySegment (values (leafAt (now (rows .entry)) (now (text .entry))) 0 count))) (limits .bytes) ⌝ }
 {
-    message_bytes(limits, rows, text, count) <= limits.bytes
+    message_bytes(limits, segments, many, rows, text, count) <= limits.bytes
 }

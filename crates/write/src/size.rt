@@ -13,10 +13,13 @@ pub fn written_bytes(card: Card, segments: &[u16], leaves: &[u16], text: &[u8]) 
     ensures { λ r. ⌜ r ≡ writtenSize form level (lent card (now (segments .entry)) (now (leaves .entry)) (now (text .entry))) ⌝ }
 {
     if test::is_table(card, segments, leaves, text) {
+        let many = card.segments * 4;
         let size = card.leaves * 7;
         let end = card.text;
         return segment_rows::message_bytes(
             Form::limits(),
+            &segments[..many],
+            card.segments,
             &leaves[..size],
             &text[..end],
             card.leaves,

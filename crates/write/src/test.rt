@@ -106,7 +106,7 @@ fn reads_back(
     if !in_order(card.context, segments, card.segments, leaves, text, count) {
         return false;
     }
-    segment_rows::short(limits, leaves, text, count)
+    segment_rows::short(limits, segments, card.segments, leaves, text, count)
 }
 
 // Whether the header's rows keep the header rule and the leaf rows after them go on soundly.

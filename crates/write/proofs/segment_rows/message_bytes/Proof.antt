@@ -1,58 +1,80 @@
--- `write::segment_rows::message_bytes` meets its contract. The loop's invariant: the bytes counted and those of the segments left are all.
+-- `write::segment_rows::message_bytes` meets its contract. The loop's invariant: the rows so far state the segments of the leaves so far, and
+-- the bytes counted and those of the segments left are all.
 -- Assumes nothing.
-use mathlib.Core.Path.{_≡_, sym, ap, _∙_}
-use borrow.Author.Tests.{not-true, not-false}
-use Prim.Native.Nat.{ℕ, _+_, _-_}
-use lib.ListN.{getD}
-use Rattle.write.proofs.Groups.{Counting, counting-begins, counting-on, counting-done}
+use Prim.Native.Nat.{_-_}
+use Rattle.write.proofs.Groups.{Grouping, grouping-begins, grouping-ends, grouping-all, Counting, counting-begins, counting-on, counting-done}
 use native.Mathlib.Omega.{arith}
 use borrow.Author.Needs.{needs}
 use Rattle.write.proofs.segment_rows.message_bytes.Statement.{statement}
 use Rattle.write.proofs.segment_rows.message_bytes.Tie as tie
 
 abbrev Inv-loop : tie.InvT-loop
-Inv-loop limits rows text count total₀ first₀ total first = Counting limits rows text count first total
+Inv-loop limits segments many rows text count total₀ first₀ i₀ total first i =
+    Grouping segments many rows text count i first × Counting limits rows text count first total
 
 abbrev μ-loop : tie.MeasureT-loop
-μ-loop limits rows text count total₀ first₀ total first = count - first
+μ-loop limits segments many rows text count total₀ first₀ i₀ total first i = many - i
 
 loop-holds : tie.Need-loop-holds Inv-loop μ-loop
-loop-holds c = counting-begins
+loop-holds c = (grouping-begins, counting-begins)
 
-segment-end-requires : tie.Need-segment-end-requires Inv-loop μ-loop
-segment-end-requires c κs =
-    let at-pre = c .before .before .before .before .pre in
-    (at-pre .1 .sized, omega arith)
+mul-wide : tie.Need-mul-wide Inv-loop μ-loop
+mul-wide c = omega arith
+
+add-wide : tie.Need-add-wide Inv-loop μ-loop
+add-wide c = omega arith
+
+mul-wide-2 : tie.Need-mul-wide-2 Inv-loop μ-loop
+mul-wide-2 c = omega arith
+
+shared-slice-read-wide : tie.Need-shared-slice-read-wide Inv-loop μ-loop
+shared-slice-read-wide c = omega arith
+
+wide-requires : tie.Need-wide-requires Inv-loop μ-loop
+wide-requires c κs = search needs
+
+add-end : tie.Need-add-end Inv-loop μ-loop
+add-end c =
+    let at-loop = c .before .before .before .loop in
+    let at-pre = c .before .before .before .before .before .before .before .pre in
+    let at-wide = c .wide in
+    omega (arith, at-loop .inv .0 .to, at-pre .1 .few, at-wide .ensures .1)
 
 segment-bytes-requires : tie.Need-segment-bytes-requires Inv-loop μ-loop
 segment-bytes-requires c κs =
-    let at-pre = c .before .before .before .before .before .pre in
-    let at-segment-end = c .segment-end in
-    (at-pre .0, at-pre .1, at-segment-end .ensures .from, at-segment-end .ensures .to, at-pre .2)
+    let at-loop = c .before .before .before .loop in
+    let at-pre = c .before .before .before .before .before .before .before .pre in
+    let at-wide = c .wide in
+    let v = grouping-ends (at-loop .inv .0) (omega arith) (at-pre .4) (at-wide .ensures .0) .ends in
+    (at-pre .0, at-pre .1, v .from, v .to, at-pre .2)
 
 add-total : tie.Need-add-total Inv-loop μ-loop
 add-total c =
-    let at-loop = c .before .before .before .loop in
-    let at-pre = c .before .before .before .before .before .before .pre in
+    let at-loop = c .before .before .before .before .loop in
+    let at-pre = c .before .before .before .before .before .before .before .before .pre in
     let at-segment-bytes = c .segment-bytes in
-    omega (arith, at-loop .inv .few, at-loop .inv .to, at-pre .1 .few, at-segment-bytes .ensures .1)
+    omega (arith, at-loop .inv .1 .few, at-loop .inv .1 .to, at-pre .1 .few, at-segment-bytes .ensures .1)
+
+add-i : tie.Need-add-i Inv-loop μ-loop
+add-i c = omega arith
 
 loop-less : tie.Need-loop-less Inv-loop μ-loop
-loop-less c =
-    let at-segment-end = c .before .segment-end in
-    omega (arith, at-segment-end .ensures .from, at-segment-end .ensures .to)
+loop-less c = omega arith
 
 loop-again : tie.Need-loop-again Inv-loop μ-loop
 loop-again c =
-    let at-loop = c .before .before .before .loop in
-    let at-segment-end = c .before .segment-end in
+    let at-loop = c .before .before .before .before .loop in
+    let at-pre = c .before .before .before .before .before .before .before .before .pre in
+    let at-wide = c .before .wide in
     let at-segment-bytes = c .segment-bytes in
-    counting-on (at-loop .inv) (at-segment-end .ensures) (at-segment-bytes .ensures .0) (at-segment-bytes .ensures .1)
+    let w = grouping-ends (at-loop .inv .0) (omega arith) (at-pre .4) (at-wide .ensures .0) in
+    (w .on, counting-on (at-loop .inv .1) (w .ends) (at-segment-bytes .ensures .0) (at-segment-bytes .ensures .1))
 
 returns : tie.Need-returns Inv-loop μ-loop
 returns c =
     let at-loop = c .before .loop in
-    counting-done (at-loop .inv) (omega arith)
+    let at-pre = c .before .before .before .before .before .pre in
+    counting-done (at-loop .inv .1) (omega (arith, grouping-all (at-loop .inv .0) (omega arith) (at-pre .4)))
 
 pub message-bytes-spec : {M : Type 1} → statement M
 message-bytes-spec =
@@ -61,9 +83,15 @@ message-bytes-spec =
     Inv-loop
     μ-loop
     loop-holds
-    segment-end-requires
+    mul-wide
+    add-wide
+    mul-wide-2
+    shared-slice-read-wide
+    wide-requires
+    add-end
     segment-bytes-requires
     add-total
+    add-i
     loop-less
     loop-again
     returns)

@@ -10,7 +10,10 @@ message-bytes-requires : tie.Need-message-bytes-requires
 message-bytes-requires c κs = search needs
 
 returns : tie.Need-returns
-returns c = ap (λ n. leb n (c .before .before .before .before .args .limits .bytes)) (c .before .message-bytes .ensures)
+returns c =
+    let at-args = c .before .before .before .before .before .args in
+    let at-message-bytes = c .before .message-bytes in
+    ap (λ n. leb n (at-args .limits .bytes)) (at-message-bytes .ensures)
 
 pub short-spec : {M : Type 1} → statement M
 short-spec = tie.close (tie.spec message-bytes-requires returns)

@@ -112,7 +112,9 @@ short-requires c κs =
     let at-args = c .before .before .before .before .before .before .before .before .before .before .before .before .before .before .args in
     let at-laid = c .before .before .before .before .before .before .before .before .before .laid in
     let at-if2 = c .before .before .before .before .before .before .before .before .if2 in
-    (at-pre .lawful, (laid-in-text (at-args .leaves .now) (at-args .text .now) (at-args .card .leaves) (at-args .card .text) (at-pre .sized .leafRows) (omega (arith, at-pre .leaves, at-pre .small .leaves)) (at-pre .sized .text) (at-laid .ensures .0 (not-false (at-laid .result) (at-if2 .left)) .ended)), subst (λ (n : ℕ). endToEnd (at-args .leaves .now) n 0 (at-args .card .leaves) 0 ≡ true) (sym (at-pre .sized .text)) (at-laid .ensures .0 (not-false (at-laid .result) (at-if2 .left)) .ended))
+    let at-grouped = c .before .before .before .before .before .grouped in
+    let at-if4 = c .before .before .before .before .if4 in
+    (at-pre .lawful, (laid-in-text (at-args .leaves .now) (at-args .text .now) (at-args .card .leaves) (at-args .card .text) (at-pre .sized .leafRows) (omega (arith, at-pre .leaves, at-pre .small .leaves)) (at-pre .sized .text) (at-laid .ensures .0 (not-false (at-laid .result) (at-if2 .left)) .ended)), subst (λ (n : ℕ). endToEnd (at-args .leaves .now) n 0 (at-args .card .leaves) 0 ≡ true) (sym (at-pre .sized .text)) (at-laid .ensures .0 (not-false (at-laid .result) (at-if2 .left)) .ended), at-pre .sized .segmentRows, sym (at-grouped .ensures) ∙ not-false (at-grouped .result) (at-if4 .left))
 
 returns-7 : tie.Need-returns-7
 returns-7 c =
