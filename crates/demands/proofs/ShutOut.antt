@@ -26,6 +26,7 @@ use Rattle.table.specs.Rows.{Table}
 use Rattle.table.specs.Reading.{Outcome, accepted, reading}
 use Rattle.read.proofs.OwnersColumn.{front-at}
 use Rattle.read.proofs.ShutOut.{K1, k1-read}
+use Rattle.write.specs.declared.Written.{Written}
 use Rattle.write.specs.Writing.{ReadTo, stated, Writing, refuses, writes, writing}
 use Rattle.write.specs.Answer.{answer, outputAfter, writtenSize}
 use Rattle.write.proofs.LentTables.{writes-back}
@@ -97,3 +98,18 @@ module _ (r : ℕ) (h : r ≡ writtenSize form level K1-lent) where
 
   pub counts-nothing : r ≡ 0 → ⊥
   counts-nothing e = omega (arith, size-65, e)
+
+-- an answer whose lines or bytes are one off
+module _ (r : Written) (h : r ≡ answer (writing form level K1-lent (form .bytes))) where
+  pub counts-a-line-more : r .lines ≡ 6 → ⊥
+  unfolding answer K1 bytes k1 filed concat values lineCount roundedUp splitting pieces addenda cut cuts unlines onto split leafAt leavesOf separatorsIn between unsplitFrom unsplit segmentsOf linesOf written
+  counts-a-line-more e =
+      let lines : r .lines ≡ 5 = ap (λ (w : Written). w .lines) h ∙ ap (λ (w : Writing). answer w .lines) k1-written in
+      omega (arith, lines, e)
+
+  pub counts-a-byte-more : r .bytes ≡ 66 → ⊥
+  unfolding answer K1 bytes
+  counts-a-byte-more e =
+      let size : r .bytes ≡ 65
+      = ap (λ (w : Written). w .bytes) h ∙ ap (λ (w : Writing). answer w .bytes) k1-written ∙ ap length k1-message in
+      omega (arith, size, e)
