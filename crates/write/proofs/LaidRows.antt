@@ -236,6 +236,17 @@ third-decides ps rows text count many sized laid header third {from} e =
     (laid .next 1 (omega arith) ∙ sym (place-next rows 7 14 2 (omega arith) (omega arith) (header-second rows text header) (laid .next 1 (omega arith)) third))
     ∙ sym (ap (goOnFrom ps thirdPlace) (leaves-cons rows text 2 count (omega arith)))
 
+-- the first of rows that pass the tests of leaves is of field 1
+pub sound-first : (field : ℕ) (rows text : List ℕ) (count : ℕ) → soundLeaves field rows text count ≡ true → getD rows 1 0 ≡ 1
+unfolding soundLeaves
+sound-first field rows text count h =
+    let ruled = allAllowed (header.five (separatorsAt field rows text)) && different (header.five (separatorsAt field rows text)) in
+    let goes = goOnFrom (splitting (separatorsAt field rows text)) thirdPlace (leavesFrom rows text 2 count) in
+    sym (getD-take 5 rows 1 0 (omega arith))
+    ∙ ap (λ (p : List ℕ). getD p 1 0)
+    (same-equal (placeOf rows 0) (1 ∷ 1 ∷ 1 ∷ 1 ∷ 1 ∷ [])
+    (header-first rows text (and-first (headerLeavesAt rows text) ruled (and-first (headerLeavesAt rows text && ruled) goes h))))
+
 -- rows that pass the tests of leaves stand each at the next place
 pub sound-next : (field : ℕ) (rows text : List ℕ) (count : ℕ) → 3 ≤ count → soundLeaves field rows text count ≡ true
     → (k : ℕ) → suc k < count → nextPlace (placeOf rows k) (placeOf rows (suc k)) ≡ true
@@ -356,6 +367,24 @@ module _ (rows : List ℕ) (count : ℕ) (sized : length rows ≡ count * leafRo
 
   rises : (a b : ℕ) → a ≤ b → b < count → segment a ≤ segment b
   rises a b h l = subst (λ (j : ℕ). segment a ≤ segment j) (let e : a + (b - a) ≡ b = omega arith in e) (segment-rises (b - a) a (omega arith))
+
+  -- where the segment number differs, the later leaf is the first of its segment and so of field 1
+  head-after : (k : ℕ) → suc k < count → (segment k ≡ segment (suc k) → ⊥) → getD rows (suc k * leafRowSize + 1) 0 ≡ 1
+  unfolding values ones
+  head-after k l d =
+      let numbers = next-numbers rows (k * leafRowSize) (suc k * leafRowSize) (omega arith) (omega arith) in
+      ap (λ (p : List ℕ). getD p 0 0)
+      (sym (same-equal (ones (finer rows (k * leafRowSize) 1)) (finer rows (suc k * leafRowSize) 1)
+      (and-second (eqb (suc (segment k)) (segment (suc k))) (same (ones (finer rows (k * leafRowSize) 1)) (finer rows (suc k * leafRowSize) 1))
+      (sym (next-raised (segment k) (finer rows (k * leafRowSize) 1) (segment (suc k)) (finer rows (suc k * leafRowSize) 1) d) ∙ numbers .so ∙ next k l))))
+
+  pub segment-head : {first end : ℕ} → SegmentEnd rows count first end → end < count → getD rows (end * leafRowSize + 1) 0 ≡ 1
+  segment-head {first} {end} w l =
+      let e : suc (end - 1) ≡ end = omega (arith, w .from) in
+      subst (λ (j : ℕ). getD rows (j * leafRowSize + 1) 0 ≡ 1) e
+      (head-after (end - 1) (omega (arith, w .from))
+      (λ q. w .other l
+      (sym (ap segment e) ∙ sym q ∙ w .within (end - 1) (omega (arith, w .from)) (omega (arith, w .from)))))
 
   pub segment-whole : (first end : ℕ) → first < end → end ≤ count → segment (end - 1) ≡ segment first
       → (end < count → segment end ≡ segment first → ⊥) → SegmentEnd rows count first end

@@ -101,12 +101,12 @@ fn field_leaf(rows: &[u16], field: u16, first: usize, end: usize) -> usize
     end
 }
 
-// The kind of the segment of the leaves from `first` up to `end`, or 0.
+// The kind of the segment of the leaves from `first` up to `end`, or 0. Its first leaf is of field 1, as each segment's is.
 fn kind_of(rows: &[u16], text: &[u8], count: usize, first: usize, end: usize) -> u8
-    requires { ⌜ InText (now rows) (now text) count × (first ≤ end) × (end ≤ count) ⌝ }
+    requires { ⌜ InText (now rows) (now text) count × (first < end) × (end ≤ count) × (getD (now rows) (first * 7 + 1) 0 ≡ 1) ⌝ }
     ensures { λ r. ⌜ r ≡ kindAmong (leavesFrom (now (rows .entry)) (now (text .entry)) first end) ⌝ }
 {
-    let leaf = field_leaf(rows, 1, first, end);
+    let leaf = alone(rows, 1, first, end);
     if leaf == end {
         return 0;
     }
@@ -158,7 +158,8 @@ pub(crate) fn grouped(
     text: &[u8],
     count: usize,
 ) -> bool
-    requires { ⌜ (length (now segments) ≡ many * 4) × InText (now rows) (now text) count × PlacesFollow (now rows) count ⌝ }
+    requires { ⌜ (length (now segments) ≡ many * 4) × InText (now rows) (now text) count × PlacesFollow (now rows) count
+        × (getD (now rows) 1 0 ≡ 1) ⌝ }
     ensures { λ r. ⌜ r ≡ groupsStated (now (segments .entry)) 0 many 1
         (bySegment (values (leafAt (now (rows .entry)) (now (text .entry))) 0 count)) ⌝ }
 {

@@ -5,6 +5,7 @@ use borrow.Author.Tests.{not-true, not-false}
 use Prim.Native.Nat.{ℕ, _+_, _-_}
 use lib.ListN.{getD}
 use Rattle.write.specs.Tests.{rowStates}
+use Rattle.write.proofs.LaidRows.{segment-head}
 use Rattle.write.proofs.Groups.{Grouping, grouping-begins, grouping-otherwise, grouping-fails, grouping-on, grouping-done}
 use native.Mathlib.Omega.{arith}
 use borrow.Author.Needs.{needs}
@@ -18,7 +19,9 @@ abbrev μ-loop : tie.MeasureT-loop
 μ-loop segments many rows text count first₀ i₀ first i = many - i
 
 loop-holds : tie.Need-loop-holds Inv-loop μ-loop
-loop-holds c = grouping-begins
+loop-holds c =
+    let at-pre = c .before .before .before .pre in
+    grouping-begins (at-pre .3)
 
 mul-wide : tie.Need-mul-wide Inv-loop μ-loop
 mul-wide c = omega arith
@@ -58,11 +61,12 @@ add-end c =
 
 kind-of-requires : tie.Need-kind-of-requires Inv-loop μ-loop
 kind-of-requires c κs =
+    let at-loop = c .before .before .before .before .before .loop in
     let at-has-leaves = c .before .has-leaves in
     let at-if1 = c .if1 in
     let at-pre = c .before .before .before .before .before .before .before .before .before .pre in
     let v = at-has-leaves .ensures .0 (not-false (at-has-leaves .result) (at-if1 .left)) in
-    (at-pre .1, omega (arith, v .from), v .to)
+    (at-pre .1, v .from, v .to, at-loop .inv .head (omega (arith, v .from, v .to)))
 
 add-row-states : tie.Need-add-row-states Inv-loop μ-loop
 add-row-states c =
@@ -95,15 +99,17 @@ loop-less c = omega arith
 
 loop-again : tie.Need-loop-again Inv-loop μ-loop
 loop-again c =
+    let at-args = c .before .before .before .before .before .before .before .before .before .before .before .before .args in
+    let at-pre = c .before .before .before .before .before .before .before .before .before .before .before .before .pre in
     let at-loop = c .before .before .before .before .before .before .before .before .loop in
     let at-has-leaves = c .before .before .before .before .has-leaves in
     let at-if1 = c .before .before .before .if1 in
-    let at-args = c .before .before .before .before .before .before .before .before .before .before .before .before .args in
     let at-kind-of = c .before .before .kind-of in
     let at-wide = c .before .before .before .before .before .wide in
     let at-row-states = c .before .row-states in
     let at-if2 = c .if2 in
-    grouping-on (at-loop .inv) (omega arith) (at-has-leaves .ensures .0 (not-false (at-has-leaves .result) (at-if1 .left))) (ap₂ (λ (k n : ℕ). rowStates (at-args .segments .now) (at-loop .i) k (at-loop .first + 1) n) (sym (at-kind-of .ensures)) (let e : at-loop .first + at-wide .result - at-loop .first ≡ at-wide .result = omega arith in e) ∙ sym (at-row-states .ensures) ∙ not-false (at-row-states .result) (at-if2 .left))
+    let v = at-has-leaves .ensures .0 (not-false (at-has-leaves .result) (at-if1 .left)) in
+    grouping-on (at-loop .inv) (omega arith) v (segment-head (at-args .rows .now) (at-args .count) (at-pre .1 .sized) (at-pre .2) v) (ap₂ (λ (k n : ℕ). rowStates (at-args .segments .now) (at-loop .i) k (at-loop .first + 1) n) (sym (at-kind-of .ensures)) (let e : at-loop .first + at-wide .result - at-loop .first ≡ at-wide .result = omega arith in e) ∙ sym (at-row-states .ensures) ∙ not-false (at-row-states .result) (at-if2 .left))
 
 returns-3 : tie.Need-returns-3 Inv-loop μ-loop
 returns-3 c =

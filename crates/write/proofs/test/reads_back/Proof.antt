@@ -11,6 +11,7 @@ use Rattle.order.specs.Levels.{levelIn}
 use Rattle.table.specs.Back.{leafAt}
 use Rattle.table.specs.BySegment.{bySegment}
 use Rattle.write.specs.Tests.{Laid}
+use Rattle.write.proofs.LaidRows.{sound-first}
 use Rattle.write.proofs.TableTest.{passed-laid, laid-in-text, grouped-kinds, refused-so, short-decides}
 use native.Mathlib.Omega.{arith}
 use borrow.Author.Needs.{needs}
@@ -57,11 +58,13 @@ returns-3 c =
 
 grouped-requires : tie.Need-grouped-requires
 grouped-requires c κs =
+    let at-sound-leaves = c .before .sound-leaves in
+    let at-if3 = c .if3 in
     let at-pre = c .before .before .before .before .before .before .before .before .pre in
     let at-args = c .before .before .before .before .before .before .before .before .args in
     let at-laid = c .before .before .before .laid in
     let at-if2 = c .before .before .if2 in
-    (at-pre .sized .segmentRows, (laid-in-text (at-args .leaves .now) (at-args .text .now) (at-args .card .leaves) (at-args .card .text) (at-pre .sized .leafRows) (omega (arith, at-pre .leaves, at-pre .small .leaves)) (at-pre .sized .text) (at-laid .ensures .0 (not-false (at-laid .result) (at-if2 .left)) .ended)), at-laid .ensures .0 (not-false (at-laid .result) (at-if2 .left)) .next)
+    (at-pre .sized .segmentRows, (laid-in-text (at-args .leaves .now) (at-args .text .now) (at-args .card .leaves) (at-args .card .text) (at-pre .sized .leafRows) (omega (arith, at-pre .leaves, at-pre .small .leaves)) (at-pre .sized .text) (at-laid .ensures .0 (not-false (at-laid .result) (at-if2 .left)) .ended)), at-laid .ensures .0 (not-false (at-laid .result) (at-if2 .left)) .next, sound-first (at-args .card .separator) (at-args .leaves .now) (at-args .text .now) (at-args .card .leaves) (sym (at-sound-leaves .ensures) ∙ not-false (at-sound-leaves .result) (at-if3 .left)))
 
 returns-4 : tie.Need-returns-4
 returns-4 c =
