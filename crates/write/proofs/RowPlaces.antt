@@ -1,5 +1,6 @@
 -- The separator between two neighbouring leaf rows, by the first number of their places that differs.
 -- Assumes nothing.
+use mathlib.Core.Bool.{false}
 use mathlib.Core.List.{List, [], _∷_}
 use mathlib.Core.Path.{_≡_, refl, sym, ap, ap₂, _∙_}
 use Prim.Native.Nat.{ℕ, zero, suc, _+_, _*_, _≤_}
@@ -8,11 +9,15 @@ use lib.ListN.{length, getD, take, drop}
 use lib.Seq.{drop-cons}
 use borrow.Author.Tests.{eq-eqb, ne-eqb}
 use Rattle.laws.specs.Tables.{values}
+use Rattle.laws.proofs.Tests.{never-both}
 use Rattle.form.specs.declared.separators.Separators.{Separators}
 use Rattle.form.specs.Header.{splitting}
 use Rattle.line.specs.Lines.{CR}
 use Rattle.table.specs.Back.{between}
+use Rattle.table.specs.RowTests.{nextPlace}
 use Rattle.table.proofs.Places.{between-here, between-later}
+use Rattle.table.proofs.RowTests.{next-same}
+use Rattle.write.specs.Passing.{NextAfter}
 
 -- some numbers of a list in a row
 numbers : (rows : List ℕ) (k n : ℕ) → k + n ≤ length rows → take n (drop k rows) ≡ values (λ (j : ℕ). getD rows j 0) k n
@@ -24,6 +29,12 @@ numbers rows k (suc n) h =
 five-same : {a b c d e a′ b′ c′ d′ e′ : ℕ} → a ≡ a′ → b ≡ b′ → c ≡ c′ → d ≡ d′ → e ≡ e′
     → _≡_ {A = List ℕ} (a ∷ b ∷ c ∷ d ∷ e ∷ []) (a′ ∷ b′ ∷ c′ ∷ d′ ∷ e′ ∷ [])
 five-same p q r s t = cc
+
+-- no place comes next after itself
+never-next : (p : List ℕ) → nextPlace p p ≡ false
+unfolding nextPlace
+never-next [] = refl
+never-next (m ∷ p) = next-same m p m p refl ∙ never-next p
 
 module _ (ps : Separators) (rows : List ℕ) (row : ℕ) where
   abbrev at : ℕ → ℕ
@@ -118,9 +129,13 @@ module _ (ps : Separators) (rows : List ℕ) (row : ℕ) where
             same-subfield =
                 same-repetition ∙ between-later (ps .subfield) (drop 3 four) (at 3) (at 10) (at 4 ∷ []) (at 11 ∷ []) (eq-eqb (at 3) (at 10) u)
 
-            pub other-subsubfield : (at 4 ≡ at 11 → ⊥) → Between (ps .subsubfield)
-            other-subsubfield h = by-numbers (same-subfield ∙ between-here (ps .subsubfield) [] (at 4) (at 11) [] [] (ne-eqb (at 4) (at 11) h))
+            -- then the last numbers differ, since the places do
+            last-differs : NextAfter rows row → at 4 ≡ at 11 → ⊥
+            last-differs n e =
+                never-both n
+                (ap₂ nextPlace (place-here long) (place-next long ∙ five-same (sym s) (sym f) (sym r) (sym u) (sym e))
+                ∙ never-next (first ∷ at 1 ∷ at 2 ∷ at 3 ∷ at 4 ∷ []))
 
-            pub same-place : at 4 ≡ at 11 → Between 0
-            unfolding between
-            same-place h = by-numbers (same-subfield ∙ between-later (ps .subsubfield) [] (at 4) (at 11) [] [] (eq-eqb (at 4) (at 11) h))
+            pub other-subsubfield : NextAfter rows row → Between (ps .subsubfield)
+            other-subsubfield n =
+                by-numbers (same-subfield ∙ between-here (ps .subsubfield) [] (at 4) (at 11) [] [] (ne-eqb (at 4) (at 11) (last-differs n)))

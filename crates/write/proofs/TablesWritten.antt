@@ -23,6 +23,7 @@ use Rattle.line.specs.Cutting.{cuts, unlines}
 use Rattle.table.specs.Leaves.{Leaf, split}
 use Rattle.table.specs.Flat.{leaf}
 use Rattle.table.specs.Back.{leafAt, leavesOf, separatorsIn, unsplit, segmentsOf, linesOf, written}
+use Rattle.table.specs.RowTests.{nextPlace}
 use Rattle.table.proofs.EndToEnd.{ends-each}
 use Rattle.write.specs.declared.lines.Going.{Going}
 use Rattle.table.specs.Lent.{Lent, withinBuffers, counted}
@@ -30,10 +31,12 @@ use Rattle.write.specs.Local.{Local}
 use Rattle.write.specs.RowByRow.{RowByRow}
 use Rattle.write.specs.Writing.{isTable}
 use Rattle.write.specs.Filling.{InSegment}
-use Rattle.write.specs.Passing.{linesOfRows, separatorsOfRows, FourWithin, Writable, WrittenOut}
+use Rattle.write.specs.Passing.{linesOfRows, separatorsOfRows, FourWithin, NextAfter, Writable, WrittenOut}
+use Rattle.write.specs.Tests.{placeOf}
 use Rattle.write.proofs.LocalTables.{headed-leaves, local-accepted}
 use Rattle.write.proofs.RowByRow.{rows-local}
-use Rattle.write.proofs.LaidRows.{ended-first, ended-next}
+use Rattle.write.proofs.LaidRows.{ended-first, ended-next, sound-next}
+use Rattle.write.proofs.Passing.{three-leaves, header-sound}
 use Rattle.write.proofs.LentTables.{within-buffers, counted-sized, is-table-rows}
 
 -- a counted leaf of the lent rows and text
@@ -139,6 +142,15 @@ module _ (L : Limits) (lawful : Lawful L) (levels : ℕ → ℕ → ℕ) (l : Le
         there i 6 (omega arith) (omega arith),
       )
 
+  next-place : (i : ℕ) → i + 1 < l .card .leaves → NextAfter (l .leafRows) i
+  unfolding counted
+  next-place i less =
+      ap₂ nextPlace (sym (part-taken (l .leafRows) (i * 7) 5 (l .card .leaves * 7) (omega arith)))
+      (sym (part-taken (l .leafRows) ((i + 1) * 7) 5 (l .card .leaves * 7) (omega arith)))
+      ∙ subst (λ (j : ℕ). nextPlace (placeOf (counted l .leafRows) i) (placeOf (counted l .leafRows) j) ≡ true) (let e : suc i ≡ i + 1 = omega arith in e)
+      (sound-next (l .card .separator) (counted l .leafRows) (counted l .text) (l .card .leaves) (three-leaves (counted l) (rows .others))
+      (header-sound (counted l) (rows .header) (rows .others)) i (omega arith))
+
   leaf-same : (i : ℕ) → i < l .card .leaves → leafAt (counted l .leafRows) (counted l .text) i ≡ leafAt (l .leafRows) (l .text) i
   unfolding counted
   leaf-same i less = leaf-counted (l .leafRows) (l .text) (l .card .leaves) (l .card .text) i less (ends i less)
@@ -203,6 +215,7 @@ module _ (L : Limits) (lawful : Lawful L) (levels : ℕ → ℕ → ℕ) (l : Le
               };
           first = sym (row-counted (l .leafRows) (l .text) (l .card .leaves) (l .card .text) 0 5 (omega (arith, some-leaves)) (omega arith)) ∙ ended-first (counted l .leafRows) (l .card .leaves) (l .card .text) (rows .laid) (omega (arith, some-leaves));
           next = next-start;
+          places = next-place;
           fits = omega (arith, ap (λ (ls : List (List ℕ)). length (unlines ls)) lines-same, local-accepted lawful local .fits);
         }
 

@@ -16,6 +16,7 @@ use Rattle.line.specs.Lines.{CR}
 use Rattle.line.specs.Cutting.{cuts, unlines}
 use Rattle.table.specs.Leaves.{split}
 use Rattle.table.specs.Back.{leafAt, between, unsplit}
+use Rattle.table.specs.RowTests.{nextPlace}
 use Rattle.write.specs.Filling.{InSegment}
 use Rattle.write.specs.declared.lines.Going.{Going}
 
@@ -54,6 +55,10 @@ separatorAfter ps rows count row =
       | false ↦ between (CR ∷ splitting ps) (take 5 (drop (row * 7) rows)) (take 5 (drop ((row + 1) * 7) rows))
     ]
 
+-- the leaf after that of a row stands at the place that comes next
+abbrev pub NextAfter : List ℕ → ℕ → Type 0
+NextAfter rows row = nextPlace (take 5 (drop (row * 7) rows)) (take 5 (drop ((row + 1) * 7) rows)) ≡ true
+
 -- what the pass asks
 pub record Writable (L : Limits) (ps : Separators) (rows : List ℕ) (count : ℕ) (text output : List ℕ) : Type 0 where
   pub lawful : Lawful L
@@ -63,6 +68,8 @@ pub record Writable (L : Limits) (ps : Separators) (rows : List ℕ) (count : �
   -- the texts lie end to end
   pub first : getD rows 5 0 ≡ 0
   pub next : (i : ℕ) → i + 1 < count → getD rows ((i + 1) * 7 + 5) 0 ≡ getD rows (i * 7 + 5) 0 + getD rows (i * 7 + 6) 0
+  -- each place comes next after the one before it
+  pub places : (i : ℕ) → i + 1 < count → NextAfter rows i
   pub fits : length (unlines (linesOfRows L ps rows count text)) ≤ length output
 
 -- what it gives: the lines' bytes at the front of the output, and how many bytes and lines they are

@@ -12,7 +12,7 @@ ghost use lib.ListN.{length, take, drop};
 ghost use Rattle.form.specs.Header.{splitting};
 ghost use Rattle.line.specs.Lines as lines;
 ghost use Rattle.table.specs.Back.{between};
-ghost use Rattle.write.specs.Passing.{separatorsOfRows, separatorAfter, FourWithin, Writable, WrittenOut};
+ghost use Rattle.write.specs.Passing.{separatorsOfRows, separatorAfter, FourWithin, NextAfter, Writable, WrittenOut};
 
 // A number of a row as a size.
 fn wide(n: u16) -> usize
@@ -37,9 +37,9 @@ pub(crate) fn separators_in(field: u8, leaves: &[u16], text: &[u8]) -> Separator
 }
 
 // The separator between the leaf of a row and the next one: that of the first number of their places that differs, CR between two
-// segments. 0 where none differs, which is so in no table.
+// segments. Some number differs, since the next leaf stands at the place that comes next.
 fn separator(separators: Separators, leaves: &[u16], row: usize) -> u8
-    requires { ⌜ (row + 2) * 7 ≤ length (now leaves) ⌝ }
+    requires { ⌜ ((row + 2) * 7 ≤ length (now leaves)) × NextAfter (now leaves) row ⌝ }
     ensures { λ r. ⌜ r ≡ between (lines.CR ∷ splitting separators) (take 5 (drop (row * 7) (now (leaves .entry))))
         (take 5 (drop ((row + 1) * 7) (now (leaves .entry)))) ⌝ }
 {
@@ -56,15 +56,12 @@ fn separator(separators: Separators, leaves: &[u16], row: usize) -> u8
     if leaves[at + 3] != leaves[at + 10] {
         return separators.subfield;
     }
-    if leaves[at + 4] != leaves[at + 11] {
-        return separators.subsubfield;
-    }
-    0
+    separators.subsubfield
 }
 
 // The separator after the leaf of a row; CR after the last.
 fn separator_after(separators: Separators, leaves: &[u16], row: usize, count: usize) -> u8
-    requires { ⌜ (row < count) × (count * 7 ≤ length (now leaves)) ⌝ }
+    requires { ⌜ (row < count) × (count * 7 ≤ length (now leaves)) × (row + 1 < count → NextAfter (now leaves) row) ⌝ }
     ensures { λ r. ⌜ r ≡ separatorAfter separators (now (leaves .entry)) count row ⌝ }
 {
     if row + 1 == count {

@@ -65,9 +65,10 @@ put-text-requires c κs =
 
 separator-after-requires : tie.Need-separator-after-requires Inv-loop μ-loop
 separator-after-requires c κs =
+    let at-loop = c .before .before .before .before .before .before .before .loop in
     let at-loop-test = c .before .before .before .before .before .before .loop-test in
     let at-pre = c .before .before .before .before .before .before .before .before .before .before .before .pre in
-    (at-loop-test .taken, at-pre .long)
+    (at-loop-test .taken, at-pre .long, at-pre .places (at-loop .row))
 
 put-byte-requires : tie.Need-put-byte-requires Inv-loop μ-loop
 put-byte-requires c κs =

@@ -1,7 +1,7 @@
 -- `write::leaves::separator` meets its contract: number by number, the coarsest first.
 -- Assumes nothing.
 use borrow.Author.Needs.{needs}
-use Rattle.write.proofs.RowPlaces.{other-segment, other-field, other-repetition, other-subfield, other-subsubfield, same-place}
+use Rattle.write.proofs.RowPlaces.{other-segment, other-field, other-repetition, other-subfield, other-subsubfield}
 use Rattle.write.proofs.leaves.separator.Statement.{statement}
 use Rattle.write.proofs.leaves.separator.Tie as tie
 
@@ -28,7 +28,7 @@ returns c =
     let at-args = c .before .before .before .args in
     let at-pre = c .before .before .before .pre in
     let at-if1 = c .if1 in
-    other-segment (at-args .separators) (at-args .leaves .now) (at-args .row) at-pre (at-if1 .taken)
+    other-segment (at-args .separators) (at-args .leaves .now) (at-args .row) (at-pre .0) (at-if1 .taken)
 
 add-if2 : tie.Need-add-if2
 add-if2 c = search needs
@@ -54,7 +54,7 @@ returns-2 c =
     let at-pre = c .before .before .before .before .before .before .pre in
     let at-if1 = c .before .before .before .if1 in
     let at-if2 = c .if2 in
-    other-field (at-args .separators) (at-args .leaves .now) (at-args .row) at-pre (at-if1 .left) (at-if2 .taken)
+    other-field (at-args .separators) (at-args .leaves .now) (at-args .row) (at-pre .0) (at-if1 .left) (at-if2 .taken)
 
 add-if3 : tie.Need-add-if3
 add-if3 c = search needs
@@ -81,7 +81,7 @@ returns-3 c =
     let at-if1 = c .before .before .before .before .before .before .if1 in
     let at-if2 = c .before .before .before .if2 in
     let at-if3 = c .if3 in
-    other-repetition (at-args .separators) (at-args .leaves .now) (at-args .row) at-pre (at-if1 .left) (at-if2 .left) (at-if3 .taken)
+    other-repetition (at-args .separators) (at-args .leaves .now) (at-args .row) (at-pre .0) (at-if1 .left) (at-if2 .left) (at-if3 .taken)
 
 add-if4 : tie.Need-add-if4
 add-if4 c = search needs
@@ -109,47 +109,17 @@ returns-4 c =
     let at-if2 = c .before .before .before .before .before .before .if2 in
     let at-if3 = c .before .before .before .if3 in
     let at-if4 = c .if4 in
-    other-subfield (at-args .separators) (at-args .leaves .now) (at-args .row) at-pre (at-if1 .left) (at-if2 .left) (at-if3 .left) (at-if4 .taken)
-
-add-if5 : tie.Need-add-if5
-add-if5 c = search needs
-
-mul-if5 : tie.Need-mul-if5
-mul-if5 c = search needs
-
-shared-slice-read-if5 : tie.Need-shared-slice-read-if5
-shared-slice-read-if5 c = search needs
-
-add-if5-2 : tie.Need-add-if5-2
-add-if5-2 c = search needs
-
-mul-if5-2 : tie.Need-mul-if5-2
-mul-if5-2 c = search needs
-
-shared-slice-read-if5-2 : tie.Need-shared-slice-read-if5-2
-shared-slice-read-if5-2 c = search needs
+    other-subfield (at-args .separators) (at-args .leaves .now) (at-args .row) (at-pre .0) (at-if1 .left) (at-if2 .left) (at-if3 .left) (at-if4 .taken)
 
 returns-5 : tie.Need-returns-5
 returns-5 c =
-    let at-args = c .before .before .before .before .before .before .before .before .before .before .before .before .before .before .before .args in
-    let at-pre = c .before .before .before .before .before .before .before .before .before .before .before .before .before .before .before .pre in
-    let at-if1 = c .before .before .before .before .before .before .before .before .before .before .before .before .if1 in
-    let at-if2 = c .before .before .before .before .before .before .before .before .before .if2 in
-    let at-if3 = c .before .before .before .before .before .before .if3 in
-    let at-if4 = c .before .before .before .if4 in
-    let at-if5 = c .if5 in
-    other-subsubfield (at-args .separators) (at-args .leaves .now) (at-args .row) at-pre (at-if1 .left) (at-if2 .left) (at-if3 .left) (at-if4 .left) (at-if5 .taken)
-
-returns-6 : tie.Need-returns-6
-returns-6 c =
-    let at-args = c .before .before .before .before .before .before .before .before .before .before .before .before .before .before .before .args in
-    let at-pre = c .before .before .before .before .before .before .before .before .before .before .before .before .before .before .before .pre in
-    let at-if1 = c .before .before .before .before .before .before .before .before .before .before .before .before .if1 in
-    let at-if2 = c .before .before .before .before .before .before .before .before .before .if2 in
-    let at-if3 = c .before .before .before .before .before .before .if3 in
-    let at-if4 = c .before .before .before .if4 in
-    let at-if5 = c .if5 in
-    same-place (at-args .separators) (at-args .leaves .now) (at-args .row) at-pre (at-if1 .left) (at-if2 .left) (at-if3 .left) (at-if4 .left) (at-if5 .left)
+    let at-args = c .before .before .before .before .before .before .before .before .before .before .before .before .args in
+    let at-pre = c .before .before .before .before .before .before .before .before .before .before .before .before .pre in
+    let at-if1 = c .before .before .before .before .before .before .before .before .before .if1 in
+    let at-if2 = c .before .before .before .before .before .before .if2 in
+    let at-if3 = c .before .before .before .if3 in
+    let at-if4 = c .if4 in
+    other-subsubfield (at-args .separators) (at-args .leaves .now) (at-args .row) (at-pre .0) (at-if1 .left) (at-if2 .left) (at-if3 .left) (at-if4 .left) (at-pre .1)
 
 pub separator-spec : {M : Type 1} → statement M
 separator-spec =
@@ -183,11 +153,4 @@ separator-spec =
     mul-if4-2
     shared-slice-read-if4-2
     returns-4
-    add-if5
-    mul-if5
-    shared-slice-read-if5
-    add-if5-2
-    mul-if5-2
-    shared-slice-read-if5-2
-    returns-5
-    returns-6)
+    returns-5)

@@ -18,8 +18,9 @@ returns c =
 
 separator-requires : tie.Need-separator-requires
 separator-requires c κs =
+    let at-pre = c .before .before .pre in
     let at-if1 = c .if1 in
-    omega (arith, at-if1 .left)
+    (omega (arith, at-if1 .left), at-pre .2 (omega (arith, at-if1 .left)))
 
 returns-2 : tie.Need-returns-2
 returns-2 c =
