@@ -92,21 +92,22 @@ unfolding contextAmong
 context-first rows text {count} w =
     ap (λ (gs : List (List Leaf)). numberOfField contextNames 7 (getD gs 0 [])) (sym (first-segment rows text w) ∙ ap bySegment (leaves-all rows text count))
 
+-- the leaf at which a segment begins is of field 1
+pub record Headed (rows : List ℕ) (count first : ℕ) : Type 0 where
+  pub head : first < count → getD rows (first * leafRowSize + 1) 0 ≡ 1
+
 -- segment rows: the first i state the segments of the leaves up to `first`
 pub record Grouping (segments : List ℕ) (many : ℕ) (rows text : List ℕ) (count i first : ℕ) : Type 0 where
   pub within : i ≤ many
   pub to : first ≤ count
-  pub head : first < count → getD rows (first * leafRowSize + 1) 0 ≡ 1
   pub so : groupsStated segments i (many - i) (first + 1) (bySegment (leavesFrom rows text first count))
       ≡ groupsStated segments 0 many 1 (bySegment (values (leafAt rows text) 0 count))
 
-pub grouping-begins : {segments : List ℕ} {many : ℕ} {rows text : List ℕ} {count : ℕ} → getD rows 1 0 ≡ 1
-    → Grouping segments many rows text count 0 0
-grouping-begins {segments} {many} {rows} {text} {count} first =
+pub grouping-begins : {segments : List ℕ} {many : ℕ} {rows text : List ℕ} {count : ℕ} → Grouping segments many rows text count 0 0
+grouping-begins {segments} {many} {rows} {text} {count} =
     record {
       within = omega arith;
       to = omega arith;
-      head = λ l. first;
       so =
           ap₂ (λ (n : ℕ) (ls : List Leaf). groupsStated segments 0 n 1 (bySegment ls)) (let e : many - 0 ≡ many = omega arith in e)
           (leaves-all rows text count);
@@ -156,8 +157,8 @@ module _ {segments : List ℕ} {many : ℕ} {rows text : List ℕ} {count i firs
     pub grouping-fails : stated ≡ false → false ≡ Whole
     grouping-fails e = sym (and-fails-first others e) ∙ grouping-turn
 
-    pub grouping-on : (end < count → getD rows (end * leafRowSize + 1) 0 ≡ 1) → stated ≡ true → Grouping segments many rows text count (i + 1) end
-    grouping-on later e = record { within = omega arith; to = v .to; head = later; so = sym (and-passed others e) ∙ grouping-turn }
+    pub grouping-on : stated ≡ true → Grouping segments many rows text count (i + 1) end
+    grouping-on e = record { within = omega arith; to = v .to; so = sym (and-passed others e) ∙ grouping-turn }
 
   grouping-over : (first < count) ⊎ (count ≤ first) → eqb first count ≡ groupsStated segments i 0 (first + 1) (bySegment (leavesFrom rows text first count))
   unfolding groupsStated bySegment
