@@ -1,10 +1,12 @@
 -- Leaves one after the other with their separators: what is left of the rows gives the whole.
 -- Assumes nothing.
+use mathlib.Core.Bool.{true, false}
 use mathlib.Core.List.{List, [], _∷_, _++_, append-assoc}
 use mathlib.Core.Logic.{_⊎_, inl, inr}
 use mathlib.Core.Path.{_≡_, refl, sym, ap, ap₂, _∙_, subst}
 use Prim.Native.Nat.{ℕ, suc, _+_, _*_, _-_, _≤_, _<_}
 use native.Mathlib.Omega.{arith}
+use lib.Dec.{eqb}
 use lib.ListN.{length, getD, take, drop}
 use lib.Seq.{sets}
 use borrow.Author.Tests.{eq-eqb, ne-eqb}
@@ -20,19 +22,27 @@ use Rattle.line.specs.Cutting.{unlines}
 use Rattle.table.specs.Leaves.{Leaf}
 use Rattle.table.specs.Back.{leafAt, between, unsplitFrom, unsplit}
 use Rattle.write.specs.declared.lines.Going.{Going}
-use Rattle.write.specs.Filling.{Stand, stand, puts, Fits, InSegment}
-use Rattle.write.specs.Passing.{LeafWithin, linesOfRows, separatorAfter, Writable, WrittenOut}
-use Rattle.write.proofs.Filling.{going, puts-append, puts-kept, fits-first, fits-next}
+use Rattle.write.specs.Filling.{Stand, stand, closed, puts, Fits, InSegment}
+use Rattle.write.specs.Passing.{LeafWithin, linesOfRows, leading, Writable, WrittenOut}
+use Rattle.write.proofs.Filling.{going, puts-append, puts-kept, fits-first, fits-next, close-fits, closed-one}
 use Rattle.write.proofs.LinesFilled.{lines-filled}
 
--- the separator after a row, by cases
+-- the separator after the leaf of a row: the one that leads to the next leaf, and CR after the last
+unfoldable pub separatorAfter : Separators → List ℕ → ℕ → ℕ → ℕ
+separatorAfter ps rows count row =
+    elim (eqb (row + 1) count) [
+      | true ↦ CR
+      | false ↦ leading ps rows row
+    ]
+
+-- by cases
 module _ (ps : Separators) (rows : List ℕ) (count row : ℕ) where
   pub last-separator : row + 1 ≡ count → separatorAfter ps rows count row ≡ CR
   unfolding separatorAfter
   last-separator e = rw (eq-eqb (row + 1) count e, separatorAfter)
 
   pub inner-separator : (row + 1 ≡ count → ⊥)
-      → separatorAfter ps rows count row ≡ between (CR ∷ splitting ps) (take 5 (drop (row * 7) rows)) (take 5 (drop ((row + 1) * 7) rows))
+      → separatorAfter ps rows count row ≡ leading ps rows row
   unfolding separatorAfter
   inner-separator n = rw (ne-eqb (row + 1) count n, separatorAfter)
 
@@ -150,13 +160,13 @@ module _ (ps : Separators) (rows : List ℕ) (count : ℕ) (text : List ℕ) whe
         rest-fits = subst (λ (u : Stand). Fits L f u (rest row)) (sym put-own) (fits-next L f s own (rest row) split-fits)
 
         module _ {b : ℕ} (e : b ≡ separatorAfter ps rows count row) where
-          pub separator-fits : Fits L f t (b ∷ [])
+          separator-fits : Fits L f t (b ∷ [])
           separator-fits =
               subst (λ (n : ℕ). Fits L f t (n ∷ [])) (sym e) (fits-first L f t (separatorAfter ps rows count row ∷ []) (ahead (row + 1)) rest-fits)
 
-          pub leaves-turn : {u : Stand} → u ≡ puts L f t (b ∷ []) → LeavesLeft s₀ u (row + 1) (from + size)
+          separator-turn : {u : Stand} → u ≡ puts L f t (b ∷ []) → LeavesLeft s₀ u (row + 1) (from + size)
           unfolding own
-          leaves-turn {u} c =
+          separator-turn {u} c =
               let sep = separatorAfter ps rows count row ∷ [] in
               let put-sep : u ≡ puts L f t sep = c ∙ ap (λ (n : ℕ). puts L f t (n ∷ [])) e in
               record {
@@ -177,6 +187,22 @@ module _ (ps : Separators) (rows : List ℕ) (count : ℕ) (text : List ℕ) whe
                     ∙ w .gives;
                 here = λ more. ap₂ _+_ (w .here less) is ∙ sym (a .next row more);
               }
+
+        -- the last leaf: CR ends its segment
+        module _ (last : row + 1 ≡ count) where
+          pub last-fits : (suc (t .going .out) ≤ length (t .output)) × (t .going .lines ≤ t .going .out)
+          last-fits = close-fits L f t CR refl (separator-fits (sym (last-separator ps rows count row last)))
+
+          pub last-turn : {u : Stand} → u ≡ closed L t → LeavesLeft s₀ u (row + 1) (from + size)
+          last-turn c = separator-turn (sym (last-separator ps rows count row last)) (closed-one L f t CR refl c)
+
+        -- another: a separator leads to the next
+        module _ (more : row + 1 ≡ count → ⊥) where
+          pub leading-fits : Fits L f t (leading ps rows row ∷ [])
+          leading-fits = separator-fits (sym (inner-separator ps rows count row more))
+
+          pub leading-turn : {u : Stand} → u ≡ puts L f t (leading ps rows row ∷ []) → LeavesLeft s₀ u (row + 1) (from + size)
+          leading-turn = separator-turn (sym (inner-separator ps rows count row more))
 
     -- the pass over all rows
     module _ {output : List ℕ} (w : Writable L ps rows count text output) where

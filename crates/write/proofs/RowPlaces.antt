@@ -5,11 +5,13 @@ use mathlib.Core.List.{List, [], _∷_}
 use mathlib.Core.Path.{_≡_, refl, sym, ap, ap₂, _∙_}
 use Prim.Native.Nat.{ℕ, zero, suc, _+_, _*_, _≤_}
 use native.Mathlib.Omega.{arith}
+use lib.Dec.{eqb}
 use lib.ListN.{length, getD, take, drop}
 use lib.Seq.{drop-cons}
-use borrow.Author.Tests.{eq-eqb, ne-eqb}
+use borrow.Author.Tests.{eq-eqb, ne-eqb, eqb-false}
+use Rattle.laws.specs.Every.{none, also}
 use Rattle.laws.specs.Tables.{values}
-use Rattle.laws.proofs.Tests.{never-both}
+use Rattle.laws.proofs.Tests.{Tested, passed, failed, tested, never-both}
 use Rattle.form.specs.declared.separators.Separators.{Separators}
 use Rattle.form.specs.Header.{splitting}
 use Rattle.line.specs.Lines.{CR}
@@ -17,6 +19,7 @@ use Rattle.table.specs.Back.{between}
 use Rattle.table.specs.RowTests.{nextPlace}
 use Rattle.table.proofs.Places.{between-here, between-later}
 use Rattle.table.proofs.RowTests.{next-same}
+use Rattle.write.specs.Filling.{InSegment}
 use Rattle.write.specs.Passing.{NextAfter}
 
 -- some numbers of a list in a row
@@ -29,6 +32,18 @@ numbers rows k (suc n) h =
 five-same : {a b c d e a′ b′ c′ d′ e′ : ℕ} → a ≡ a′ → b ≡ b′ → c ≡ c′ → d ≡ d′ → e ≡ e′
     → _≡_ {A = List ℕ} (a ∷ b ∷ c ∷ d ∷ e ∷ []) (a′ ∷ b′ ∷ c′ ∷ d′ ∷ e′ ∷ [])
 five-same p q r s t = cc
+
+-- no separator between two places is CR where none of all is
+between-clear : {ps : List ℕ} → InSegment ps → (from to : List ℕ) → eqb (between ps from to) CR ≡ false
+unfolding between
+between-clear none from to = refl
+between-clear (also w ws) [] to = w
+between-clear (also w ws) (m ∷ from) [] = w
+between-clear (also {a} {s} w ws) (m ∷ from) (n ∷ to) = go (tested (eqb m n)) (between-clear ws from to)
+  where
+    go : Tested (eqb m n) → eqb (between s from to) CR ≡ false → eqb (between (a ∷ s) (m ∷ from) (n ∷ to)) CR ≡ false
+    go (passed e) later = ap (λ (b : ℕ). eqb b CR) (between-later a s m n from to e) ∙ later
+    go (failed e) later = ap (λ (b : ℕ). eqb b CR) (between-here a s m n from to e) ∙ w
 
 -- no place comes next after itself
 never-next : (p : List ℕ) → nextPlace p p ≡ false
@@ -91,6 +106,14 @@ module _ (ps : Separators) (rows : List ℕ) (row : ℕ) where
           ≡ between four (at 1 ∷ at 2 ∷ at 3 ∷ at 4 ∷ []) (at 8 ∷ at 9 ∷ at 10 ∷ at 11 ∷ [])
       same-segment =
           between-later CR four first (at 7) (at 1 ∷ at 2 ∷ at 3 ∷ at 4 ∷ []) (at 8 ∷ at 9 ∷ at 10 ∷ at 11 ∷ []) (eq-eqb first (at 7) s)
+
+      -- within a segment it is not CR
+      pub inside-clear : InSegment (splitting ps) → {b : ℕ} → Between b → b ≡ CR → ⊥
+      unfolding splitting
+      inside-clear w {b} e =
+          eqb-false b CR
+          (ap (λ (n : ℕ). eqb n CR) (e ∙ ap₂ (between (CR ∷ four)) (place-here long) (place-next long) ∙ same-segment)
+          ∙ between-clear w (at 1 ∷ at 2 ∷ at 3 ∷ at 4 ∷ []) (at 8 ∷ at 9 ∷ at 10 ∷ at 11 ∷ []))
 
       pub other-field : (at 1 ≡ at 8 → ⊥) → Between (ps .field)
       other-field h =

@@ -1,15 +1,16 @@
 -- The writing pass over a lent table that passed the table test (document 01, "Writing"): it asks nothing more, and gives the message.
 -- Assumes nothing.
-use mathlib.Core.Bool.{true}
+use mathlib.Core.Bool.{true, false}
 use mathlib.Core.List.{List, _∷_}
 use mathlib.Core.Path.{_≡_, sym, ap, ap₂, _∙_, subst}
 use Prim.Native.Nat.{ℕ, suc, _+_, _*_, _≤_, _<_}
 use native.Mathlib.Nat.{zero-add}
 use native.Mathlib.Omega.{arith}
+use lib.Dec.{eqb}
 use lib.ListN.{length, getD, take, drop, length-take, length-drop, take-append-drop}
 use lib.Seq.{sets, getD-take, getD-drop}
 use borrow.Author.Tests.{ne-eqb}
-use Rattle.laws.specs.Every.{All}
+use Rattle.laws.specs.Every.{All, none, also}
 use Rattle.laws.specs.Tables.{values}
 use Rattle.laws.proofs.Every.{all-left, all-drop, all-at, all-of}
 use Rattle.laws.proofs.Parts.{part-taken}
@@ -17,7 +18,8 @@ use Rattle.laws.proofs.Tables.{length-values, values-same}
 use Rattle.form.specs.declared.limits.Limits.{Limits}
 use Rattle.form.specs.declared.separators.Separators.{Separators}
 use Rattle.form.specs.Limits.{Lawful}
-use Rattle.form.specs.Header.{splitting}
+use Rattle.form.specs.Header.{allAllowed, five, splitting}
+use Rattle.form.proofs.HeaderRule.{Allowed, all-allowed-facts}
 use Rattle.line.specs.Lines.{CR, space}
 use Rattle.line.specs.Cutting.{cuts, unlines}
 use Rattle.table.specs.Leaves.{Leaf, split}
@@ -197,6 +199,16 @@ module _ (L : Limits) (lawful : Lawful L) (levels : ℕ → ℕ → ℕ) (l : Le
     lines-same =
         ap₂ (λ (qs : Separators) (ls : List Leaf). cuts L (qs .field) (split CR (unsplit (CR ∷ splitting qs) ls))) (e ∙ separators-same) (sym leaves-same)
 
+    -- no separator is CR
+    splits-clear : InSegment (splitting ps)
+    unfolding splitting
+    splits-clear =
+        let w = all-allowed-facts ps (ap (λ (qs : Separators). allAllowed (five qs)) (e ∙ separators-same) ∙ local .header .allowed) in
+        also (clear-byte (w .field)) (also (clear-byte (w .repeater)) (also (clear-byte (w .subfield)) (also (clear-byte (w .subsubfield)) none)))
+      where
+        clear-byte : {b : ℕ} → Allowed b → eqb b CR ≡ false
+        clear-byte {b} a = ne-eqb b CR (λ q. omega (arith, a .low))
+
     -- the pass may go over them
     pub table-writable : {output : List ℕ} → L .bytes ≤ length output
         → Writable L ps (l .leafRows) (l .card .leaves) (l .text) output
@@ -215,6 +227,7 @@ module _ (L : Limits) (lawful : Lawful L) (levels : ℕ → ℕ → ℕ) (l : Le
               };
           first = sym (row-counted (l .leafRows) (l .text) (l .card .leaves) (l .card .text) 0 5 (omega (arith, some-leaves)) (omega arith)) ∙ ended-first (counted l .leafRows) (l .card .leaves) (l .card .text) (rows .laid) (omega (arith, some-leaves));
           next = next-start;
+          splits = splits-clear;
           places = next-place;
           fits = omega (arith, ap (λ (ls : List (List ℕ)). length (unlines ls)) lines-same, local-accepted lawful local .fits);
         }

@@ -1,10 +1,9 @@
 -- The writing pass over leaf rows (document 01, "Writing"): what it asks of the rows and the text, and what it gives.
 -- Assumes nothing.
-use mathlib.Core.Bool.{true, false}
+use mathlib.Core.Bool.{true}
 use mathlib.Core.List.{List, _∷_}
 use mathlib.Core.Path.{_≡_}
 use Prim.Native.Nat.{ℕ, _+_, _*_, _≤_, _<_}
-use lib.Dec.{eqb}
 use lib.ListN.{length, take, drop, getD}
 use lib.Seq.{sets}
 use Rattle.laws.specs.Tables.{values}
@@ -47,13 +46,9 @@ pub record FourWithin (rows text : List ℕ) : Type 0 where
   pub four : getD rows 13 0 ≡ 4
   pub within : getD rows 12 0 + 4 ≤ length text
 
--- the separator after the leaf of a row: the one that leads to the next leaf, and CR after the last
-unfoldable pub separatorAfter : Separators → List ℕ → ℕ → ℕ → ℕ
-separatorAfter ps rows count row =
-    elim (eqb (row + 1) count) [
-      | true ↦ CR
-      | false ↦ between (CR ∷ splitting ps) (take 5 (drop (row * 7) rows)) (take 5 (drop ((row + 1) * 7) rows))
-    ]
+-- the separator that leads from the leaf of a row to the next one
+abbrev pub leading : Separators → List ℕ → ℕ → ℕ
+leading ps rows row = between (CR ∷ splitting ps) (take 5 (drop (row * 7) rows)) (take 5 (drop ((row + 1) * 7) rows))
 
 -- the leaf after that of a row stands at the place that comes next
 abbrev pub NextAfter : List ℕ → ℕ → Type 0
@@ -68,6 +63,8 @@ pub record Writable (L : Limits) (ps : Separators) (rows : List ℕ) (count : �
   -- the texts lie end to end
   pub first : getD rows 5 0 ≡ 0
   pub next : (i : ℕ) → i + 1 < count → getD rows ((i + 1) * 7 + 5) 0 ≡ getD rows (i * 7 + 5) 0 + getD rows (i * 7 + 6) 0
+  -- no separator is CR
+  pub splits : InSegment (splitting ps)
   -- each place comes next after the one before it
   pub places : (i : ℕ) → i + 1 < count → NextAfter rows i
   pub fits : length (unlines (linesOfRows L ps rows count text)) ≤ length output

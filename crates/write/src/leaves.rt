@@ -1,18 +1,18 @@
 // The leaves of a table one after the other, with one separator between two neighbours, as lines.
-use crate::lines::CR;
 use crate::lines::Going;
-use crate::lines::put_byte;
+use crate::lines::close;
+use crate::lines::put_inside;
 use crate::lines::put_text;
 use form::limits::Limits;
 use form::separators::Separators;
-ghost use mathlib.Core.List.{_∷_};
+ghost use mathlib.Core.List.{[], _∷_};
 ghost use mathlib.Core.Path.{_≡_};
 ghost use Prim.Native.Nat.{_+_, _*_, _≤_, _<_};
-ghost use lib.ListN.{length, take, drop};
+ghost use lib.ListN.{length, getD};
+ghost use Rattle.form.specs.Limits.{Lawful};
 ghost use Rattle.form.specs.Header.{splitting};
-ghost use Rattle.line.specs.Lines as lines;
-ghost use Rattle.table.specs.Back.{between};
-ghost use Rattle.write.specs.Passing.{separatorsOfRows, separatorAfter, FourWithin, NextAfter, Writable, WrittenOut};
+ghost use Rattle.write.specs.Filling.{stand, puts, Fits, InSegment};
+ghost use Rattle.write.specs.Passing.{separatorsOfRows, leading, FourWithin, NextAfter, Writable, WrittenOut};
 
 // A number of a row as a size.
 fn wide(n: u16) -> usize
@@ -36,17 +36,14 @@ pub(crate) fn separators_in(field: u8, leaves: &[u16], text: &[u8]) -> Separator
     }
 }
 
-// The separator between the leaf of a row and the next one: that of the first number of their places that differs, CR between two
-// segments. Some number differs, since the next leaf stands at the place that comes next.
+// The separator between the leaf of a row and the next one of its segment: that of the first number of their places that differs. Some
+// number does, since the next leaf stands at the place that comes next.
 fn separator(separators: Separators, leaves: &[u16], row: usize) -> u8
-    requires { ⌜ ((row + 2) * 7 ≤ length (now leaves)) × NextAfter (now leaves) row ⌝ }
-    ensures { λ r. ⌜ r ≡ between (lines.CR ∷ splitting separators) (take 5 (drop (row * 7) (now (leaves .entry))))
-        (take 5 (drop ((row + 1) * 7) (now (leaves .entry)))) ⌝ }
+    requires { ⌜ ((row + 2) * 7 ≤ length (now leaves)) × NextAfter (now leaves) row
+        × (getD (now leaves) (row * 7) 0 ≡ getD (now leaves) (row * 7 + 7) 0) ⌝ }
+    ensures { λ r. ⌜ r ≡ leading separators (now (leaves .entry)) row ⌝ }
 {
     let at = row * 7;
-    if leaves[at] != leaves[at + 7] {
-        return CR;
-    }
     if leaves[at + 1] != leaves[at + 8] {
         return separators.field;
     }
@@ -59,15 +56,26 @@ fn separator(separators: Separators, leaves: &[u16], row: usize) -> u8
     separators.subsubfield
 }
 
-// The separator after the leaf of a row; CR after the last.
-fn separator_after(separators: Separators, leaves: &[u16], row: usize, count: usize) -> u8
-    requires { ⌜ (row < count) × (count * 7 ≤ length (now leaves)) × (row + 1 < count → NextAfter (now leaves) row) ⌝ }
-    ensures { λ r. ⌜ r ≡ separatorAfter separators (now (leaves .entry)) count row ⌝ }
+// The separator between the leaf of a row and the next one goes into the output; between two segments it is CR.
+fn put_separator(
+    limits: Limits,
+    separators: Separators,
+    going: Going,
+    leaves: &[u16],
+    row: usize,
+    output: &mut [u8],
+) -> Going
+    requires { ⌜ Lawful limits × InSegment (splitting separators) × ((row + 2) * 7 ≤ length (now leaves)) × NextAfter (now leaves) row
+        × Fits limits (separators .field) (stand (now output) going) (leading separators (now leaves) row ∷ []) ⌝ }
+    ensures { λ r. ⌜ stand (now (output .exit)) r
+        ≡ puts limits (separators .field) (stand (now (output .entry)) going) (leading separators (now (leaves .entry)) row ∷ []) ⌝ }
 {
-    if row + 1 == count {
-        return CR;
+    let at = row * 7;
+    if leaves[at] != leaves[at + 7] {
+        return close(limits, going, output);
     }
-    separator(separators, leaves, row)
+    let byte = separator(separators, leaves, row);
+    put_inside(limits, separators.field, going, byte, output)
 }
 
 // The message of so many leaves, each with its separator after it, at the front of the output: how many bytes and lines it is. Their texts
@@ -91,13 +99,14 @@ pub(crate) fn put_leaves(
     };
     let mut from = 0;
     let mut row = 0;
-    while row < count {
+    loop {
         let end = from + wide(leaves[row * 7 + 6]);
         let put = put_text(limits, field, going, text, from, end, output);
-        let byte = separator_after(separators, leaves, row, count);
-        going = put_byte(limits, field, put, byte, output);
+        if row + 1 == count {
+            return close(limits, put, output);
+        }
+        going = put_separator(limits, separators, put, leaves, row, output);
         from = end;
         row += 1;
     }
-    going
 }

@@ -6,6 +6,7 @@ ghost use Prim.Native.Nat.{_+_, _-_, _≤_, _<_};
 ghost use lib.ListN.{length, take, drop};
 ghost use lib.Seq.{sets};
 ghost use Rattle.form.specs.Limits.{Lawful};
+ghost use Rattle.line.specs.Lines as lines;
 ghost use Rattle.write.specs.Filling.{stand, placed, closed, broken, opened, puts, Fits, InSegment};
 
 // CR ends a line.
@@ -33,7 +34,7 @@ fn place(going: Going, byte: u8, output: &mut [u8]) -> Going
 }
 
 // The line begun ends, and its segment with it.
-fn close(limits: Limits, going: Going, output: &mut [u8]) -> Going
+pub(crate) fn close(limits: Limits, going: Going, output: &mut [u8]) -> Going
     requires { ⌜ (going .out < length (now output)) × (going .lines ≤ going .out) ⌝ }
     ensures { λ r. ⌜ stand (now (output .exit)) r ≡ closed limits (stand (now (output .entry)) going) ⌝ }
 {
@@ -73,20 +74,17 @@ fn open_line(limits: Limits, field: u8, going: Going, output: &mut [u8]) -> Goin
     going
 }
 
-// One byte more; CR closes its segment.
-pub(crate) fn put_byte(
+// One byte more of the segment, which is not CR.
+pub(crate) fn put_inside(
     limits: Limits,
     field: u8,
     going: Going,
     byte: u8,
     output: &mut [u8],
 ) -> Going
-    requires { ⌜ Lawful limits × Fits limits field (stand (now output) going) (byte ∷ []) ⌝ }
+    requires { ⌜ Lawful limits × Fits limits field (stand (now output) going) (byte ∷ []) × (byte ≡ lines.CR → ⊥) ⌝ }
     ensures { λ r. ⌜ stand (now (output .exit)) r ≡ puts limits field (stand (now (output .entry)) going) (byte ∷ []) ⌝ }
 {
-    if byte == CR {
-        return close(limits, going, output);
-    }
     let open = open_line(limits, field, going, output);
     place(open, byte, output)
 }

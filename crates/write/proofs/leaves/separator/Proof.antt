@@ -1,12 +1,15 @@
 -- `write::leaves::separator` meets its contract: number by number, the coarsest first.
 -- Assumes nothing.
 use borrow.Author.Needs.{needs}
-use Rattle.write.proofs.RowPlaces.{other-segment, other-field, other-repetition, other-subfield, other-subsubfield}
+use Rattle.write.proofs.RowPlaces.{other-field, other-repetition, other-subfield, other-subsubfield}
 use Rattle.write.proofs.leaves.separator.Statement.{statement}
 use Rattle.write.proofs.leaves.separator.Tie as tie
 
 mul-at : tie.Need-mul-at
 mul-at c = search needs
+
+add-if1 : tie.Need-add-if1
+add-if1 c = search needs
 
 mul-if1 : tie.Need-mul-if1
 mul-if1 c = search needs
@@ -14,8 +17,8 @@ mul-if1 c = search needs
 shared-slice-read-if1 : tie.Need-shared-slice-read-if1
 shared-slice-read-if1 c = search needs
 
-add-if1 : tie.Need-add-if1
-add-if1 c = search needs
+add-if1-2 : tie.Need-add-if1-2
+add-if1-2 c = search needs
 
 mul-if1-2 : tie.Need-mul-if1-2
 mul-if1-2 c = search needs
@@ -28,7 +31,7 @@ returns c =
     let at-args = c .before .before .before .args in
     let at-pre = c .before .before .before .pre in
     let at-if1 = c .if1 in
-    other-segment (at-args .separators) (at-args .leaves .now) (at-args .row) (at-pre .0) (at-if1 .taken)
+    other-field (at-args .separators) (at-args .leaves .now) (at-args .row) (at-pre .0) (at-pre .2) (at-if1 .taken)
 
 add-if2 : tie.Need-add-if2
 add-if2 c = search needs
@@ -54,7 +57,7 @@ returns-2 c =
     let at-pre = c .before .before .before .before .before .before .pre in
     let at-if1 = c .before .before .before .if1 in
     let at-if2 = c .if2 in
-    other-field (at-args .separators) (at-args .leaves .now) (at-args .row) (at-pre .0) (at-if1 .left) (at-if2 .taken)
+    other-repetition (at-args .separators) (at-args .leaves .now) (at-args .row) (at-pre .0) (at-pre .2) (at-if1 .left) (at-if2 .taken)
 
 add-if3 : tie.Need-add-if3
 add-if3 c = search needs
@@ -81,54 +84,26 @@ returns-3 c =
     let at-if1 = c .before .before .before .before .before .before .if1 in
     let at-if2 = c .before .before .before .if2 in
     let at-if3 = c .if3 in
-    other-repetition (at-args .separators) (at-args .leaves .now) (at-args .row) (at-pre .0) (at-if1 .left) (at-if2 .left) (at-if3 .taken)
-
-add-if4 : tie.Need-add-if4
-add-if4 c = search needs
-
-mul-if4 : tie.Need-mul-if4
-mul-if4 c = search needs
-
-shared-slice-read-if4 : tie.Need-shared-slice-read-if4
-shared-slice-read-if4 c = search needs
-
-add-if4-2 : tie.Need-add-if4-2
-add-if4-2 c = search needs
-
-mul-if4-2 : tie.Need-mul-if4-2
-mul-if4-2 c = search needs
-
-shared-slice-read-if4-2 : tie.Need-shared-slice-read-if4-2
-shared-slice-read-if4-2 c = search needs
+    other-subfield (at-args .separators) (at-args .leaves .now) (at-args .row) (at-pre .0) (at-pre .2) (at-if1 .left) (at-if2 .left) (at-if3 .taken)
 
 returns-4 : tie.Need-returns-4
 returns-4 c =
-    let at-args = c .before .before .before .before .before .before .before .before .before .before .before .before .args in
-    let at-pre = c .before .before .before .before .before .before .before .before .before .before .before .before .pre in
-    let at-if1 = c .before .before .before .before .before .before .before .before .before .if1 in
-    let at-if2 = c .before .before .before .before .before .before .if2 in
-    let at-if3 = c .before .before .before .if3 in
-    let at-if4 = c .if4 in
-    other-subfield (at-args .separators) (at-args .leaves .now) (at-args .row) (at-pre .0) (at-if1 .left) (at-if2 .left) (at-if3 .left) (at-if4 .taken)
-
-returns-5 : tie.Need-returns-5
-returns-5 c =
-    let at-args = c .before .before .before .before .before .before .before .before .before .before .before .before .args in
-    let at-pre = c .before .before .before .before .before .before .before .before .before .before .before .before .pre in
-    let at-if1 = c .before .before .before .before .before .before .before .before .before .if1 in
-    let at-if2 = c .before .before .before .before .before .before .if2 in
-    let at-if3 = c .before .before .before .if3 in
-    let at-if4 = c .if4 in
-    other-subsubfield (at-args .separators) (at-args .leaves .now) (at-args .row) (at-pre .0) (at-if1 .left) (at-if2 .left) (at-if3 .left) (at-if4 .left) (at-pre .1)
+    let at-args = c .before .before .before .before .before .before .before .before .before .args in
+    let at-pre = c .before .before .before .before .before .before .before .before .before .pre in
+    let at-if1 = c .before .before .before .before .before .before .if1 in
+    let at-if2 = c .before .before .before .if2 in
+    let at-if3 = c .if3 in
+    other-subsubfield (at-args .separators) (at-args .leaves .now) (at-args .row) (at-pre .0) (at-pre .2) (at-if1 .left) (at-if2 .left) (at-if3 .left) (at-pre .1)
 
 pub separator-spec : {M : Type 1} → statement M
 separator-spec =
     tie.close
     (tie.spec
     mul-at
+    add-if1
     mul-if1
     shared-slice-read-if1
-    add-if1
+    add-if1-2
     mul-if1-2
     shared-slice-read-if1-2
     returns
@@ -146,11 +121,4 @@ separator-spec =
     mul-if3-2
     shared-slice-read-if3-2
     returns-3
-    add-if4
-    mul-if4
-    shared-slice-read-if4
-    add-if4-2
-    mul-if4-2
-    shared-slice-read-if4-2
-    returns-4
-    returns-5)
+    returns-4)
