@@ -9,10 +9,10 @@ use Rattle.form.specs.Limits.{form}
 use Rattle.form.specs.Numbers.{shortBuffer}
 use Rattle.order.specs.Owners.{level}
 use Rattle.table.specs.declared.Card.{Card}
-use Rattle.table.specs.Lent.{Lent}
+use Rattle.table.specs.Lent.{Lent, lent}
 use Rattle.write.specs.declared.Written.{Written}
 use Rattle.write.specs.Writing.{Writing, refuses, writing}
-use Rattle.write.specs.Answer.{answer, outputAfter, lent}
+use Rattle.write.specs.Answer.{answer, outputAfter}
 use Rattle.abi.specs.Putting.{put}
 use Rattle.abi.specs.Writing.{writeOutcome, writeNumbers, TellsWriting, WroteInto}
 use Rattle.abi.proofs.Puts.{put-short}

@@ -4,7 +4,7 @@ use crate::card;
 use look::leaf::Place;
 use look::leaf::Sought;
 ghost use mathlib.Core.Path.{_≡_};
-ghost use Rattle.look.specs.Lending.{lent};
+ghost use Rattle.table.specs.Lent.{lent};
 ghost use Rattle.look.specs.Looking.{rowAfter, sameOrder};
 ghost use Rattle.abi.specs.Cards.{cardOf};
 ghost use Rattle.abi.specs.Looking.{placeOf, FoundLeaf};

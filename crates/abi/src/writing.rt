@@ -5,8 +5,8 @@ use form::number::Number;
 ghost use mathlib.Core.Path.{_≡_};
 ghost use Rattle.form.specs.Limits.{form};
 ghost use Rattle.order.specs.Owners.{level};
+ghost use Rattle.table.specs.Lent.{lent};
 ghost use Rattle.write.specs.Writing.{isTable};
-ghost use Rattle.write.specs.Answer.{lent};
 ghost use Rattle.abi.specs.Cards.{cardOf};
 ghost use Rattle.abi.specs.Writing.{WroteInto};
 

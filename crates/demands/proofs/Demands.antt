@@ -24,7 +24,7 @@ use Rattle.order.proofs.OneTree.{one-derivation}
 use Rattle.order.proofs.Watched.{yes-exactly}
 use Rattle.table.specs.Lent.{Lent, withinBuffers, counted}
 use Rattle.table.specs.Rows.{Table, kindsOf, contextIn}
-use Rattle.table.specs.Reading.{Room, Outcome, accepted, reading}
+use Rattle.table.specs.Reading.{Room, Outcome, accepted, reading, stated}
 use Rattle.table.specs.Back.{linesOf, written}
 use Rattle.read.specs.declared.Answer.{Answer}
 use Rattle.read.specs.Answering.{ReadAs, noCard, roomOf}
@@ -34,7 +34,7 @@ use Rattle.read.proofs.OnlyOne.{only-one, refused-unchanged}
 use Rattle.read.proofs.Acceptance.{accepted-exactly, Read, accepted-read}
 use Rattle.read.proofs.OwnersColumn.{RowOf, owners-column}
 use Rattle.read.proofs.CutAnyhow.{same-joined}
-use Rattle.write.specs.Writing.{ReadTo, stated, Writing, refuses, writes, writing}
+use Rattle.write.specs.Writing.{ReadTo, Writing, refuses, writes, writing}
 use Rattle.write.proofs.RoundTrip.{round-trip}
 use Rattle.write.proofs.Fewest.{least-bytes, least-lines, lines-short}
 use Rattle.write.proofs.LentTables.{is-table, table-written-out, refused-none}

@@ -18,16 +18,15 @@ use Rattle.form.proofs.LineCount.{form-lawful}
 use Rattle.line.specs.Cutting.{pieces, addenda, cut, cuts, unlines}
 use Rattle.order.specs.Owners.{level}
 use Rattle.table.specs.Leaves.{onto, split}
-use Rattle.table.specs.Back.{leafAt, leavesOf, separatorsIn, between, unsplitFrom, unsplit, segmentsOf, linesOf, written}
+use Rattle.table.specs.Back.{leafAt, leavesOf, separatorsAt, between, unsplitFrom, unsplit, segmentsOf, linesOf, written}
 use Rattle.table.specs.Examples.{filed, k1}
-use Rattle.table.specs.Examples as says
-use Rattle.table.specs.Lent.{Lent, withinBuffers, counted}
+use Rattle.table.specs.Lent.{Lent, countsFit, withinBuffers, counted}
 use Rattle.table.specs.Rows.{Table}
-use Rattle.table.specs.Reading.{Outcome, accepted, reading}
+use Rattle.table.specs.Reading.{Outcome, accepted, reading, stated}
 use Rattle.read.proofs.OwnersColumn.{front-at}
 use Rattle.read.proofs.ShutOut.{K1, k1-read}
 use Rattle.write.specs.declared.Written.{Written}
-use Rattle.write.specs.Writing.{ReadTo, stated, Writing, refuses, writes, writing}
+use Rattle.write.specs.Writing.{ReadTo, Writing, refuses, writes, writing}
 use Rattle.write.specs.Answer.{answer, outputAfter, writtenSize}
 use Rattle.write.proofs.LentTables.{writes-back}
 use Rattle.demands.proofs.Demands.{every-table-is-written}
@@ -59,11 +58,10 @@ unfolding K1-lent counted k1 filed concat bytes
 k1-counted = refl
 
 k1-within : withinBuffers K1-lent ≡ true
-unfolding K1-lent withinBuffers k1 filed concat bytes
+unfolding K1-lent countsFit k1 filed concat bytes
 k1-within = refl
 
 k1-to : ReadTo form level (counted K1-lent)
-unfolding stated says.stated
 k1-to = (K1, k1-read ∙ ap accepted (sym k1-counted))
 
 k1-written : writing form level K1-lent (form .bytes) ≡ writes (written form k1) (length (linesOf form k1))
@@ -73,7 +71,7 @@ k1-written =
 
 -- its first byte is H, and there are 65
 k1-message : written form k1 ≡ K1
-unfolding K1 k1 filed concat bytes values lineCount roundedUp splitting pieces addenda cut cuts unlines onto split leafAt leavesOf separatorsIn between unsplitFrom unsplit segmentsOf linesOf written
+unfolding K1 k1 filed concat bytes values lineCount roundedUp splitting pieces addenda cut cuts unlines onto split leafAt leavesOf separatorsAt between unsplitFrom unsplit segmentsOf linesOf written
 k1-message = refl
 
 -- a writer that stores nothing leaves an output of zeros as it was
@@ -102,7 +100,7 @@ module _ (r : ℕ) (h : r ≡ writtenSize form level K1-lent) where
 -- an answer whose lines or bytes are one off
 module _ (r : Written) (h : r ≡ answer (writing form level K1-lent (form .bytes))) where
   pub counts-a-line-more : r .lines ≡ 6 → ⊥
-  unfolding answer K1 bytes k1 filed concat values lineCount roundedUp splitting pieces addenda cut cuts unlines onto split leafAt leavesOf separatorsIn between unsplitFrom unsplit segmentsOf linesOf written
+  unfolding answer K1 bytes k1 filed concat values lineCount roundedUp splitting pieces addenda cut cuts unlines onto split leafAt leavesOf separatorsAt between unsplitFrom unsplit segmentsOf linesOf written
   counts-a-line-more e =
       let lines : r .lines ≡ 5 = ap (λ (w : Written). w .lines) h ∙ ap (λ (w : Writing). answer w .lines) k1-written in
       omega (arith, lines, e)

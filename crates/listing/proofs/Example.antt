@@ -15,9 +15,9 @@ use Rattle.form.specs.Names.{kindNames, contextNames}
 use Rattle.line.specs.Cutting.{pieces, addenda, cut, cuts, unlines}
 use Rattle.order.specs.Owners.{level}
 use Rattle.table.specs.Leaves.{onto, split}
-use Rattle.table.specs.Reading.{Outcome, accepted, reading}
-use Rattle.table.specs.Back.{leafAt, leavesOf, separatorsIn, between, unsplitFrom, unsplit, segmentsOf, linesOf, written}
-use Rattle.table.specs.Examples.{stated, filed, k1}
+use Rattle.table.specs.Reading.{Outcome, accepted, stated, reading}
+use Rattle.table.specs.Back.{leafAt, leavesOf, separatorsAt, between, unsplitFrom, unsplit, segmentsOf, linesOf, written}
+use Rattle.table.specs.Examples.{filed, k1}
 use Rattle.read.proofs.ShutOut.{K1, k1-read}
 use Rattle.listing.specs.Decimal.{digitsWithin, decimal}
 use Rattle.listing.specs.Listing.{entryOf, entry, nameOf, andNumber, columns, rowLine, rowLines, answerLines, contextLine, countLines, listing, listingSize, Lists}
@@ -28,18 +28,18 @@ unfoldable pub printed : List ℕ
 printed = bytes "form=1\nanswer=0\nplace=0\ncontext=ORU\nsegments=5\nleaves=24\ntext=41\nwritten=65\nseg=1,H,0,1,7\nseg=2,P,1,8,7\nseg=3,OBR,2,15,2\nseg=4,OBX,3,17,6\nseg=5,L,0,23,2\n"
 
 k1-table : listing form (accepted k1) ≡ printed
-unfolding printed concat bytes values lineCount roundedUp splitting kindNames contextNames pieces addenda cut cuts unlines onto split leafAt leavesOf separatorsIn between unsplitFrom unsplit segmentsOf linesOf written filed k1 digitsWithin decimal entryOf entry nameOf andNumber columns rowLine rowLines answerLines contextLine countLines listing
+unfolding printed concat bytes values lineCount roundedUp splitting kindNames contextNames pieces addenda cut cuts unlines onto split leafAt leavesOf separatorsAt between unsplitFrom unsplit segmentsOf linesOf written filed k1 digitsWithin decimal entryOf entry nameOf andNumber columns rowLine rowLines answerLines contextLine countLines listing
 k1-table = refl
 
-pub k1-listed : listing form (reading form level stated K1) ≡ printed
+pub k1-listed : listing form (reading form level (stated form) K1) ≡ printed
 k1-listed = ap (listing form) k1-read ∙ k1-table
 
 -- a listing of K1 that stops after the counts has fewer bytes than the contract says
 module _ {text segments leaves list text′ segments′ leaves′ list′ : List ℕ} {r : ℕ} where
-  pub stops-early : Lists form (reading form level stated K1) text segments leaves list r text′ segments′ leaves′ list′
+  pub stops-early : Lists form (reading form level (stated form) K1) text segments leaves list r text′ segments′ leaves′ list′
       → listingSize form ≤ length list → r < length printed → ⊥
   stops-early w room h =
-      omega (arith, w .bytes, ap length (listed-roomy form (reading form level stated K1) (length list) room ∙ k1-listed))
+      omega (arith, w .bytes, ap length (listed-roomy form (reading form level (stated form) K1) (length list) room ∙ k1-listed))
 
   -- one that writes into a short buffer as far as it goes leaves it unlike the contract does
   pub fills-short : (o : Outcome) → Lists form o text segments leaves list r text′ segments′ leaves′ list′ → length list < listingSize form → list′ ≡ list

@@ -16,15 +16,15 @@ use Rattle.laws.proofs.Tables.{values-same}
 use Rattle.form.specs.declared.limits.Limits.{Limits}
 use Rattle.form.specs.Limits.{Lawful}
 use Rattle.table.specs.Rows.{Table, segmentRowSize}
-use Rattle.table.specs.Reading.{Room, accepted, reading}
+use Rattle.table.specs.Reading.{Room, accepted, reading, stated}
 use Rattle.table.specs.Back.{linesOf, written}
-use Rattle.table.specs.Lent.{Lent, withinLimits, counted}
+use Rattle.table.specs.Lent.{Lent, withinLimits, counted, lent}
 use Rattle.table.proofs.Accepting.{Accepted, accepting}
 use Rattle.read.specs.Answering.{roomOf}
 use Rattle.read.proofs.OwnersColumn.{front-at, roomy-text, roomy-segments, roomy-leaves}
 use Rattle.write.specs.RowByRow.{Sized}
-use Rattle.write.specs.Writing.{ReadTo, stated, isTable, writing}
-use Rattle.write.specs.Answer.{answer, lent, writtenSize}
+use Rattle.write.specs.Writing.{ReadTo, isTable, writing}
+use Rattle.write.specs.Answer.{answer, writtenSize}
 use Rattle.write.proofs.SameTables.{same-parts}
 use Rattle.write.proofs.RoundTrip.{reads-back}
 use Rattle.write.proofs.RowByRow.{row-by-row}

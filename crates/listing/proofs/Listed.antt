@@ -20,7 +20,8 @@ use Rattle.read.specs.declared.Answer.{Answer}
 use Rattle.read.specs.Answering.{answerOf, textPut, segmentsPut, leavesPut, roomOf, Gives, ReadAs}
 use Rattle.read.proofs.OnlyOne.{reading-numbered}
 use Rattle.read.proofs.Acceptance.{number-accepted}
-use Rattle.write.specs.Answer.{lent, writtenSize}
+use Rattle.table.specs.Lent.{lent}
+use Rattle.write.specs.Answer.{writtenSize}
 use Rattle.listing.specs.Listing.{listing, listingSize, listed, shown, Lists, ListedAs, answerLines, countLines, rowLines}
 use Rattle.listing.specs.Putting.{Put, PutWithin}
 use Rattle.listing.proofs.Putting.{put-as, put-then, put-length}

@@ -9,7 +9,8 @@ ghost use Prim.Native.Nat.{_+_, _*_, _≤_};
 ghost use lib.ListN.{length};
 ghost use Rattle.form.specs.Limits.{form};
 ghost use Rattle.order.specs.Owners.{level};
-ghost use Rattle.write.specs.Answer.{lent, writtenSize};
+ghost use Rattle.table.specs.Lent.{lent};
+ghost use Rattle.write.specs.Answer.{writtenSize};
 ghost use Rattle.listing.specs.Listing.{ListedAs, countLines, rowLines};
 ghost use Rattle.listing.specs.Putting.{PutWithin};
 

@@ -9,18 +9,18 @@ use lib.Dec.{leb}
 use lib.ListN.{length}
 use Rattle.laws.proofs.Tests.{and-first, and-second}
 use Rattle.table.specs.declared.Card.{Card}
-use Rattle.table.specs.Lent.{Lent, withinBuffers}
+use Rattle.table.specs.Lent.{Lent, countsFit, withinBuffers}
 use Rattle.table.specs.Rows.{segmentRowSize, leafRowSize}
-use Rattle.look.specs.Lending.{lent}
+use Rattle.table.specs.Lent.{lent}
 
 module _ (card : Card) (segments leaves text : List ℕ) where
   pub segments-past : length segments < card .segments * segmentRowSize → false ≡ withinBuffers (lent card segments leaves text)
-  unfolding withinBuffers
+  unfolding countsFit
   segments-past h = rw (lt-leb (card .segments * segmentRowSize) (length segments) h)
 
   module _ (within : card .segments * segmentRowSize ≤ length segments) where
     pub leaves-past : length leaves < card .leaves * leafRowSize → false ≡ withinBuffers (lent card segments leaves text)
-    unfolding withinBuffers
+    unfolding countsFit
     leaves-past h =
         rw (
           le-leb (card .segments * segmentRowSize) (length segments) within,
@@ -28,7 +28,7 @@ module _ (card : Card) (segments leaves text : List ℕ) where
         )
 
     pub text-decides : card .leaves * leafRowSize ≤ length leaves → leb (card .text) (length text) ≡ withinBuffers (lent card segments leaves text)
-    unfolding withinBuffers
+    unfolding countsFit
     text-decides h =
         rw (
           le-leb (card .segments * segmentRowSize) (length segments) within,
@@ -38,7 +38,7 @@ module _ (card : Card) (segments leaves text : List ℕ) where
 -- what counts within the buffers say of each buffer
 module _ (t : Lent) (e : withinBuffers t ≡ true) where
   both-rows : (leb (t .card .segments * segmentRowSize) (length (t .segmentRows)) && leb (t .card .leaves * leafRowSize) (length (t .leafRows))) ≡ true
-  unfolding withinBuffers
+  unfolding countsFit
   both-rows =
       and-first
       (leb (t .card .segments * segmentRowSize) (length (t .segmentRows)) && leb (t .card .leaves * leafRowSize) (length (t .leafRows)))
@@ -50,7 +50,7 @@ module _ (t : Lent) (e : withinBuffers t ≡ true) where
       (and-second (leb (t .card .segments * segmentRowSize) (length (t .segmentRows))) (leb (t .card .leaves * leafRowSize) (length (t .leafRows))) both-rows)
 
   pub text-within : t .card .text ≤ length (t .text)
-  unfolding withinBuffers
+  unfolding countsFit
   text-within =
       leb-true (t .card .text) (length (t .text))
       (and-second

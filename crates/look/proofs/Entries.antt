@@ -15,7 +15,7 @@ use Rattle.laws.proofs.Parts.{part-taken}
 use Rattle.laws.proofs.Searching.{firstOf-same}
 use Rattle.laws.proofs.Tests.{Tested, passed, failed, tested, and-first, and-second, and-where}
 use Rattle.table.specs.declared.Card.{Card}
-use Rattle.table.specs.Lent.{Lent, withinBuffers, counted}
+use Rattle.table.specs.Lent.{Lent, countsFit, withinBuffers, counted}
 use Rattle.table.specs.Rows.{Table, segmentRowSize, leafRowSize}
 use Rattle.look.specs.declared.leaf.Sought.{Sought}
 use Rattle.look.specs.declared.leaf.Sought.the-variants.{At, Nothing}
@@ -40,7 +40,7 @@ within T segments leaves text =
     leb (T .card .segments * segmentRowSize) segments && leb (T .card .leaves * leafRowSize) leaves && leb (T .card .text) text
 
 same-within : (t u : Lent) → SameCounted t u → withinBuffers t ≡ withinBuffers u
-unfolding withinBuffers within counted
+unfolding countsFit within counted
 same-within t u w =
     let segments = w .segmentRows in
     let leaves = w .leafRows in

@@ -15,7 +15,7 @@ use Rattle.table.specs.Lent.{Lent}
 use Rattle.table.specs.Rows.{segmentRowSize}
 use Rattle.look.specs.declared.leaf.Sought.{Sought}
 use Rattle.look.specs.declared.leaf.Sought.the-variants.{At, Nothing}
-use Rattle.look.specs.Lending.{lent}
+use Rattle.table.specs.Lent.{lent}
 use Rattle.look.specs.Looking.{soughtIn, isOrder, orderPlace, sameTexts, sameOrder}
 use Rattle.look.specs.Ordering.{orderText}
 use Rattle.look.proofs.Seeking.{found-within}

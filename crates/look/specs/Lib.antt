@@ -1,3 +1,2 @@
-pub mod Lending
 pub mod Looking
 pub mod Ordering

@@ -6,7 +6,7 @@ ghost use Prim.Native.Nat.{_+_, _*_, _≤_, _<_};
 ghost use lib.ListN.{length, take, drop};
 ghost use Rattle.laws.specs.Lists.{same};
 ghost use Rattle.table.specs.Lent.{withinBuffers};
-ghost use Rattle.look.specs.Lending.{lent};
+ghost use Rattle.table.specs.Lent.{lent};
 ghost use Rattle.look.specs.Looking.{numbersOf, soughtFrom, soughtIn, lookedUp};
 
 // The place of a leaf, as 10.4.1: every number counts from 1.

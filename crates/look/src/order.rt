@@ -8,7 +8,7 @@ use table::Card;
 ghost use mathlib.Core.Path.{_≡_};
 ghost use mathlib.Core.List.{[]};
 ghost use Rattle.laws.specs.Lists.{same};
-ghost use Rattle.look.specs.Lending.{lent};
+ghost use Rattle.table.specs.Lent.{lent};
 ghost use Rattle.look.specs.Looking.{isOrder, sameOrder};
 ghost use Rattle.look.specs.Ordering.{orderText};
 

@@ -15,8 +15,8 @@ use Rattle.form.specs.Numbers.{longLine}
 use Rattle.order.specs.Owners.{level}
 use Rattle.table.specs.declared.Card.{Card}
 use Rattle.table.specs.Rows.{Table}
-use Rattle.table.specs.Reading.{Room, Outcome, refused, accepted, short, reading}
-use Rattle.table.specs.Examples.{Example, Says, refuses, files, says, stated, read, filed, examples, k1, k6, k10}
+use Rattle.table.specs.Reading.{Room, Outcome, refused, accepted, short, reading, stated}
+use Rattle.table.specs.Examples.{Example, Says, refuses, files, says, read, filed, examples, k1, k6, k10}
 use Rattle.table.proofs.Accepting.{refuse-passed}
 use Rattle.table.proofs.Examples.{examples-hold}
 use Rattle.read.specs.declared.Answer.{Answer}
@@ -57,37 +57,37 @@ K10 = bytes "H|~^\\&|||LAB||ADM\rP|1\rC|1\rAP|1\rAC|1\rL|1\r"
 example : (i : ℕ) → getD (map (λ (e : Example). read (e .message)) examples) i (refuses 0 0) ≡ getD (map (λ (e : Example). e .expected) examples) i (refuses 0 0)
 example i = ap (λ (ss : List Says). getD ss i (refuses 0 0)) examples-hold
 
-pub k1-read : reading form level stated K1 ≡ accepted k1
+pub k1-read : reading form level (stated form) K1 ≡ accepted k1
 unfolding K1 examples read
-k1-read = says-accepted (reading form level stated K1) (example 0)
+k1-read = says-accepted (reading form level (stated form) K1) (example 0)
 
-pub k5-read : reading form level stated K5 ≡ refused longLine 219
+pub k5-read : reading form level (stated form) K5 ≡ refused longLine 219
 unfolding K5 examples read
-k5-read = says-refused (reading form level stated K5) (example 5)
+k5-read = says-refused (reading form level (stated form) K5) (example 5)
 
-pub k6-read : reading form level stated K6 ≡ accepted k6
+pub k6-read : reading form level (stated form) K6 ≡ accepted k6
 unfolding K6 examples read
-k6-read = says-accepted (reading form level stated K6) (example 6)
+k6-read = says-accepted (reading form level (stated form) K6) (example 6)
 
-pub k7-read : reading form level stated K7 ≡ accepted k1
+pub k7-read : reading form level (stated form) K7 ≡ accepted k1
 unfolding K7 examples read
-k7-read = says-accepted (reading form level stated K7) (example 8)
+k7-read = says-accepted (reading form level (stated form) K7) (example 8)
 
-pub k10-read : reading form level stated K10 ≡ accepted k10
+pub k10-read : reading form level (stated form) K10 ≡ accepted k10
 unfolding K10 examples read
-k10-read = says-accepted (reading form level stated K10) (example 12)
+k10-read = says-accepted (reading form level (stated form) K10) (example 12)
 
 -- buffers that are not short are as good as those of the stated sizes
-stated-roomy : short form stated ≡ false
+stated-roomy : short form (stated form) ≡ false
 unfolding short stated
 stated-roomy = refl
 
-any-room : (room : Room) (m : List ℕ) → short form room ≡ false → reading form level room m ≡ reading form level stated m
+any-room : (room : Room) (m : List ℕ) → short form room ≡ false → reading form level room m ≡ reading form level (stated form) m
 unfolding reading
 any-room room m h = refuse-passed _ _ h ∙ sym (refuse-passed _ _ stated-roomy)
 
 module _ (text segments leaves : List ℕ) {text′ segments′ leaves′ : List ℕ} {r : Answer} (roomy : short form (roomOf text segments leaves) ≡ false) where
-  given : (m : List ℕ) {o : Outcome} → reading form level stated m ≡ o → ReadAs form level m text segments leaves r text′ segments′ leaves′
+  given : (m : List ℕ) {o : Outcome} → reading form level (stated form) m ≡ o → ReadAs form level m text segments leaves r text′ segments′ leaves′
       → Gives o text segments leaves r text′ segments′ leaves′
   given m e g =
       subst (λ (o : Outcome). Gives o text segments leaves r text′ segments′ leaves′) (any-room (roomOf text segments leaves) m roomy ∙ e) g

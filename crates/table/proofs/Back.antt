@@ -14,13 +14,13 @@ use Rattle.form.specs.Header.{splitting}
 use Rattle.line.specs.Lines.{CR}
 use Rattle.table.specs.Leaves.{Leaf, split}
 use Rattle.table.specs.Rows.{Table, allLeaves, tableOf}
-use Rattle.table.specs.Back.{leafAt, leavesOf, separatorsIn, between, unsplitFrom, unsplit, segmentsOf}
+use Rattle.table.specs.Back.{leafAt, leavesOf, separatorsAt, separatorsIn, between, unsplitFrom, unsplit, segmentsOf}
 use Rattle.table.specs.Flat.{leaf, raised, flat, Without, gluedTo, glued}
 use Rattle.table.specs.Filed.{headerBytes, Filed}
 use Rattle.table.proofs.Splitting.{split-gluedTo}
 use Rattle.table.proofs.Flat.{flat-separator, flat-text, headLeaf, separatorsLeaf, message-flat}
 use Rattle.table.proofs.Places.{length-raised, between-raised}
-use Rattle.table.proofs.Rows.{leavesOf-table}
+use Rattle.table.proofs.LeafRows.{leavesOf-table}
 
 -- a leaf before the leaves of a text: its text, the separator, and what the others come from
 pub unsplit-before : (ps : List ℕ) (l : Leaf) (place text s : List ℕ)
@@ -97,7 +97,7 @@ module _ (ps : Separators) (rest : List ℕ) (ss : List (List ℕ)) where
         many = rw leaves-filed (omega arith)
 
     separators-filed : separatorsIn table ≡ ps
-    unfolding separatorsIn headerBytes tableOf
+    unfolding separatorsAt headerBytes tableOf
     separators-filed =
         ap {B = Separators} (λ l. stated (l .text)) second-leaf
       where

@@ -12,7 +12,7 @@ use Rattle.laws.specs.Every.{All, none, also}
 use Rattle.table.specs.Leaves.{Leaf}
 use Rattle.table.specs.Flat.{Pass, steps}
 use Rattle.table.specs.Rows.{leafRowSize, leafRowsFrom, textOf}
-use Rattle.table.proofs.Rows.{Placed}
+use Rattle.table.proofs.LeafRows.{Placed}
 use Rattle.table.proofs.Passes.{step-text}
 
 -- bytes that are no separators belong to the leaf begun

@@ -3,7 +3,7 @@ pub mod Flat
 pub mod Places
 pub mod Passes
 pub mod Counting
-pub mod Rows
+pub mod LeafRows
 pub mod Back
 pub mod Sound
 pub mod SoundTest
@@ -24,3 +24,4 @@ pub mod EndToEnd
 pub mod SegmentRows
 pub mod SoundRows
 pub mod SegmentTurns
+pub mod Lent

@@ -22,7 +22,7 @@ use Rattle.table.specs.Filed.{headerBytes, Filed}
 use Rattle.table.specs.BySegment.{segmentBytes, writtenBytes}
 use Rattle.table.proofs.Flat.{headLeaf, separatorsLeaf, segment-flat, header-flat}
 use Rattle.table.proofs.Back.{filed-some}
-use Rattle.table.proofs.Rows.{textOf-append}
+use Rattle.table.proofs.LeafRows.{textOf-append}
 use Rattle.table.proofs.Counting.{length-textOf, length-segmentLeaves, length-headerLeaves}
 
 -- numbers in front of places change no text

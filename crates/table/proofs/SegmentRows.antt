@@ -11,7 +11,7 @@ use Rattle.laws.specs.Every.{All}
 use Rattle.laws.proofs.Parts.{left-cons}
 use Rattle.order.specs.Owners.{owner, owners, ownersAfter}
 use Rattle.table.specs.Leaves.{Leaf}
-use Rattle.table.specs.Rows.{segmentRowSize, segmentRowsFrom}
+use Rattle.table.specs.Rows.{segmentRowSize, segmentRowsFrom, RowIs}
 use Rattle.table.specs.BySegment.{bySegment, kindAmong}
 use Rattle.table.specs.RowTests.{rowsStated}
 use Rattle.table.proofs.BySegment.{InSegment, Ended, group-first}
@@ -30,12 +30,6 @@ pub owners-stated : (lv : ℕ → ℕ) (groups : List (List Leaf))
 unfolding owners
 owners-stated lv groups = rows-stated lv 1 [] groups
 
--- row j of the segment rows, counted from 0
-pub record RowIs (rows : List ℕ) (j kind owner first count : ℕ) : Type 0 where
-  pub kind-is : getD rows (j * segmentRowSize) 0 ≡ kind
-  pub owner-is : getD rows (j * segmentRowSize + 1) 0 ≡ owner
-  pub first-is : getD rows (j * segmentRowSize + 2) 0 ≡ first
-  pub count-is : getD rows (j * segmentRowSize + 3) 0 ≡ count
 
 module _ (rows : List ℕ) (j : ℕ) (long : suc j * segmentRowSize ≤ length rows) where
   -- a row and the rows after it

@@ -3,7 +3,7 @@
 -- Assumes nothing.
 use mathlib.Core.Bool.{true, false}
 use mathlib.Core.List.{List, [], _∷_, _++_}
-use Prim.Native.Nat.{ℕ, _+_, _*_}
+use Prim.Native.Nat.{ℕ}
 use lib.Dec.{eqb}
 use lib.ListN.{length, take, drop, getD}
 use Rattle.laws.specs.Tables.{values}
@@ -13,30 +13,30 @@ use Rattle.form.specs.Header.{splitting}
 use Rattle.line.specs.Lines.{CR}
 use Rattle.line.specs.Cutting.{cuts, unlines}
 use Rattle.table.specs.Leaves.{Leaf, split}
-use Rattle.table.specs.Rows.{Table, leafRowSize}
+use Rattle.table.specs.Rows.{Table, placeIn, startIn, lengthIn}
 
 -- the leaf that row i of the leaf rows states, counted from 0
 unfoldable pub leafAt : List ℕ → List ℕ → ℕ → Leaf
-leafAt rows text i =
-    record {
-      place = take 5 (drop (i * leafRowSize) rows);
-      text = take (getD rows (i * leafRowSize + 6) 0) (drop (getD rows (i * leafRowSize + 5) 0) text);
-    }
+leafAt rows text i = record { place = placeIn rows i; text = take (lengthIn rows i) (drop (startIn rows i) text) }
 
 -- the counted leaves of a table
 unfoldable pub leavesOf : Table → List Leaf
 leavesOf t = values (leafAt (t .leafRows) (t .text)) 0 (t .card .leaves)
 
--- the separators of a table: the field separator stands on its card, the others are the text of 7.2, its second leaf
-unfoldable pub separatorsIn : Table → Separators
-separatorsIn t =
+-- the separators that a field separator and the text of the second leaf, 7.2, name
+unfoldable pub separatorsAt : (field : ℕ) (rows text : List ℕ) → Separators
+separatorsAt field rows text =
     record {
-      field = t .card .separator;
-      subfield = getD (leafAt (t .leafRows) (t .text) 1 .text) 0 0;
-      repeater = getD (leafAt (t .leafRows) (t .text) 1 .text) 1 0;
-      escape = getD (leafAt (t .leafRows) (t .text) 1 .text) 2 0;
-      subsubfield = getD (leafAt (t .leafRows) (t .text) 1 .text) 3 0;
+      field = field;
+      subfield = getD (leafAt rows text 1 .text) 0 0;
+      repeater = getD (leafAt rows text 1 .text) 1 0;
+      escape = getD (leafAt rows text 1 .text) 2 0;
+      subsubfield = getD (leafAt rows text 1 .text) 3 0;
     }
+
+-- those of a table, whose card has the field separator
+abbrev pub separatorsIn : Table → Separators
+separatorsIn t = separatorsAt (t .card .separator) (t .leafRows) (t .text)
 
 -- the separator, of some that are the coarsest first, that leads from one place to another: that of the first number that differs
 unfoldable pub between : List ℕ → List ℕ → List ℕ → ℕ

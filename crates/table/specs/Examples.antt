@@ -11,7 +11,7 @@ use Rattle.form.specs.Limits.{form}
 use Rattle.line.specs.Cutting.{cut}
 use Rattle.order.specs.Owners.{level}
 use Rattle.table.specs.Rows.{Table}
-use Rattle.table.specs.Reading.{Room, Outcome, refused, accepted, reading}
+use Rattle.table.specs.Reading.{Outcome, refused, accepted, stated, reading}
 use Rattle.table.specs.Back.{segmentsOf, written}
 
 -- what an example says: a refusal, or a table with the bytes that it is written in and the lines that each segment takes
@@ -24,12 +24,8 @@ unfoldable pub says : Outcome → Says
 says (refused number place) = refuses number place
 says (accepted t) = files t (length (written form t)) (map (λ (s : List ℕ). length (cut form (t .card .separator) s)) (segmentsOf t))
 
--- buffers of the stated sizes
-unfoldable pub stated : Room
-stated = record { text = 16384; segmentRows = 1024; leafRows = 14336 }
-
 unfoldable pub read : List ℕ → Says
-read message = says (reading form level stated message)
+read message = says (reading form level (stated form) message)
 
 -- a table written out, with the field separator `|`: context, counts of segments, leaves and text bytes, then the rows and the text
 unfoldable pub filed : ℕ → ℕ → ℕ → ℕ → List (List ℕ) → List (List ℕ) → List ℕ → Table

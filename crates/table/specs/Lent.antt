@@ -2,6 +2,7 @@
 -- Assumes nothing.
 use mathlib.Core.Bool.{Bool, true, false, _&&_}
 use mathlib.Core.List.{List}
+use mathlib.Core.Path.{_≡_}
 use Prim.Native.Nat.{ℕ, _*_}
 use lib.Dec.{leb}
 use lib.ListN.{length, take}
@@ -15,17 +16,22 @@ pub record Lent : Type 0 where
   pub leafRows : List ℕ
   pub text : List ℕ
 
--- "Counts over the limits or past a lent buffer are 13."
+abbrev pub lent : Card → (segmentRows leafRows text : List ℕ) → Lent
+lent card segmentRows leafRows text = record { card = card; segmentRows = segmentRows; leafRows = leafRows; text = text }
+
+-- whether a card's counts keep to the limits; whether its rows and its text fit buffers of these lengths
 unfoldable pub withinLimits : Limits → Card → Bool
 withinLimits L c = leb (c .segments) (L .segments) && leb (c .leaves) (L .leaves) && leb (c .text) (L .bytes)
 
-unfoldable pub withinBuffers : Lent → Bool
-withinBuffers l =
-    leb (l .card .segments * segmentRowSize) (length (l .segmentRows))
-    && leb (l .card .leaves * leafRowSize) (length (l .leafRows))
-    && leb (l .card .text) (length (l .text))
+unfoldable pub countsFit : Card → (segmentRows leafRows text : ℕ) → Bool
+countsFit c segmentRows leafRows text =
+    leb (c .segments * segmentRowSize) segmentRows && leb (c .leaves * leafRowSize) leafRows && leb (c .text) text
 
--- the table that the card counts: "Entries of a buffer past the counted ones are neither read nor written."
+-- whether they fit the lent buffers
+abbrev pub withinBuffers : Lent → Bool
+withinBuffers l = countsFit (l .card) (length (l .segmentRows)) (length (l .leafRows)) (length (l .text))
+
+-- the table that the card counts: entries past the counted ones do not belong to it
 unfoldable pub counted : Lent → Table
 counted l =
     record {
@@ -34,3 +40,10 @@ counted l =
       leafRows = take (l .card .leaves * leafRowSize) (l .leafRows);
       text = take (l .card .text) (l .text);
     }
+
+-- two lent tables with one card, buffers of the same lengths, and the same counted entries
+pub record SameCounted (l k : Lent) : Type 0 where
+  pub segmentRows : length (l .segmentRows) ≡ length (k .segmentRows)
+  pub leafRows : length (l .leafRows) ≡ length (k .leafRows)
+  pub text : length (l .text) ≡ length (k .text)
+  pub entries : counted l ≡ counted k

@@ -35,7 +35,11 @@ refuseIf false number else = else
 unfoldable pub refuseAt : ℕ → ℕ → Outcome → Outcome
 refuseAt place number else = elim (eqb place 0) [ true ↦ else | false ↦ refused number place ]
 
--- "text area under 16,384 bytes, segment rows under 1,024 numbers or leaf rows under 14,336"
+-- buffers of the stated sizes
+unfoldable pub stated : Limits → Room
+stated L = record { text = L .bytes; segmentRows = L .segments * segmentRowSize; leafRows = L .leaves * leafRowSize }
+
+-- whether one of the buffers is under its stated size
 unfoldable pub short : Limits → Room → Bool
 short L room =
     ltb (room .text) (L .bytes)

@@ -2,15 +2,15 @@
 -- texts before it, of the bytes of its text; and the segment rows that leaves state, one after the other.
 -- Assumes nothing.
 use mathlib.Core.Bool.{Bool, true, false, not, _&&_}
-use mathlib.Core.List.{List, [], _∷_}
-use Prim.Native.Nat.{ℕ, zero, suc, _+_, _*_}
+use mathlib.Core.List.{List, [], _∷_, _++_}
+use Prim.Native.Nat.{ℕ, zero, suc, _+_}
 use lib.Dec.{leb, eqb}
-use lib.ListN.{length, getD}
+use lib.ListN.{length}
 use Rattle.laws.specs.Lists.{same, among}
 use Rattle.line.specs.Lines.{space}
 use Rattle.order.specs.Owners.{owner}
 use Rattle.table.specs.Leaves.{Leaf}
-use Rattle.table.specs.Rows.{leafRowSize}
+use Rattle.table.specs.Rows.{segmentRow, startIn, lengthIn}
 use Rattle.table.specs.Flat.{ones}
 use Rattle.table.specs.BySegment.{kindAmong}
 
@@ -25,7 +25,7 @@ nextPlace (m ∷ from) (n ∷ to) = elim (eqb m n) [ true ↦ nextPlace from to 
 unfoldable pub endToEnd : List ℕ → ℕ → ℕ → ℕ → ℕ → Bool
 endToEnd rows finish i zero start = eqb start finish
 endToEnd rows finish i (suc n) start =
-    eqb (getD rows (i * leafRowSize + 5) 0) start && endToEnd rows finish (suc i) n (start + getD rows (i * leafRowSize + 6) 0)
+    eqb (startIn rows i) start && endToEnd rows finish (suc i) n (start + lengthIn rows i)
 
 -- whether a text is one of a leaf: no byte is below 32, and none is a separator
 unfoldable pub leafText : List ℕ → List ℕ → Bool
@@ -46,4 +46,4 @@ goOnFrom ps place (l ∷ ls) = same (l .place) place && leafText ps (l .text) &&
 unfoldable pub rowsStated : (ℕ → ℕ) → ℕ → List ℕ → List (List Leaf) → List ℕ
 rowsStated lv first before [] = []
 rowsStated lv first before (g ∷ gs) =
-    kindAmong g ∷ owner lv before (kindAmong g) ∷ first ∷ length g ∷ rowsStated lv (first + length g) (kindAmong g ∷ before) gs
+    segmentRow (kindAmong g) (owner lv before (kindAmong g)) first (length g) ++ rowsStated lv (first + length g) (kindAmong g ∷ before) gs

@@ -1,20 +1,74 @@
 -- Segment rows, leaf rows, text and card (document 01, "Segments, leaves and the table").
 -- Assumes nothing.
 use mathlib.Core.List.{List, [], _∷_, _++_, map}
-use Prim.Native.Nat.{ℕ, _+_}
-use lib.ListN.{length, getD}
+use mathlib.Core.Path.{_≡_}
+use Prim.Native.Nat.{ℕ, _+_, _*_, _<_}
+use lib.ListN.{length, take, drop, getD}
 use Rattle.laws.specs.Lists.{concat}
+use Rattle.form.specs.declared.limits.Limits.{Limits}
 use Rattle.form.specs.declared.separators.Separators.{Separators}
+use Rattle.form.specs.Limits.{Lawful}
 use Rattle.order.specs.Owners.{owners}
 use Rattle.table.specs.declared.Card.{Card}
 use Rattle.table.specs.Leaves.{Leaf, kindOfSegment, contextOfHeader, messageLeaves}
 
--- "Segment row, four u16 numbers"; "Leaf row, seven u16 numbers"
+-- how many numbers a segment row and a leaf row have
 abbrev pub segmentRowSize : ℕ
 segmentRowSize = 4
 
 abbrev pub leafRowSize : ℕ
 leafRowSize = 7
+
+-- every number of a row is below this
+abbrev pub width : ℕ
+width = 65536
+
+-- a lawful form whose numbers fit the rows: each count that it allows, and the one after it
+pub record FitsRows (L : Limits) : Type 0 where
+  pub lawful : Lawful L
+  pub segments : L .segments + 1 < width
+  pub leaves : L .leaves + 1 < width
+  pub bytes : L .bytes + 1 < width
+
+-- a segment's row: its kind, its owner (a row number, or 0), its first leaf, its leaf count
+abbrev pub segmentRow : (kind owner first count : ℕ) → List ℕ
+segmentRow kind owner first count = kind ∷ owner ∷ first ∷ count ∷ []
+
+-- its columns, in row i of the segment rows, counted from 0
+abbrev pub kindIn : List ℕ → ℕ → ℕ
+kindIn rows i = getD rows (i * segmentRowSize) 0
+
+abbrev pub ownerIn : List ℕ → ℕ → ℕ
+ownerIn rows i = getD rows (i * segmentRowSize + 1) 0
+
+abbrev pub firstIn : List ℕ → ℕ → ℕ
+firstIn rows i = getD rows (i * segmentRowSize + 2) 0
+
+abbrev pub countIn : List ℕ → ℕ → ℕ
+countIn rows i = getD rows (i * segmentRowSize + 3) 0
+
+-- row i has these four numbers
+pub record RowIs (rows : List ℕ) (i kind owner first count : ℕ) : Type 0 where
+  pub kind-is : kindIn rows i ≡ kind
+  pub owner-is : ownerIn rows i ≡ owner
+  pub first-is : firstIn rows i ≡ first
+  pub count-is : countIn rows i ≡ count
+
+-- a leaf's row: the five numbers of its place, then the start and the length of its text; the columns in row i of the leaf rows
+abbrev pub segmentIn : List ℕ → ℕ → ℕ
+segmentIn rows i = getD rows (i * leafRowSize) 0
+
+abbrev pub fieldIn : List ℕ → ℕ → ℕ
+fieldIn rows i = getD rows (i * leafRowSize + 1) 0
+
+abbrev pub placeIn : List ℕ → ℕ → List ℕ
+placeIn rows i = take 5 (drop (i * leafRowSize) rows)
+
+abbrev pub startIn : List ℕ → ℕ → ℕ
+startIn rows i = getD rows (i * leafRowSize + 5) 0
+
+abbrev pub lengthIn : List ℕ → ℕ → ℕ
+lengthIn rows i = getD rows (i * leafRowSize + 6) 0
 
 -- a table: its card, the counted entries of its three buffers
 pub record Table : Type 0 where
@@ -23,16 +77,15 @@ pub record Table : Type 0 where
   pub leafRows : List ℕ
   pub text : List ℕ
 
--- "kind, owner (a row number, or 0), first leaf, leaf count": from the columns of kinds, owners and each segment's leaves,
--- the next leaf being the number `first`
+-- the segment rows, from the columns of kinds, owners and each segment's leaves, the next leaf being the number `first`
 unfoldable pub segmentRowsFrom : ℕ → List ℕ → List ℕ → List (List Leaf) → List ℕ
 segmentRowsFrom first [] os ls = []
 segmentRowsFrom first (k ∷ ks) [] ls = []
 segmentRowsFrom first (k ∷ ks) (o ∷ os) [] = []
 segmentRowsFrom first (k ∷ ks) (o ∷ os) (l ∷ ls) =
-    k ∷ o ∷ first ∷ length l ∷ segmentRowsFrom (first + length l) ks os ls
+    segmentRow k o first (length l) ++ segmentRowsFrom (first + length l) ks os ls
 
--- "segment, field, repetition, subfield, sub-subfield, start, length"; "Leaf texts lie end to end in the text area without separators"
+-- the leaf rows: texts lie end to end in the text area, without separators
 unfoldable pub leafRowsFrom : ℕ → List Leaf → List ℕ
 leafRowsFrom start [] = []
 leafRowsFrom start (l ∷ ls) = l .place ++ (start ∷ length (l .text) ∷ leafRowsFrom (start + length (l .text)) ls)

@@ -11,20 +11,20 @@ use Rattle.form.specs.declared.separators.Separators.{Separators}
 use Rattle.form.specs.Limits.{Lawful}
 use Rattle.table.specs.declared.Card.{Card}
 use Rattle.line.specs.Cutting.{unlines}
-use Rattle.table.specs.Back.{leavesOf, separatorsIn, segmentsOf, linesOf, written}
+use Rattle.table.specs.Back.{leavesOf, separatorsAt, segmentsOf, linesOf, written}
 use Rattle.write.specs.declared.Written.{Written}
 use Rattle.write.specs.declared.lines.Going.{Going}
-use Rattle.table.specs.Lent.{Lent, counted}
+use Rattle.table.specs.Lent.{Lent, counted, lent}
 use Rattle.write.specs.Writing.{writes, isTable, writing}
-use Rattle.write.specs.Passing.{separatorsOfRows, FourWithin, Writable, WrittenOut}
-use Rattle.write.specs.Answer.{answer, outputAfter, lent, message, Tested}
+use Rattle.write.specs.Passing.{FourWithin, Writable, WrittenOut}
+use Rattle.write.specs.Answer.{answer, outputAfter, message, Tested}
 use Rattle.write.proofs.LentTables.{table-written-out}
 use Rattle.write.proofs.TablesWritten.{table-four, table-writable, table-message}
 
 -- the segment rows change nothing of what is written
 module _ (L : Limits) (card : Card) (segmentRows rows text : List ℕ) where
   lines-by-leaves : linesOf L (counted (lent card segmentRows rows text)) ≡ linesOf L (counted (lent card [] rows text))
-  unfolding linesOf segmentsOf leavesOf separatorsIn counted
+  unfolding linesOf segmentsOf leavesOf separatorsAt counted
   lines-by-leaves = refl
 
   pub message-by-leaves : writes (written L (counted (lent card segmentRows rows text))) (length (linesOf L (counted (lent card segmentRows rows text))))
@@ -36,7 +36,7 @@ module _ {L : Limits} {card : Card} {rows text : List ℕ} (lawful : Lawful L) (
   pub tested-four : FourWithin rows text
   tested-four = table-four L lawful (w .levels) (lent card (w .segmentRows) rows text) (w .passed)
 
-  module _ {ps : Separators} (e : ps ≡ separatorsOfRows (card .separator) rows text) where
+  module _ {ps : Separators} (e : ps ≡ separatorsAt (card .separator) rows text) where
     pub tested-writable : {output : List ℕ} → L .bytes ≤ length output → Writable L ps rows (card .leaves) text output
     tested-writable = table-writable L lawful (w .levels) (lent card (w .segmentRows) rows text) (w .passed) e
 

@@ -10,7 +10,7 @@ use Rattle.form.specs.Numbers.{shortOutput, noTable}
 use Rattle.table.specs.declared.Card.{Card}
 use Rattle.table.specs.Rows.{Table, segmentRowSize, leafRowSize}
 use Rattle.table.specs.Back.{linesOf, written}
-use Rattle.table.specs.Lent.{Lent, withinLimits, withinBuffers, counted}
+use Rattle.table.specs.Lent.{Lent, withinLimits, countsFit, withinBuffers, counted}
 use Rattle.write.proofs.SameTables.{same-parts}
 use Rattle.write.specs.Writing.{Writing, refuses, writes, readsBack, isTable, writing}
 
@@ -31,7 +31,7 @@ fits c segmentRows leafRows text =
     leb (c .segments * segmentRowSize) segmentRows && leb (c .leaves * leafRowSize) leafRows && leb (c .text) text
 
 pub same-lengths : (l k : Lent) → SameLengths l k → withinBuffers l ≡ withinBuffers k
-unfolding withinBuffers fits
+unfolding countsFit fits
 same-lengths l k w =
     let card = w .card in
     let segmentRows = w .segmentRows in

@@ -14,10 +14,10 @@ use Rattle.laws.proofs.Lists.{different-same}
 use Rattle.laws.proofs.Parts.{left-cons}
 use Rattle.laws.proofs.Tests.{and-passed, and-both, and-fails-first, and-fails-second}
 use Rattle.table.specs.Leaves.{Leaf}
-use Rattle.table.specs.Back.{leafAt}
+use Rattle.table.specs.Back.{leafAt, separatorsAt}
 use Rattle.table.specs.RowTests.{leafText, goOn, goOnFrom}
 use Rattle.write.specs.Local.{thirdPlace}
-use Rattle.write.specs.Tests.{leavesFrom, headerLeavesAt, separatorsAt}
+use Rattle.write.specs.Tests.{leavesFrom, headerLeavesAt}
 use Rattle.write.proofs.SegmentTests.{row-length, leaves-cons}
 
 -- the third row: field 3 of the header

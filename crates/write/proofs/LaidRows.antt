@@ -22,12 +22,12 @@ use Rattle.line.specs.Lines.{space}
 use Rattle.table.specs.Leaves.{Leaf}
 use Rattle.table.specs.Rows.{leafRowSize, textOf}
 use Rattle.table.specs.Flat.{ones}
-use Rattle.table.specs.Back.{leafAt}
+use Rattle.table.specs.Back.{leafAt, separatorsAt}
 use Rattle.table.specs.RowTests.{endToEnd, nextPlace, leafText, goOn, goOnFrom}
 use Rattle.table.proofs.EndToEnd.{ends-start, ends-later, ends-last}
 use Rattle.table.proofs.RowTests.{next-same, next-raised}
 use Rattle.write.specs.Local.{thirdPlace}
-use Rattle.write.specs.Tests.{Decides, InText, placeOf, PlacesFollow, Laid, SegmentEnd, finer, leavesFrom, separatorsAt, headerLeavesAt, soundLeaves}
+use Rattle.write.specs.Tests.{Decides, InText, placeOf, PlacesFollow, Laid, SegmentEnd, finer, leavesFrom, headerLeavesAt, soundLeaves}
 use Rattle.write.proofs.LeafTests.{Ending, ending-begins, ending-fails, ending-on, ending-done}
 use Rattle.write.proofs.PlaceTests.{five-at, Next, next-numbers}
 use Rattle.write.proofs.SegmentTests.{row-length, leaves-cons, leaves-none}

@@ -21,17 +21,17 @@ use Rattle.line.proofs.Walking.{texts-linesOf}
 use Rattle.line.proofs.Written.{walk-written}
 use Rattle.table.specs.Filed.{headerBytes}
 use Rattle.table.specs.Rows.{Table, segmentRowSize, leafRowSize, textOf}
-use Rattle.table.specs.Reading.{accepted, reading}
+use Rattle.table.specs.Reading.{accepted, reading, stated}
 use Rattle.table.specs.Back.{leavesOf, linesOf, written}
 use Rattle.table.proofs.Accepting.{Accepted, accepting}
 use Rattle.table.proofs.BySegment.{concat-bySegment}
 use Rattle.table.proofs.Filing.{segmentsOfAccepted, accepted-header, accepted-worded}
 use Rattle.table.proofs.HeaderBytes.{header-text}
 use Rattle.table.proofs.SegmentBytes.{texts-written}
-use Rattle.table.specs.Lent.{Lent, withinLimits, withinBuffers, counted}
+use Rattle.table.specs.Lent.{Lent, withinLimits, countsFit, withinBuffers, counted}
 use Rattle.write.specs.Local.{groupsOf, Local}
 use Rattle.write.specs.RowByRow.{Sized, RowByRow}
-use Rattle.write.specs.Writing.{stated, ReadTo, readsBack, isTable, refuses, writes, writing}
+use Rattle.write.specs.Writing.{ReadTo, readsBack, isTable, refuses, writes, writing}
 use Rattle.write.proofs.LocalTables.{read-local}
 use Rattle.write.proofs.RoundTrip.{table-lines, table-written, reads-back, reads-same}
 use Rattle.write.proofs.RowByRow.{row-by-row, rows-local}
@@ -43,7 +43,7 @@ pub record Within (l : Lent) : Type 0 where
   pub text : l .card .text ≤ length (l .text)
 
 pub within-buffers : (l : Lent) → (withinBuffers l ≡ true) ↔ Within l
-unfolding withinBuffers
+unfolding countsFit
 within-buffers l =
     let a = leb (l .card .segments * segmentRowSize) (length (l .segmentRows)) in
     let b = leb (l .card .leaves * leafRowSize) (length (l .leafRows)) in

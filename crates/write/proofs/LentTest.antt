@@ -14,7 +14,7 @@ use Rattle.laws.proofs.Tests.{and-first, and-second, and-passed, and-fails-firs
 use Rattle.form.specs.declared.limits.Limits.{Limits}
 use Rattle.table.specs.declared.Card.{Card}
 use Rattle.table.specs.Rows.{Table}
-use Rattle.table.specs.Lent.{Lent, withinLimits, withinBuffers, counted}
+use Rattle.table.specs.Lent.{Lent, withinLimits, countsFit, counted}
 use Rattle.write.specs.Writing.{readsBack, isTable}
 use Rattle.form.specs.Limits.{form}
 use Rattle.order.specs.Levels.{levelIn, levelTable}
@@ -27,7 +27,7 @@ module _ (L : Limits) (levels : ℕ → ℕ → ℕ) (l : Lent) where
   fit = countsWithin L (l .card) (length (l .segmentRows)) (length (l .leafRows)) (length (l .text)) ≡ true
 
   pub counts-refuse : countsWithin L (l .card) (length (l .segmentRows)) (length (l .leafRows)) (length (l .text)) ≡ false → false ≡ isTable L levels l
-  unfolding isTable countsWithin withinLimits withinBuffers
+  unfolding isTable countsWithin withinLimits countsFit
   counts-refuse e = sym (and-fails-first (readsBack L levels (counted l)) e)
 
   pub counted-decides : fit
@@ -38,7 +38,7 @@ module _ (L : Limits) (levels : ℕ → ℕ → ℕ) (l : Lent) where
         text = take (l .card .text - 0) (drop 0 (l .text));
       })
       ≡ isTable L levels l
-  unfolding isTable countsWithin withinLimits withinBuffers counted
+  unfolding isTable countsWithin withinLimits countsFit counted
   counted-decides e =
       ap₂ (λ (a b : ℕ). readsBack L levels (record { card = l .card; segmentRows = take a (l .segmentRows); leafRows = take b (l .leafRows); text = take (l .card .text - 0) (l .text) }))
       (let q : l .card .segments * 4 - 0 ≡ l .card .segments * 4 = omega arith in q)

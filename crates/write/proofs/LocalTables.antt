@@ -30,8 +30,8 @@ use Rattle.table.specs.Leaves.{Leaf, messageLeaves}
 use Rattle.table.specs.Flat.{leaf}
 use Rattle.table.specs.Filed.{headerBytes, Filed}
 use Rattle.table.specs.Rows.{Table, segmentRowSize, leafRowSize, kindsOf, contextIn, segmentRowsFrom, leafRowsFrom, textOf, allLeaves, tableOf}
-use Rattle.table.specs.Reading.{Room, short}
-use Rattle.table.specs.Back.{leafAt, leavesOf, separatorsIn, segmentsOf, linesOf, written}
+use Rattle.table.specs.Reading.{Room, short, stated}
+use Rattle.table.specs.Back.{leafAt, leavesOf, separatorsAt, separatorsIn, segmentsOf, linesOf, written}
 use Rattle.table.specs.Sound.{Sound, soundFrom}
 use Rattle.table.specs.BySegment.{bySegment, kindAmong, contextAmong, writtenBytes}
 use Rattle.table.proofs.Accepting.{Known, Judged, Accepted, accepting}
@@ -41,12 +41,12 @@ use Rattle.table.proofs.FieldNames.{kinds-among, context-among}
 use Rattle.table.proofs.Filing.{segmentsOfAccepted, accepted-header, accepted-worded, accepted-filed, all-worded}
 use Rattle.table.proofs.HeaderBytes.{header-clear}
 use Rattle.table.proofs.LeafTexts.{AllText, text-leaves}
-use Rattle.table.proofs.Rows.{leavesOf-table}
+use Rattle.table.proofs.LeafRows.{leavesOf-table}
 use Rattle.table.proofs.SegmentBytes.{filed-bytes}
 use Rattle.table.proofs.SoundTables.{headed, afterHeader, filed-leaves, filed-sound, table-filed, table-leaves}
 use Rattle.table.proofs.SoundTest.{soundFrom-true, soundFrom-holds}
 use Rattle.write.specs.Local.{groupsOf, kindsAmong, HeaderRows, thirdPlace, Local}
-use Rattle.write.specs.Writing.{stated, ReadTo, readsBack}
+use Rattle.write.specs.Writing.{ReadTo, readsBack}
 use Rattle.write.proofs.SameTables.{same-numbers, same-parts}
 use Rattle.write.proofs.RoundTrip.{written-accepted, reads-back, reads-same}
 
@@ -80,7 +80,7 @@ two-first f (suc (suc n)) ps place h = refl
 -- so a table's leaves are the header's two and the others
 pub headed-leaves : (t : Table) → HeaderRows t → soundFrom (CR ∷ splitting (separatorsIn t)) thirdPlace (drop 2 (leavesOf t)) ≡ true
     → leavesOf t ≡ headed (separatorsIn t) (drop 2 (leavesOf t))
-unfolding leavesOf headerBytes separatorsIn
+unfolding leavesOf headerBytes separatorsAt
 headed-leaves t w others =
     two-first (leafAt (t .leafRows) (t .text)) (t .card .leaves) (CR ∷ splitting (separatorsIn t)) thirdPlace others
     ∙ ap₂ (λ (l m : Leaf). l ∷ m ∷ drop 2 (leavesOf t)) (w .first)
@@ -141,7 +141,7 @@ module _ {L : Limits} {levels : ℕ → ℕ → ℕ} {t : Table} (lawful : Lawfu
 
   -- it is the table of its segments
   pub local-table : t ≡ tableOf levels (separatorsIn t) (segmentsOf t)
-  unfolding tableOf separatorsIn
+  unfolding tableOf separatorsAt
   local-table =
       same-parts t (tableOf levels (separatorsIn t) (segmentsOf t))
       (same-numbers (t .card) (tableOf levels (separatorsIn t) (segmentsOf t) .card) refl context-is
@@ -174,11 +174,11 @@ module _ {L : Limits} {levels : ℕ → ℕ → ℕ} {t : Table} (lawful : Lawfu
 
   -- the bytes of its segments are those that are written
   pub local-bytes : sumOf (writtenBytes L) (groupsOf t) ≡ length (written L t)
-  unfolding written linesOf separatorsIn
+  unfolding written linesOf separatorsAt
   local-bytes = same-bytes t (separatorsIn t) all-allowed (segmentsOf t) local-filed local-leaves L lawful
 
   pub local-accepted : Accepted L levels (stated L) (written L t) t
-  unfolding written linesOf separatorsIn
+  unfolding written linesOf separatorsAt
   local-accepted =
       written-accepted {ps = separatorsIn t} {segments = segmentsOf t} lawful all-allowed (different-facts (separatorsIn t) (w .header .distinct)) local-filed local-worded local-judged
       (stated-roomy L)

@@ -13,11 +13,11 @@ use Rattle.laws.proofs.Tests.{and-second, and-passed, and-both, and-fails-first
 use Rattle.form.specs.declared.separators.Separators.{Separators}
 use Rattle.form.specs.Header.{allAllowed, different, five, splitting}
 use Rattle.order.specs.Place.{misplaced}
-use Rattle.table.specs.Back.{leafAt}
+use Rattle.table.specs.Back.{leafAt, separatorsAt}
 use Rattle.table.specs.BySegment.{bySegment, contextAmong}
 use Rattle.table.specs.RowTests.{goOnFrom}
 use Rattle.write.specs.Local.{thirdPlace}
-use Rattle.write.specs.Tests.{leavesFrom, separatorsAt, headerLeavesAt, kindColumn, soundLeaves, inOrder}
+use Rattle.write.specs.Tests.{leavesFrom, headerLeavesAt, kindColumn, soundLeaves, inOrder}
 
 -- the second leaf of a header has four bytes
 pub header-four : (rows text : List ℕ) → headerLeavesAt rows text ≡ true → length (leafAt rows text 1 .text) ≡ 4

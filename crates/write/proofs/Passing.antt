@@ -23,14 +23,14 @@ use Rattle.order.specs.Place.{misplaced}
 use Rattle.order.specs.Owners.{owners}
 use Rattle.table.specs.Leaves.{Leaf}
 use Rattle.table.specs.Flat.{leaf}
-use Rattle.table.specs.Rows.{Table, segmentRowSize, segmentRowsFrom}
-use Rattle.table.specs.Back.{leafAt, leavesOf, separatorsIn}
+use Rattle.table.specs.Rows.{Table, segmentRowSize, segmentRowsFrom, RowIs}
+use Rattle.table.specs.Back.{leafAt, leavesOf, separatorsAt, separatorsIn}
 use Rattle.table.specs.BySegment.{bySegment, kindAmong, contextAmong, writtenBytes}
 use Rattle.table.specs.RowTests.{endToEnd, goOnFrom, rowsStated}
-use Rattle.table.proofs.SegmentRows.{RowIs, row-states}
+use Rattle.table.proofs.SegmentRows.{row-states}
 use Rattle.write.specs.Local.{HeaderRows, KindRows, FewRows, groupsOf, kindsAmong, thirdPlace}
 use Rattle.write.specs.RowByRow.{Sized, RowByRow}
-use Rattle.write.specs.Tests.{leavesFrom, separatorsAt, headerLeavesAt, rowStates, groupsStated, kindColumn, ownerColumn, soundLeaves, inOrder}
+use Rattle.write.specs.Tests.{leavesFrom, headerLeavesAt, rowStates, groupsStated, kindColumn, ownerColumn, soundLeaves, inOrder}
 
 -- segment rows against their columns
 module _ (segs : List ℕ) where
@@ -126,7 +126,7 @@ module _ (t : Table) where
 
   -- the leaf rows
   pub sound-header : soundLeaves (t .card .separator) (t .leafRows) (t .text) (t .card .leaves) ≡ true → HeaderRows t
-  unfolding soundLeaves headerLeavesAt separatorsIn separatorsAt
+  unfolding soundLeaves headerLeavesAt separatorsAt
   sound-header h =
       let hr = and-first (headerLeavesAt (t .leafRows) (t .text) && ruled) goes h in
       let head = and-first (headerLeavesAt (t .leafRows) (t .text)) ruled hr in
@@ -152,7 +152,7 @@ module _ (t : Table) where
 
   pub header-sound : HeaderRows t → goOnFrom (splitting (separatorsIn t)) thirdPlace (drop 2 (leavesOf t)) ≡ true
       → soundLeaves (t .card .separator) (t .leafRows) (t .text) (t .card .leaves) ≡ true
-  unfolding soundLeaves headerLeavesAt separatorsIn separatorsAt leavesOf
+  unfolding soundLeaves headerLeavesAt separatorsAt leavesOf
   header-sound w o =
       and-both
       (and-both
@@ -167,7 +167,7 @@ module _ (t : Table) where
 
   pub sound-others : soundLeaves (t .card .separator) (t .leafRows) (t .text) (t .card .leaves) ≡ true
       → goOnFrom (splitting (separatorsIn t)) thirdPlace (drop 2 (leavesOf t)) ≡ true
-  unfolding soundLeaves separatorsIn separatorsAt leavesOf
+  unfolding soundLeaves separatorsAt leavesOf
   sound-others h =
       ap (goOnFrom (splitting seps) thirdPlace) (drop-two (t .leafRows) (t .text) (t .card .leaves))
       ∙ and-second (headerLeavesAt (t .leafRows) (t .text) && ruled) goes h

@@ -25,7 +25,7 @@ use Rattle.table.specs.RowTests.{endToEnd, goOnFrom, rowsStated}
 use Rattle.table.specs.Sound.{soundFrom}
 use Rattle.table.proofs.EndToEnd.{end-to-end}
 use Rattle.table.proofs.LeafTexts.{AllText, headed-text}
-use Rattle.table.proofs.Rows.{Placed, all-placed, length-leafRows}
+use Rattle.table.proofs.LeafRows.{Placed, all-placed, length-leafRows}
 use Rattle.table.proofs.SegmentRows.{owners-stated}
 use Rattle.table.proofs.SoundRows.{coarsest-different, begin-sound}
 use Rattle.write.specs.Local.{HeaderRows, groupsOf, kindsAmong, thirdPlace, Local}

@@ -24,7 +24,7 @@ use Rattle.line.specs.Lines.{CR, space}
 use Rattle.line.specs.Cutting.{cuts, unlines}
 use Rattle.table.specs.Leaves.{Leaf, split}
 use Rattle.table.specs.Flat.{leaf}
-use Rattle.table.specs.Back.{leafAt, leavesOf, separatorsIn, unsplit, segmentsOf, linesOf, written}
+use Rattle.table.specs.Back.{leafAt, leavesOf, separatorsAt, separatorsIn, unsplit, segmentsOf, linesOf, written}
 use Rattle.table.specs.RowTests.{nextPlace}
 use Rattle.table.proofs.EndToEnd.{ends-each}
 use Rattle.write.specs.declared.lines.Going.{Going}
@@ -33,7 +33,7 @@ use Rattle.write.specs.Local.{Local}
 use Rattle.write.specs.RowByRow.{RowByRow}
 use Rattle.write.specs.Writing.{isTable}
 use Rattle.write.specs.Filling.{InSegment}
-use Rattle.write.specs.Passing.{linesOfRows, separatorsOfRows, FourWithin, NextAfter, Writable, WrittenOut}
+use Rattle.write.specs.Passing.{linesOfRows, FourWithin, NextAfter, Writable, WrittenOut}
 use Rattle.write.specs.Tests.{placeOf}
 use Rattle.write.proofs.LocalTables.{headed-leaves, local-accepted}
 use Rattle.write.proofs.RowByRow.{rows-local}
@@ -83,8 +83,8 @@ module _ (field : ℕ) (rows text : List ℕ) (w : FourWithin rows text) {at : �
         escape = getD text (at + 2) 0;
         subsubfield = getD text (at + 3) 0;
       })
-      (separatorsOfRows field rows text)
-  unfolding separatorsOfRows
+      (separatorsAt field rows text)
+  unfolding separatorsAt
   separators-read =
       let first = ap (λ (j : ℕ). getD text j 0) (let z : at ≡ at + 0 = omega arith in z) ∙ byte-of 0 (omega arith) in
       let second = byte-of 1 (omega arith) in
@@ -164,8 +164,8 @@ module _ (L : Limits) (lawful : Lawful L) (levels : ℕ → ℕ → ℕ) (l : Le
       (λ k low high. leaf-same k (omega arith))
 
   -- the separators of the lent rows are the table's
-  pub separators-same : separatorsOfRows (l .card .separator) (l .leafRows) (l .text) ≡ separatorsIn (counted l)
-  unfolding separatorsOfRows separatorsIn counted
+  pub separators-same : separatorsAt (l .card .separator) (l .leafRows) (l .text) ≡ separatorsIn (counted l)
+  unfolding separatorsAt counted
   separators-same =
       ap (λ (m : Leaf). record {
         field = l .card .separator;
@@ -192,10 +192,10 @@ module _ (L : Limits) (lawful : Lawful L) (levels : ℕ → ℕ → ℕ) (l : Le
       ) in
       record { row = omega arith; four = size; within = omega arith }
 
-  module _ {ps : Separators} (e : ps ≡ separatorsOfRows (l .card .separator) (l .leafRows) (l .text)) where
+  module _ {ps : Separators} (e : ps ≡ separatorsAt (l .card .separator) (l .leafRows) (l .text)) where
     -- the lines of the lent rows are the table's
     pub lines-same : linesOfRows L ps (l .leafRows) (l .card .leaves) (l .text) ≡ linesOf L (counted l)
-    unfolding linesOfRows linesOf segmentsOf separatorsIn counted
+    unfolding linesOfRows linesOf segmentsOf separatorsAt counted
     lines-same =
         ap₂ (λ (qs : Separators) (ls : List Leaf). cuts L (qs .field) (split CR (unsplit (CR ∷ splitting qs) ls))) (e ∙ separators-same) (sym leaves-same)
 

@@ -10,7 +10,7 @@ use Rattle.form.specs.declared.limits.Limits.{Limits}
 use Rattle.table.specs.declared.Card.{Card}
 use Rattle.table.specs.Back.{linesOf, written}
 use Rattle.write.specs.declared.Written.{Written}
-use Rattle.table.specs.Lent.{Lent, counted}
+use Rattle.table.specs.Lent.{Lent, lent, counted}
 use Rattle.write.specs.Writing.{Writing, refuses, writes, isTable, writing}
 
 -- "number, place, bytes, lines": all zero but the number on a refusal
@@ -22,10 +22,6 @@ answer (writes bytes lines) = record { number = 0; place = 0; bytes = length byt
 unfoldable pub outputAfter : List ℕ → Writing → List ℕ
 outputAfter output (refuses number) = output
 outputAfter output (writes bytes lines) = sets output 0 bytes
-
--- a lent table
-abbrev pub lent : Card → List ℕ → List ℕ → List ℕ → Lent
-lent card segmentRows leafRows text = record { card = card; segmentRows = segmentRows; leafRows = leafRows; text = text }
 
 -- the bytes that are written for a lent table into an output of the stated size; 0 where it is refused
 unfoldable pub writtenSize : Limits → (ℕ → ℕ → ℕ) → Lent → ℕ

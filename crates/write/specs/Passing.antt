@@ -29,17 +29,6 @@ unfoldable pub linesOfRows : Limits → Separators → List ℕ → ℕ → List
 linesOfRows L ps rows count text =
     cuts L (ps .field) (split CR (unsplit (CR ∷ splitting ps) (values (leafAt rows text) 0 count)))
 
--- the separators: the field separator stands on the card, the others are the text of 7.2, the second leaf
-unfoldable pub separatorsOfRows : ℕ → List ℕ → List ℕ → Separators
-separatorsOfRows field rows text =
-    record {
-      field = field;
-      subfield = getD (leafAt rows text 1 .text) 0 0;
-      repeater = getD (leafAt rows text 1 .text) 1 0;
-      escape = getD (leafAt rows text 1 .text) 2 0;
-      subsubfield = getD (leafAt rows text 1 .text) 3 0;
-    }
-
 -- what finding them asks: there is such a row, of four bytes, and these lie in the text area
 pub record FourWithin (rows text : List ℕ) : Type 0 where
   pub row : 14 ≤ length rows

@@ -19,7 +19,7 @@ use Rattle.table.specs.Leaves.{Leaf}
 use Rattle.form.specs.Limits.{Lawful}
 use Rattle.write.specs.RowByRow.{Sized}
 use Rattle.table.specs.Rows.{Table, segmentRowSize, leafRowSize}
-use Rattle.table.specs.Back.{leafAt}
+use Rattle.table.specs.Back.{leafAt, separatorsAt}
 use Rattle.order.specs.Place.{misplaced}
 use Rattle.table.specs.BySegment.{bySegment, kindAmong, contextAmong, numberOfField}
 use Rattle.table.specs.RowTests.{endToEnd, nextPlace, goOnFrom}
@@ -67,17 +67,6 @@ leavesFrom rows text first end = values (leafAt rows text) first (end - first)
 -- the numbers of the place at an entry that are finer than its first k
 abbrev pub finer : List ℕ → ℕ → ℕ → List ℕ
 finer rows at k = values (λ (j : ℕ). getD rows (at + j) 0) k (5 - k)
-
--- the separators that a field separator and the text of the second leaf name
-unfoldable pub separatorsAt : ℕ → List ℕ → List ℕ → Separators
-separatorsAt field rows text =
-    record {
-      field = field;
-      subfield = getD (leafAt rows text 1 .text) 0 0;
-      repeater = getD (leafAt rows text 1 .text) 1 0;
-      escape = getD (leafAt rows text 1 .text) 2 0;
-      subsubfield = getD (leafAt rows text 1 .text) 3 0;
-    }
 
 -- whether a byte may stand in a leaf's text
 unfoldable pub leafByte : List ℕ → ℕ → Bool

@@ -3,21 +3,17 @@
 use mathlib.Core.Bool.{Bool, true, false, _&&_}
 use mathlib.Core.List.{List, []}
 use mathlib.Core.Path.{_≡_}
-use Prim.Native.Nat.{ℕ, _*_}
+use Prim.Native.Nat.{ℕ}
 use lib.Dec.{leb, ltb, eqb}
 use lib.ListN.{length}
 use Rattle.laws.specs.Lists.{same}
 use Rattle.form.specs.declared.limits.Limits.{Limits}
 use Rattle.form.specs.Numbers.{shortOutput, noTable}
 use Rattle.table.specs.declared.Card.{Card}
-use Rattle.table.specs.Rows.{Table, segmentRowSize, leafRowSize}
-use Rattle.table.specs.Reading.{Room, Outcome, refused, accepted, reading}
+use Rattle.table.specs.Rows.{Table}
+use Rattle.table.specs.Reading.{Outcome, refused, accepted, stated, reading}
 use Rattle.table.specs.Back.{linesOf, written}
 use Rattle.table.specs.Lent.{Lent, withinLimits, withinBuffers, counted}
-
--- buffers of the stated sizes
-unfoldable pub stated : Limits → Room
-stated L = record { text = L .bytes; segmentRows = L .segments * segmentRowSize; leafRows = L .leaves * leafRowSize }
 
 -- "some message within the limits reads to exactly this table"
 abbrev pub ReadTo : Limits → (ℕ → ℕ → ℕ) → Table → Type 0

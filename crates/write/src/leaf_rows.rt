@@ -10,10 +10,10 @@ ghost use lib.ListN.{length, take, drop};
 ghost use Rattle.laws.specs.Lists.{same};
 ghost use Rattle.laws.specs.Tables.{values};
 ghost use Rattle.form.specs.Header.{splitting};
-ghost use Rattle.table.specs.Back.{leafAt};
+ghost use Rattle.table.specs.Back.{leafAt, separatorsAt};
 ghost use Rattle.table.specs.RowTests.{nextPlace, leafText, goOnFrom};
 ghost use Rattle.write.specs.Local.{thirdPlace};
-ghost use Rattle.write.specs.Tests.{Decides, InText, Laid, finer, separatorsAt, classTable, headerLeavesAt};
+ghost use Rattle.write.specs.Tests.{Decides, InText, Laid, finer, classTable, headerLeavesAt};
 
 // Numbers of a leaf row, and where its start and its length stand.
 pub(crate) const SIZE: usize = 7;

@@ -11,8 +11,9 @@ ghost use Prim.Native.Nat.{_+_, _*_, _≤_, _<_};
 ghost use lib.ListN.{length, getD};
 ghost use Rattle.form.specs.Limits.{Lawful};
 ghost use Rattle.form.specs.Header.{splitting};
+ghost use Rattle.table.specs.Back.{separatorsAt};
 ghost use Rattle.write.specs.Filling.{stand, puts, Fits, InSegment};
-ghost use Rattle.write.specs.Passing.{separatorsOfRows, leading, FourWithin, NextAfter, Writable, WrittenOut};
+ghost use Rattle.write.specs.Passing.{leading, FourWithin, NextAfter, Writable, WrittenOut};
 
 // A number of a row as a size.
 fn wide(n: u16) -> usize
@@ -24,7 +25,7 @@ fn wide(n: u16) -> usize
 // The separators of a table: the card has the field separator, the text of the second leaf the others.
 pub(crate) fn separators_in(field: u8, leaves: &[u16], text: &[u8]) -> Separators
     requires { ⌜ FourWithin (now leaves) (now text) ⌝ }
-    ensures { λ r. ⌜ r ≡ separatorsOfRows field (now (leaves .entry)) (now (text .entry)) ⌝ }
+    ensures { λ r. ⌜ r ≡ separatorsAt field (now (leaves .entry)) (now (text .entry)) ⌝ }
 {
     let at = wide(leaves[12]);
     Separators {

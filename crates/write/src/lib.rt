@@ -6,8 +6,9 @@ ghost use mathlib.Core.Path.{_≡_};
 ghost use lib.ListN.{length};
 ghost use Rattle.form.specs.Limits.{form};
 ghost use Rattle.order.specs.Owners.{level};
+ghost use Rattle.table.specs.Lent.{lent};
 ghost use Rattle.write.specs.Writing.{refuses, writing};
-ghost use Rattle.write.specs.Answer.{answer, outputAfter, lent};
+ghost use Rattle.write.specs.Answer.{answer, outputAfter};
 
 mod class;
 mod leaf_rows;

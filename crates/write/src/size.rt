@@ -6,7 +6,8 @@ use table::Card;
 ghost use mathlib.Core.Path.{_≡_};
 ghost use Rattle.form.specs.Limits.{form};
 ghost use Rattle.order.specs.Owners.{level};
-ghost use Rattle.write.specs.Answer.{lent, writtenSize};
+ghost use Rattle.table.specs.Lent.{lent};
+ghost use Rattle.write.specs.Answer.{writtenSize};
 
 // The bytes that the writer gives for a table, whatever the buffers hold; 0 where no message reads to it.
 pub fn written_bytes(card: Card, segments: &[u16], leaves: &[u16], text: &[u8]) -> usize

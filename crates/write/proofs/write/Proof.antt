@@ -10,7 +10,8 @@ use Rattle.form.specs.declared.limits.Limits.{Limits}
 use Rattle.form.specs.Limits.{form, Lawful}
 use Rattle.form.proofs.LineCount.{form-lawful}
 use Rattle.order.specs.Owners.{level}
-use Rattle.write.specs.Answer.{answer, outputAfter, lent, message, Tested}
+use Rattle.table.specs.Lent.{lent}
+use Rattle.write.specs.Answer.{answer, outputAfter, message, Tested}
 use Rattle.write.proofs.Answers.{writing-message, tested-lent}
 use Rattle.write.proofs.LentTables.{short-refused, no-table-refused}
 use Rattle.write.proofs.write.Statement.{statement}

@@ -2,7 +2,7 @@
 -- Assumes nothing.
 use mathlib.Core.Path.{sym, ap, _∙_}
 use Rattle.table.specs.declared.Card.{Card}
-use Rattle.look.specs.Lending.{lent}
+use Rattle.table.specs.Lent.{lent}
 use Rattle.look.specs.Looking.{soughtIn}
 use Rattle.abi.specs.Looking.{placeOf}
 use Rattle.abi.proofs.LeafAnswers.{leaf-there, leaf-not-there}

@@ -2,7 +2,7 @@
 -- Assumes nothing.
 use mathlib.Core.Path.{ap₂, _∙_}
 use Rattle.table.specs.declared.Card.{Card}
-use Rattle.look.specs.Lending.{lent}
+use Rattle.table.specs.Lent.{lent}
 use Rattle.look.specs.Looking.{sameOrder}
 use borrow.Author.Needs.{needs}
 use Rattle.abi.proofs.looking.sargaceu_same_order.Statement.{statement}

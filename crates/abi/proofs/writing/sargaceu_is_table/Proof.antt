@@ -4,7 +4,7 @@ use mathlib.Core.Path.{ap, _∙_}
 use Rattle.form.specs.Limits.{form}
 use Rattle.order.specs.Owners.{level}
 use Rattle.table.specs.declared.Card.{Card}
-use Rattle.write.specs.Answer.{lent}
+use Rattle.table.specs.Lent.{lent}
 use Rattle.write.specs.Writing.{isTable}
 use borrow.Author.Needs.{needs}
 use Rattle.abi.proofs.writing.sargaceu_is_table.Statement.{statement}

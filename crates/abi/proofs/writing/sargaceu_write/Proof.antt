@@ -1,6 +1,6 @@
 -- `abi::writing::sargaceu_write` meets its contract: what the writer gives, put into the answer where that has room.
 -- Assumes nothing.
-use Rattle.write.specs.Answer.{lent}
+use Rattle.table.specs.Lent.{lent}
 use Rattle.abi.specs.Cards.{cardOf}
 use Rattle.abi.proofs.WriteAnswers.{write-short, write-whole}
 use borrow.Author.Needs.{needs}

@@ -2,7 +2,7 @@
 -- Assumes nothing.
 use denote.Ref.{now}
 use mathlib.Core.Path.{sym, _∙_}
-use Rattle.look.specs.Lending.{lent}
+use Rattle.table.specs.Lent.{lent}
 use Rattle.look.proofs.Counts.{leaves-within}
 use Rattle.look.proofs.Seeking.{sought-counted, sought-uncounted}
 use borrow.Author.Needs.{needs}

@@ -3,7 +3,7 @@
 use denote.Ref.{now}
 use mathlib.Core.Path.{sym, _∙_}
 use native.Mathlib.Omega.{arith}
-use Rattle.look.specs.Lending.{lent}
+use Rattle.table.specs.Lent.{lent}
 use Rattle.look.proofs.Seeking.{found-within}
 use Rattle.look.proofs.TextParts.{part-found, no-part}
 use borrow.Author.Needs.{needs}

@@ -2,7 +2,7 @@
 -- Assumes nothing.
 use denote.Ref.{now}
 use mathlib.Core.Path.{sym, _∙_}
-use Rattle.look.specs.Lending.{lent}
+use Rattle.table.specs.Lent.{lent}
 use Rattle.look.specs.Looking.{orderPlace}
 use Rattle.look.proofs.Orders.{order-by-segments, order-text, no-order}
 use borrow.Author.Needs.{needs}

@@ -3,7 +3,7 @@
 use denote.Ref.{now}
 use mathlib.Core.Path.{sym, _∙_}
 use native.Mathlib.Omega.{arith}
-use Rattle.look.specs.Lending.{lent}
+use Rattle.table.specs.Lent.{lent}
 use Rattle.look.proofs.Orders.{order-within, both-there, first-not-there, second-not-there}
 use borrow.Author.Needs.{needs}
 use Rattle.look.proofs.order.same_order.Statement.{statement}

@@ -16,8 +16,7 @@ use Rattle.form.specs.declared.limits.Limits.{Limits}
 use Rattle.form.specs.Limits.{form, Lawful}
 use Rattle.form.proofs.LineCount.{form-lawful}
 use Rattle.order.specs.Owners.{level}
-use Rattle.table.specs.Lent.{Lent}
-use Rattle.write.specs.Answer.{lent}
+use Rattle.table.specs.Lent.{Lent, lent}
 use Rattle.write.specs.Writing.{isTable}
 use Rattle.write.proofs.Sizes.{Counts, table-counts, no-table-size}
 use Rattle.write.proofs.size.written_bytes.Statement.{statement}

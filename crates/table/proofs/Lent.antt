@@ -1,0 +1,60 @@
+-- A card's counts against the buffers, one test after the other, and what counts that fit say of each buffer.
+-- Assumes nothing.
+use mathlib.Core.Bool.{true, false, _&&_}
+use mathlib.Core.Path.{_≡_}
+use Prim.Native.Nat.{ℕ, _*_, _<_, _≤_}
+use borrow.Author.Tests.{leb-true, le-leb, lt-leb}
+use lib.Dec.{leb}
+use lib.ListN.{length}
+use Rattle.laws.proofs.Tests.{and-first, and-second}
+use Rattle.table.specs.declared.Card.{Card}
+use Rattle.table.specs.Rows.{Table, segmentRowSize, leafRowSize}
+use Rattle.table.specs.Lent.{Lent, countsFit, withinBuffers, counted, SameCounted}
+
+module _ (c : Card) (segmentRows leafRows text : ℕ) where
+  pub segments-past : segmentRows < c .segments * segmentRowSize → false ≡ countsFit c segmentRows leafRows text
+  unfolding countsFit
+  segments-past h = rw (lt-leb (c .segments * segmentRowSize) segmentRows h)
+
+  module _ (within : c .segments * segmentRowSize ≤ segmentRows) where
+    pub leaves-past : leafRows < c .leaves * leafRowSize → false ≡ countsFit c segmentRows leafRows text
+    unfolding countsFit
+    leaves-past h = rw (le-leb (c .segments * segmentRowSize) segmentRows within, lt-leb (c .leaves * leafRowSize) leafRows h)
+
+    pub text-decides : c .leaves * leafRowSize ≤ leafRows → leb (c .text) text ≡ countsFit c segmentRows leafRows text
+    unfolding countsFit
+    text-decides h = rw (le-leb (c .segments * segmentRowSize) segmentRows within, le-leb (c .leaves * leafRowSize) leafRows h)
+
+  module _ (e : countsFit c segmentRows leafRows text ≡ true) where
+    both-rows : (leb (c .segments * segmentRowSize) segmentRows && leb (c .leaves * leafRowSize) leafRows) ≡ true
+    unfolding countsFit
+    both-rows = and-first (leb (c .segments * segmentRowSize) segmentRows && leb (c .leaves * leafRowSize) leafRows) (leb (c .text) text) e
+
+    pub segments-within : c .segments * segmentRowSize ≤ segmentRows
+    segments-within =
+        leb-true (c .segments * segmentRowSize) segmentRows
+        (and-first (leb (c .segments * segmentRowSize) segmentRows) (leb (c .leaves * leafRowSize) leafRows) both-rows)
+
+    pub leaves-within : c .leaves * leafRowSize ≤ leafRows
+    leaves-within =
+        leb-true (c .leaves * leafRowSize) leafRows
+        (and-second (leb (c .segments * segmentRowSize) segmentRows) (leb (c .leaves * leafRowSize) leafRows) both-rows)
+
+    pub text-within : c .text ≤ text
+    unfolding countsFit
+    text-within =
+        leb-true (c .text) text
+        (and-second (leb (c .segments * segmentRowSize) segmentRows && leb (c .leaves * leafRowSize) leafRows) (leb (c .text) text) e)
+
+-- entries past the counted ones change nothing about whether the counts fit
+pub same-within : (l k : Lent) → SameCounted l k → withinBuffers l ≡ withinBuffers k
+unfolding counted
+same-within l k w =
+    let segments = w .segmentRows in
+    let leaves = w .leafRows in
+    let text = w .text in
+    let entries = w .entries in
+    let e
+    : countsFit (counted l .card) (length (l .segmentRows)) (length (l .leafRows)) (length (l .text))
+    ≡ countsFit (counted k .card) (length (k .segmentRows)) (length (k .leafRows)) (length (k .text)) = cc in
+    e

@@ -1,0 +1,55 @@
+// The layout of a table's rows: how many numbers a row has, which stands where, and how wide each is. Whoever reads or writes a row names
+// these.
+use crate::Card;
+ghost use mathlib.Core.Path.{_≡_};
+ghost use Prim.Native.Nat.{_<_};
+ghost use Rattle.table.specs.Rows.{width};
+ghost use Rattle.table.specs.Lent.{countsFit};
+
+// One number of a row.
+pub type Entry = u16;
+
+// A segment row: the kind stands first, then these.
+pub const SEGMENT_ROW: usize = 4;
+
+pub const OWNER: usize = 1;
+
+pub const FIRST: usize = 2;
+
+pub const COUNT: usize = 3;
+
+// A leaf row: the number of its segment stands first, then these.
+pub const LEAF_ROW: usize = 7;
+
+pub const FIELD: usize = 1;
+
+pub const REPETITION: usize = 2;
+
+pub const SUBFIELD: usize = 3;
+
+pub const SUBSUBFIELD: usize = 4;
+
+pub const START: usize = 5;
+
+pub const LENGTH: usize = 6;
+
+// A row's number as a count.
+pub fn wide(number: Entry) -> usize
+    ensures { λ r. ⌜ (r ≡ number) × (r < width) ⌝ }
+{
+    number as usize
+}
+
+// Whether the rows and the text that a card counts fit buffers of these lengths. Division, since a count may be anything and its product
+// may not fit a number.
+pub fn counts_fit(card: Card, segments: usize, leaves: usize, text: usize) -> bool
+    ensures { λ r. ⌜ r ≡ countsFit card segments leaves text ⌝ }
+{
+    if segments / SEGMENT_ROW < card.segments {
+        return false;
+    }
+    if leaves / LEAF_ROW < card.leaves {
+        return false;
+    }
+    card.text <= text
+}
