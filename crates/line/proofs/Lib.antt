@@ -10,3 +10,4 @@ pub mod Going
 pub mod Written
 pub mod FirstLine
 pub mod Standing
+pub mod ShutOut
