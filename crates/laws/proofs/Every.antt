@@ -1,6 +1,6 @@
 -- What holds of every element: of the first and of the rest, of two lists in a row, of what is left of a list, of what is made of one.
 -- Assumes nothing.
-use mathlib.Core.List.{List, [], _∷_, _++_, map}
+use mathlib.Core.List.{List, [], _∷_, _++_, map, reverseAux}
 use Prim.Native.Nat.{ℕ, zero, suc, _<_}
 use native.Mathlib.Omega.{arith}
 use lib.ListN.{length, take, drop, getD}
@@ -34,6 +34,10 @@ module _ {ℓ ℓ′} {A : Type ℓ} {P : A → Type ℓ′} where
   all-take zero w = none
   all-take (suc n) none = none
   all-take (suc n) (also h w) = also h (all-take n w)
+
+  pub all-reverse : {s t : List A} → All P s → All P t → All P (reverseAux s t)
+  all-reverse none v = v
+  all-reverse (also h w) v = all-reverse w (also h v)
 
   -- at each place, and from each place
   pub all-at : {s : List A} (i : ℕ) (d : A) → All P s → i < length s → P (getD s i d)

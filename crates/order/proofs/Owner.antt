@@ -1,4 +1,4 @@
--- Owners as rows are read are the owners of document 01: for every order of kinds and all levels below 8.
+-- Owners as rows are read are the owners of document 01: for every order of kinds and all levels below `topLevel`.
 -- Assumes nothing.
 use mathlib.Core.Bool.{Bool, true, false, not, _&&_, and-true}
 use mathlib.Core.List.{List, [], _∷_, reverse, reverseAux, reverse-append}
@@ -12,6 +12,7 @@ use lib.Dec.{ltb, eqb}
 use lib.ListN.{length, getD, take, getD-replicate, length-reverse}
 use lib.Seq.{length-take-le, take-suc}
 use Rattle.order.specs.Owners.{nearest, isC, owner, ownersAfter, owners}
+use Rattle.order.specs.Levels.{topLevel}
 use Rattle.order.specs.Owning.{noRows, placeOf, added, Owned, owned}
 use Rattle.order.proofs.Nearest.{place-C, place-level, length-added, added-below, added-above}
 
@@ -53,7 +54,7 @@ pub known-none : (lv : ℕ → ℕ) → Known lv [] noRows
 unfolding noRows nearest
 known-none lv = record { nine = refl; rows = λ l h. getD-replicate 9 l 0 0 (omega arith) }
 
-module _ (lv : ℕ → ℕ) (few : (j : ℕ) → lv j < 8) where
+module _ (lv : ℕ → ℕ) (few : (j : ℕ) → lv j < topLevel) where
   module _ {before near : List ℕ} (known : Known lv before near) (k : ℕ) where
     owner-by : (b : Bool) → eqb k 12 ≡ b → getD near (placeOf k (lv k)) 0 ≡ owner lv before k
     unfolding owner
@@ -143,7 +144,7 @@ pub record RowsKnown (lv : ℕ → ℕ) (ks : List ℕ) (i : ℕ) (near : List �
 pub rows-begin : (lv : ℕ → ℕ) (ks : List ℕ) → RowsKnown lv ks 0 noRows
 rows-begin lv ks = record { known = known-none lv }
 
-module _ (lv : ℕ → ℕ) (few : (j : ℕ) → lv j < 8) {ks : List ℕ} {i : ℕ} {near : List ℕ} (r : RowsKnown lv ks i near) (h : i < length ks) where
+module _ (lv : ℕ → ℕ) (few : (j : ℕ) → lv j < topLevel) {ks : List ℕ} {i : ℕ} {near : List ℕ} (r : RowsKnown lv ks i near) (h : i < length ks) where
   pub row-owner : getD near (placeOf (getD ks i 0) (lv (getD ks i 0))) 0 ≡ getD (owners lv ks) i 0
   row-owner = owner-right lv few (r .known) (getD ks i 0) ∙ sym (owners-at lv ks i h)
 

@@ -8,18 +8,19 @@ use lib.Dec.{ltb}
 use lib.ListN.{getD, replicate}
 use lib.Seq.{sets}
 use Rattle.order.specs.Owners.{isC}
+use Rattle.order.specs.Levels.{topLevel}
 
--- what is known: at place l the row of the nearest segment, C aside, with a level below l, or 0; place 8 is above all levels
+-- what is known: at place l, up to `topLevel`, the row of the nearest segment, C aside, with a level below l, or 0
 unfoldable pub noRows : List ℕ
-noRows = replicate 9 0
+noRows = replicate (topLevel + 1) 0
 
 -- the place that a kind with a level goes by
 unfoldable pub placeOf : ℕ → ℕ → ℕ
-placeOf k l = elim (isC k) [ true ↦ 8 | false ↦ elim (ltb l 8) [ true ↦ l | false ↦ 8 ] ]
+placeOf k l = elim (isC k) [ true ↦ topLevel | false ↦ elim (ltb l topLevel) [ true ↦ l | false ↦ topLevel ] ]
 
 -- what is known once a row has come at a place: it is the nearest for every place above
 unfoldable pub added : List ℕ → ℕ → ℕ → List ℕ
-added nearest place row = sets nearest (place + 1) (replicate (8 - place) row)
+added nearest place row = sets nearest (place + 1) (replicate (topLevel - place) row)
 
 -- one row: its owner, and what is known after it
 pub record Owned (nearest after : List ℕ) (row k l r : ℕ) : Type 0 where
