@@ -49,6 +49,15 @@ module _ {ℓ ℓ′} {A : Type ℓ} {P : A → Type ℓ′} where
   all-of [] d h = none
   all-of (a ∷ s) d h = also (h 0 (omega arith)) (all-of s d (λ i less. h (suc i) (omega arith)))
 
+  pub all-both {κ} : {Q : A → Type κ} {s : List A} → All P s → All Q s → All (λ a. P a × Q a) s
+  all-both none none = none
+  all-both (also h w) (also k v) = also (h, k) (all-both w v)
+
+  -- what each element's own property gives, of the element and of what is made of it
+  pub all-from {κ} : {Q : A → Type κ} → ((a : A) → P a → Q a) → {s : List A} → All P s → All Q s
+  all-from h none = none
+  all-from h (also {a} w ws) = also (h a w) (all-from h ws)
+
   pub all-map {κ κ′} : {B : Type κ} {Q : B → Type κ′} (f : A → B) → ((a : A) → P a → Q (f a)) → {s : List A} → All P s → All Q (map f s)
   all-map f h none = none
   all-map f h (also {a} w ws) = also (h a w) (all-map f h ws)

@@ -5,7 +5,6 @@ pub mod Cases
 pub mod Lists
 pub mod Members
 pub mod Every
-pub mod Each
 pub mod Parts
 pub mod Sums
 pub mod Tables
