@@ -1,5 +1,4 @@
 pub mod Equality
-pub mod Bools
 pub mod Tests
 pub mod Cases
 pub mod Lists

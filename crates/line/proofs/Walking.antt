@@ -123,19 +123,6 @@ texts-sound L some at m =
     at
     m
 
--- a walk that ends in no fault says no more than its texts
-pub walkFrom-texts : (L : Limits) (at : ℕ) (m : List ℕ) → faultNumber (walkFrom L at m) ≡ 0 → walkFrom L at m ≡ linesOf (texts (walkFrom L at m))
-unfolding texts linesOf faultNumber
-walkFrom-texts L at m =
-    walkFrom-along L (λ (ls : Lines). faultNumber ls ≡ 0 → ls ≡ linesOf (texts ls)) (λ (t : List ℕ). Unit {0})
-    (λ e. refl)
-    (λ n p h e. absurd (omega arith))
-    (λ t ls q h e. ap (line t) (h e))
-    (λ b text. tt)
-    (λ t b q text room. tt)
-    at
-    m
-
 -- low bytes after a CR
 
 -- the same texts and the same number; the fault's place is the same or k bytes later
@@ -176,9 +163,6 @@ module _ (L : Limits) (k : ℕ) where
         (rw (← add-suc k at) (shifts s .1 (suc at)))
         (λ text. rw (← add-suc k at) (shifts s .0 (suc at) (b ∷ [])))),
   )
-
-  pub inside-shifted : (at : ℕ) (t s : List ℕ) → inside L (k + at) t s ≡ shifted k (inside L at t s)
-  inside-shifted at t s = shifts s .0 at t
 
   pub between-shifted : (at : ℕ) (s : List ℕ) → between L (k + at) s ≡ shifted k (between L at s)
   between-shifted at s = shifts s .1 at

@@ -1,15 +1,15 @@
 -- Levels by rows and by table: for any rows of levels that pass the computed tests of `Fitting`, the table says what the rows say, for every context
 -- number and every kind number, and all levels are below `topLevel`. The levels in force pass.
 -- Assumes nothing.
-use mathlib.Core.Bool.{false, and-false}
+use mathlib.Core.Bool.{true, false, and-false}
 use mathlib.Core.List.{List, []}
 use mathlib.Core.Logic.{_⊎_, inl, inr}
-use mathlib.Core.Path.{_≡_, sym, ap, ap₂, _∙_, fun-ext}
-use Prim.Native.Nat.{ℕ, suc, _+_, _*_, _-_, _/_, _%_, _≤_, _<_}
+use mathlib.Core.Path.{_≡_, refl, sym, ap, ap₂, _∙_, fun-ext}
+use Prim.Native.Nat.{ℕ, _+_, _*_, _-_, _/_, _%_, _≤_, _<_}
 use native.Mathlib.Nat.{le-trans}
 use native.Mathlib.Omega.{arith}
-use borrow.Author.Tests.{le-leb, lt-leb}
-use lib.Dec.{T, leb, ltb, leb→le, ltb→lt}
+use borrow.Author.Tests.{leb-true, ltb-true, le-leb, lt-leb}
+use lib.Dec.{leb, ltb}
 use lib.ListN.{length, getD, List·getD-eq-default}
 use Rattle.laws.specs.Tables.{below, everyFrom}
 use Rattle.laws.proofs.Cases.{less-or-not}
@@ -17,7 +17,8 @@ use Rattle.laws.proofs.Tables.{at, getD-values-zero}
 use Rattle.order.specs.Contexts.{isContext}
 use Rattle.order.specs.Owners.{levelBy, levels, level}
 use Rattle.order.specs.Levels.{levelIn, levelTableOf, levelTable, topLevel, LevelsBelow}
-use Rattle.order.proofs.Allowing.{no-context-below, no-context-above, context-in}
+use Rattle.order.proofs.Seven.{context-within}
+use Rattle.order.proofs.Allowing.{no-context-below, no-context-above}
 
 -- the cases of `levelIn`
 module _ (table : List ℕ) (c k : ℕ) where
@@ -37,7 +38,7 @@ module _ (table : List ℕ) (c k : ℕ) where
 
   pub level-there : 1 ≤ c → c ≤ 7 → k ≤ 11 → levelIn table c k ≡ getD table ((c - 1) * 12 + k) 0
   unfolding levelIn
-  level-there h g l = rw (context-in c h g, le-leb k 11 l, levelIn)
+  level-there h g l = rw (context-within c h g, le-leb k 11 l, levelIn)
 
 -- the table of any levels gives them back, for the seven contexts and the kinds 1 to 11
 table-there : (lv : ℕ → ℕ → ℕ) (c k : ℕ) → 1 ≤ c → c ≤ 7 → k ≤ 11 → levelIn (levelTableOf lv) c k ≡ lv c k
@@ -51,24 +52,24 @@ table-there lv c k h g l =
 -- what rows of levels must pass, by computation: no level at 0 and no row after the seven contexts, at most twelve levels in each row, all
 -- below `topLevel`
 pub record Fitting (rows : List (List ℕ)) : Type 0 where
-  pub none : T (leb (length (getD rows 0 [])) 0)
-  pub seven : T (leb (length rows) 8)
-  pub twelve : T (below 8 (λ c. leb (length (getD rows c [])) 12))
-  pub low : T (below 8 (λ c. below 12 (λ k. ltb (levelBy rows c k) topLevel)))
+  pub none : leb (length (getD rows 0 [])) 0 ≡ true
+  pub seven : leb (length rows) 8 ≡ true
+  pub twelve : below 8 (λ c. leb (length (getD rows c [])) 12) ≡ true
+  pub low : below 8 (λ c. below 12 (λ k. ltb (levelBy rows c k) topLevel)) ≡ true
 
 module _ (rows : List (List ℕ)) (fits : Fitting rows) where
   -- where there is no level
   no-row : (c k : ℕ) → 8 ≤ c → levelBy rows c k ≡ 0
   no-row c k h =
-      ap (λ (row : List ℕ). getD row k 0) (List·getD-eq-default rows [] (le-trans (leb→le (length rows) 8 (fits .seven)) h))
+      ap (λ (row : List ℕ). getD row k 0) (List·getD-eq-default rows [] (le-trans (leb-true (length rows) 8 (fits .seven)) h))
 
   no-kind : (c k : ℕ) → c < 8 → 12 ≤ k → levelBy rows c k ≡ 0
   no-kind c k h g =
-      let few = leb→le (length (getD rows c [])) 12 (at 8 (λ n. leb (length (getD rows n [])) 12) (fits .twelve) c h) in
+      let few = leb-true (length (getD rows c [])) 12 (at 8 (λ n. leb (length (getD rows n [])) 12) (fits .twelve) c h) in
       List·getD-eq-default (getD rows c []) 0 (le-trans few g)
 
   none-at-0 : (k : ℕ) → levelBy rows 0 k ≡ 0
-  none-at-0 k = List·getD-eq-default (getD rows 0 []) 0 (let e = leb→le (length (getD rows 0 [])) 0 (fits .none) in omega arith)
+  none-at-0 k = List·getD-eq-default (getD rows 0 []) 0 (let e = leb-true (length (getD rows 0 [])) 0 (fits .none) in omega arith)
 
   -- all levels are below `topLevel`
   pub rows-below : LevelsBelow (levelBy rows)
@@ -76,7 +77,7 @@ module _ (rows : List (List ℕ)) (fits : Fitting rows) where
     where
       by : (c < 8) ⊎ (8 ≤ c) → (k < 12) ⊎ (12 ≤ k) → levelBy rows c k < topLevel
       by (inl h) (inl g) =
-          ltb→lt (levelBy rows c k) topLevel
+          ltb-true (levelBy rows c k) topLevel
           (at 12 (λ j. ltb (levelBy rows c j) topLevel) (at 8 (λ n. below 12 (λ j. ltb (levelBy rows n j) topLevel)) (fits .low) c h) k g)
       by (inl h) (inr g) = rw (no-kind c k h g) (omega arith)
       by (inr h) g = rw (no-row c k h) (omega arith)
@@ -98,7 +99,7 @@ module _ (rows : List (List ℕ)) (fits : Fitting rows) where
 
 levels-fit : Fitting levels
 unfolding levels everyFrom
-levels-fit = record { none = tt; seven = tt; twelve = tt; low = tt }
+levels-fit = record { none = refl; seven = refl; twelve = refl; low = refl }
 
 pub level-few : LevelsBelow level
 unfolding level

@@ -7,13 +7,13 @@ use mathlib.Core.Logic.{_⊎_, inl, inr, ⊎-elim}
 use mathlib.Core.Path.{_≡_, refl, ap, _∙_, subst, subst⁻¹}
 use Prim.Native.Nat.{ℕ, suc, _<_}
 use native.Mathlib.Omega.{arith}
-use borrow.Author.Tests.{le-ltb}
-use lib.Dec.{T, leb, ltb, eqb, leb→le, eqb→eq}
+use borrow.Author.Tests.{leb-true, le-ltb, eqb-true}
+use lib.Dec.{leb, ltb, eqb}
 use lib.ListN.{length, getD, take}
 use Rattle.laws.specs.Every.{All, none, also}
 use Rattle.laws.specs.Tables.{below, everyFrom}
-use Rattle.laws.proofs.Bools.{T-true, either-cases, where-true}
 use Rattle.laws.proofs.Every.{all-take, all-reverse}
+use Rattle.laws.proofs.Tests.{or-cases, where-holds}
 use Rattle.order.specs.Grammar.{Shape, Begins}
 use Rattle.order.specs.Contexts.{grammar, isContext}
 use Rattle.order.specs.Place.{rowsTold, rowsAfter, someLeft}
@@ -33,32 +33,32 @@ comesPlaced lv c x k = elim (follows c x k) [ true ↦ placed lv c k | false ↦
 
 -- what levels must pass, by computation
 pub record Topped (lv : ℕ → ℕ → ℕ) : Type 0 where
-  pub H : T (below 7 (λ i. eqb (lv (suc i) 1) 1))
-  pub L : T (below 7 (λ i. eqb (lv (suc i) 11) 1))
-  pub others : T (below 7 (λ i. below 12 (λ x. below 13 (λ k. comesPlaced lv (suc i) x k))))
+  pub H : below 7 (λ i. eqb (lv (suc i) 1) 1) ≡ true
+  pub L : below 7 (λ i. eqb (lv (suc i) 11) 1) ≡ true
+  pub others : below 7 (λ i. below 12 (λ x. below 13 (λ k. comesPlaced lv (suc i) x k))) ≡ true
 
-module _ (lv : ℕ → ℕ → ℕ) (top : Topped lv) (c : ℕ) (t : T (isContext c)) where
+module _ (lv : ℕ → ℕ → ℕ) (top : Topped lv) (c : ℕ) (t : isContext c ≡ true) where
   abbrev Placed : ℕ → Type 0
-  Placed k = T (placed lv c k)
+  Placed k = placed lv c k ≡ true
 
   -- every kind of a begun order is C or has a level
-  told-placed : (x k : ℕ) → x < 12 → T (someLeft (rowsTold k (leftAt c x))) → Placed k
+  told-placed : (x k : ℕ) → x < 12 → someLeft (rowsTold k (leftAt c x)) ≡ true → Placed k
   unfolding comesPlaced follows
   told-placed x k hx s =
-      where-true (follows c x k) (placed lv c k) s (all-seven₃ 12 13 (comesPlaced lv) (top .others) c t x hx k (kind-left c t x k hx s))
+      where-holds (placed lv c k) s (all-seven₃ 12 13 (comesPlaced lv) (top .others) c t x hx k (kind-left c t x k hx s))
 
-  left-placed : (x : ℕ) → x < 12 → (w : List ℕ) → T (someLeft (rowsAfter (leftAt c x) w)) → All Placed w
+  left-placed : (x : ℕ) → x < 12 → (w : List ℕ) → someLeft (rowsAfter (leftAt c x) w) ≡ true → All Placed w
   unfolding rowsAfter
   left-placed x hx [] s = none
   left-placed x hx (k ∷ w) s =
       let h = some-told c t k w (leftAt c x) (rowsTold k (leftAt c x)) refl s in
       also (told-placed x k hx h)
-      (left-placed (lastAfter x k) (next-last c t x k hx h) w (subst (λ (r : List (List Shape)). T (someLeft (rowsAfter r w))) (next-state c t x k hx h) s))
+      (left-placed (lastAfter x k) (next-last c t x k hx h) w (subst (λ (r : List (List Shape)). someLeft (rowsAfter r w) ≡ true) (next-state c t x k hx h) s))
 
   -- and none of them is below level 1
   no-lower : (j : ℕ) → Placed j → (not (isC j) && ltb (lv c j) 1) ≡ false
   unfolding placed
-  no-lower j h = ⊎-elim (λ e. (rw (T-true (isC j) e))) (λ l. by (isC j) (le-ltb (lv c j) 1 (leb→le 1 (lv c j) l))) (either-cases (isC j) (leb 1 (lv c j)) h)
+  no-lower j h = ⊎-elim (λ e. (rw e)) (λ l. by (isC j) (le-ltb (lv c j) 1 (leb-true 1 (lv c j) l))) (or-cases (isC j) (leb 1 (lv c j)) h)
     where
       by : (b : Bool) → ltb (lv c j) 1 ≡ false → (not b && ltb (lv c j) 1) ≡ false
       by true e = refl
@@ -71,8 +71,8 @@ module _ (lv : ℕ → ℕ → ℕ) (top : Topped lv) (c : ℕ) (t : T (isContex
 
   at-top : (k : ℕ) → (k ≡ 1) ⊎ (k ≡ 11) → (lv c k ≡ 1) × (isC k ≡ false)
   unfolding isC
-  at-top k (inl q) = (ap (lv c) q ∙ eqb→eq (lv c 1) 1 (all-seven (λ n. eqb (lv n 1) 1) (top .H) c t), subst⁻¹ (λ (n : ℕ). isC n ≡ false) q refl)
-  at-top k (inr q) = (ap (lv c) q ∙ eqb→eq (lv c 11) 1 (all-seven (λ n. eqb (lv n 11) 1) (top .L) c t), subst⁻¹ (λ (n : ℕ). isC n ≡ false) q refl)
+  at-top k (inl q) = (ap (lv c) q ∙ eqb-true (lv c 1) 1 (all-seven (λ n. eqb (lv n 1) 1) (top .H) c t), subst⁻¹ (λ (n : ℕ). isC n ≡ false) q refl)
+  at-top k (inr q) = (ap (lv c) q ∙ eqb-true (lv c 11) 1 (all-seven (λ n. eqb (lv n 11) 1) (top .L) c t), subst⁻¹ (λ (n : ℕ). isC n ≡ false) q refl)
 
   pub top-has-0 : (w : List ℕ) → Begins (grammar c) w → (i : ℕ) → i < length w → (getD w i 0 ≡ 1) ⊎ (getD w i 0 ≡ 11) → getD (owners (lv c) w) i 0 ≡ 0
   unfolding owner
@@ -85,9 +85,9 @@ module _ (lv : ℕ → ℕ → ℕ) (top : Topped lv) (c : ℕ) (t : T (isContex
 
 levels-topped : Topped level
 unfolding comesPlaced placed isC follows states level levels everyFrom
-levels-topped = record { H = tt; L = tt; others = tt }
+levels-topped = record { H = refl; L = refl; others = refl }
 
 -- "H and L have 0", in every begun order
-pub H-and-L-have-0 : (c : ℕ) → T (isContext c) → (w : List ℕ) → Begins (grammar c) w → (i : ℕ) → i < length w
+pub H-and-L-have-0 : (c : ℕ) → isContext c ≡ true → (w : List ℕ) → Begins (grammar c) w → (i : ℕ) → i < length w
     → (getD w i 0 ≡ 1) ⊎ (getD w i 0 ≡ 11) → getD (owners (level c) w) i 0 ≡ 0
 H-and-L-have-0 = top-has-0 level levels-topped

@@ -3,7 +3,8 @@
 use borrow.Author.Needs.{needs}
 use mathlib.Core.Path.{sym, _∙_}
 use Rattle.order.specs.Watcher.{listed}
-use Rattle.order.proofs.Allowing.{context-in, context-below, context-above, allows-C, allows-other}
+use Rattle.order.proofs.Allowing.{context-below, context-above, allows-C, allows-other}
+use Rattle.order.proofs.Seven.{context-within}
 use Rattle.order.proofs.watcher.may_come.Statement.{statement}
 use Rattle.order.proofs.watcher.may_come.Tie as tie
 
@@ -30,7 +31,7 @@ returns-3 c =
     let at-if3 = c .before .if3 in
     let a = at-args in
     c .may-have-c .ensures
-    ∙ sym (allows-C (listed (a .followers .now)) (a .context) (a .last) (a .kind) (context-in (a .context) (at-if1 .left) (at-if2 .left)) (at-if3 .taken))
+    ∙ sym (allows-C (listed (a .followers .now)) (a .context) (a .last) (a .kind) (context-within (a .context) (at-if1 .left) (at-if2 .left)) (at-if3 .taken))
 
 may-be-next-requires : tie.Need-may-be-next-requires
 may-be-next-requires c κs = search needs
@@ -43,7 +44,7 @@ returns-4 c =
     let at-if3 = c .before .if3 in
     let a = at-args in
     c .may-be-next .ensures
-    ∙ sym (allows-other (listed (a .followers .now)) (a .context) (a .last) (a .kind) (context-in (a .context) (at-if1 .left) (at-if2 .left)) (at-if3 .left))
+    ∙ sym (allows-other (listed (a .followers .now)) (a .context) (a .last) (a .kind) (context-within (a .context) (at-if1 .left) (at-if2 .left)) (at-if3 .left))
 
 pub may-come-spec : {M : Type 1} → statement M
 may-come-spec = tie.close (tie.spec returns returns-2 may-have-c-requires returns-3 may-be-next-requires returns-4)
