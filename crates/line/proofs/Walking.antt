@@ -184,7 +184,9 @@ module _ (L : Limits) (low rest : List ℕ) (h : Low low) where
       rw moved (alike-shifted (length low) (between L at rest))
 
   -- the message before the CR is walked alike
-  inserted : (a : List ℕ) → ((at : ℕ) (t : List ℕ) → Alike (length low) (inside L at t (a ++ CR ∷ (low ++ rest))) (inside L at t (a ++ CR ∷ rest))) × ((at : ℕ) → Alike (length low) (between L at (a ++ CR ∷ (low ++ rest))) (between L at (a ++ CR ∷ rest)))
+  inserted : (a : List ℕ)
+      → ((at : ℕ) (t : List ℕ) → Alike (length low) (inside L at t (a ++ CR ∷ (low ++ rest))) (inside L at t (a ++ CR ∷ rest)))
+      × ((at : ℕ) → Alike (length low) (between L at (a ++ CR ∷ (low ++ rest))) (between L at (a ++ CR ∷ rest)))
   inserted [] = (
     (λ at t.
         rw (inside-cr L at t (low ++ rest), inside-cr L at t rest)

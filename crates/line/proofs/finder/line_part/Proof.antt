@@ -54,7 +54,8 @@ returns c =
     let at-args = c .before .before .before .before .before .before .args in
     let at-end = c .before .before .end in
     let at-line-at = c .before .before .before .before .line-at in
-    sym (partOf-line (at-args .at) (at-args .message .now) (foundAt form (at-args .message .now) (at-args .at)) (at-end .given .0 .0) (at-end .given .0 .1 .0) (sym (at-line-at .ensures) ∙ at-end .given .1))
+    sym (partOf-line (at-args .at) (at-args .message .now) (foundAt form (at-args .message .now) (at-args .at))
+    (at-end .given .0 .0) (at-end .given .0 .1 .0) (sym (at-line-at .ensures) ∙ at-end .given .1))
 
 returns-2 : tie.Need-returns-2
 returns-2 c =
@@ -68,7 +69,8 @@ returns-3 c =
     let at-args = c .before .before .before .before .before .args in
     let at-enum-told2 = c .before .enum-told2 in
     let at-line-at = c .before .before .before .line-at in
-    sym (partOf-fault (at-args .at) (at-args .message .now) (foundAt form (at-args .message .now) (at-args .at)) (at-enum-told2 .given .0 .0) (at-enum-told2 .given .0 .1 .0) (sym (at-line-at .ensures) ∙ at-enum-told2 .given .1))
+    sym (partOf-fault (at-args .at) (at-args .message .now) (foundAt form (at-args .message .now) (at-args .at))
+    (at-enum-told2 .given .0 .0) (at-enum-told2 .given .0 .1 .0) (sym (at-line-at .ensures) ∙ at-enum-told2 .given .1))
 
 pub line-part-spec : {M : Type 1} → statement M
 line-part-spec =
