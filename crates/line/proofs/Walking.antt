@@ -14,7 +14,7 @@ use Rattle.form.specs.declared.limits.Limits.{Limits}
 use Rattle.form.specs.Numbers.{openLine}
 use Rattle.line.specs.Lines.{Lines, end, fault, line, CR, space, inside, between, walkFrom, walk, texts, faultNumber, faultPlace}
 use Rattle.line.specs.Cutting.{unlines}
-use Rattle.line.specs.Sound.{Text, SoundLine, linesOf, shifted}
+use Rattle.line.specs.Sound.{Text, SoundLine, givenLines, shifted}
 use Rattle.line.proofs.Steps.{inside-nil, inside-cr, inside-more, between-nil, between-low, between-text, walkFrom-nil, walkFrom-low, walkFrom-text, inside-both, between-both, walkFrom-both}
 
 -- what was written
@@ -51,28 +51,28 @@ module _ (L : Limits) where
       ∙ inside-text (suc at) (b ∷ []) u s (all-rest (sound .text)) (omega (arith, sound .short))
       ∙ ap (λ (p : ℕ). line (b ∷ u) (between L (suc p) s)) (omega arith)
 
-  pub between-unlines : (at : ℕ) (ls : List (List ℕ)) → All (SoundLine L) ls → between L at (unlines ls) ≡ linesOf ls
-  unfolding unlines linesOf
+  pub between-unlines : (at : ℕ) (ls : List (List ℕ)) → All (SoundLine L) ls → between L at (unlines ls) ≡ givenLines ls
+  unfolding unlines givenLines
   between-unlines at [] sound = between-nil L at
   between-unlines at (l ∷ ls) (also first rest) =
       between-line at l (unlines ls) first ∙ ap (line l) (between-unlines (suc (at + length l)) ls rest)
 
   -- walking what was written gives those lines
-  pub walk-unlines : (ls : List (List ℕ)) → All (SoundLine L) ls → walk L (unlines ls) ≡ linesOf ls
-  unfolding unlines linesOf walk
+  pub walk-unlines : (ls : List (List ℕ)) → All (SoundLine L) ls → walk L (unlines ls) ≡ givenLines ls
+  unfolding unlines givenLines walk
   walk-unlines [] sound = walkFrom-nil L 0
   walk-unlines (l ∷ ls) (also first rest) =
       walkFrom-line 0 l (unlines ls) first ∙ ap (line l) (between-unlines (suc (0 + length l)) ls rest)
 
-pub texts-linesOf : (ls : List (List ℕ)) → texts (linesOf ls) ≡ ls
-unfolding texts linesOf
-texts-linesOf [] = refl
-texts-linesOf (l ∷ ls) = ap (λ (r : List (List ℕ)). l ∷ r) (texts-linesOf ls)
+pub texts-given : (ls : List (List ℕ)) → texts (givenLines ls) ≡ ls
+unfolding texts givenLines
+texts-given [] = refl
+texts-given (l ∷ ls) = ap (λ (r : List (List ℕ)). l ∷ r) (texts-given ls)
 
-pub faultNumber-linesOf : (ls : List (List ℕ)) → faultNumber (linesOf ls) ≡ 0
-unfolding faultNumber linesOf
-faultNumber-linesOf [] = refl
-faultNumber-linesOf (l ∷ ls) = faultNumber-linesOf ls
+pub no-fault-given : (ls : List (List ℕ)) → faultNumber (givenLines ls) ≡ 0
+unfolding faultNumber givenLines
+no-fault-given [] = refl
+no-fault-given (l ∷ ls) = no-fault-given ls
 
 -- what a walk gives
 

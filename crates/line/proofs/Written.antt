@@ -16,10 +16,10 @@ use Rattle.form.specs.Limits.{Lawful}
 use Rattle.line.specs.Lines.{space, walk, texts, faultNumber}
 use Rattle.line.specs.Joining.{addendum, carried, joined}
 use Rattle.line.specs.Cutting.{cuts, unlines}
-use Rattle.line.specs.Sound.{Text, SoundLine, linesOf}
+use Rattle.line.specs.Sound.{Text, SoundLine, givenLines}
 use Rattle.line.proofs.Joining.{carried-addendum, carried-segment, joined-addendum, joined-segment}
 use Rattle.line.proofs.Cutting.{cuts-sound, joined-cuts}
-use Rattle.line.proofs.Walking.{walk-unlines, texts-linesOf, faultNumber-linesOf}
+use Rattle.line.proofs.Walking.{walk-unlines, texts-given, no-fault-given}
 
 -- a segment that has a byte, and none below 32
 abbrev pub Worded : List ℕ → Type 0
@@ -27,16 +27,16 @@ Worded s = (1 ≤ length s) × Text s
 
 module _ (L : Limits) (lawful : Lawful L) (f : ℕ) (sep : space ≤ f) (ss : List (List ℕ)) (worded : All Worded ss) where
   -- the walk over what is written gives the lines that were cut, and ends in no fault
-  pub walk-written : walk L (unlines (cuts L f ss)) ≡ linesOf (cuts L f ss)
+  pub walk-written : walk L (unlines (cuts L f ss)) ≡ givenLines (cuts L f ss)
   walk-written = walk-unlines L (cuts L f ss) (cuts-sound L lawful f ss sep worded)
 
   pub no-fault-written : faultNumber (walk L (unlines (cuts L f ss))) ≡ 0
-  no-fault-written = ap faultNumber walk-written ∙ faultNumber-linesOf (cuts L f ss)
+  no-fault-written = ap faultNumber walk-written ∙ no-fault-given (cuts L f ss)
 
   -- and its texts join to the segments
   pub joined-written : All (λ (s : List ℕ). addendum f s ≡ false) ss → joined f (texts (walk L (unlines (cuts L f ss)))) ≡ ss
   joined-written whole =
-      ap (λ (ls : List (List ℕ)). joined f ls) (ap texts walk-written ∙ texts-linesOf (cuts L f ss)) ∙ joined-cuts L lawful f ss whole
+      ap (λ (ls : List (List ℕ)). joined f ls) (ap texts walk-written ∙ texts-given (cuts L f ss)) ∙ joined-cuts L lawful f ss whole
 
 -- what joins from sound lines has a byte, and none below 32
 module _ (L : Limits) (f : ℕ) where

@@ -18,9 +18,9 @@ pub record SoundLine (L : Limits) (t : List ℕ) : Type 0 where
   pub text : Text t
 
 -- the walk that gives these lines and ends in no fault
-unfoldable pub linesOf : List (List ℕ) → Lines
-linesOf [] = end
-linesOf (t ∷ ts) = line t (linesOf ts)
+unfoldable pub givenLines : List (List ℕ) → Lines
+givenLines [] = end
+givenLines (t ∷ ts) = line t (givenLines ts)
 
 -- the same walk over a message that begins k bytes later
 unfoldable pub shifted : ℕ → Lines → Lines

@@ -7,7 +7,7 @@ use Rattle.laws.proofs.Equality.{only-one}
 use Rattle.order.specs.Followers.{followers}
 use Rattle.order.specs.Levels.{levelTable, levelIn}
 use Rattle.order.specs.Owning.{noRows, Owned}
-use Rattle.order.specs.Watcher.{begun, listed, tellBy, tellOf}
+use Rattle.order.specs.Watcher.{begun, followsBy, tellBy, tellOf}
 use Rattle.order.specs.declared.watcher.Watcher.{Watcher}
 use Rattle.order.specs.declared.watcher.Told.{Told}
 
@@ -33,5 +33,5 @@ begin context r s p q = only-one p q
 pub tell : (w : Watcher) (kind : ℕ) (r s : Told) → r ≡ tellOf w kind → s ≡ tellOf w kind → r ≡ s
 tell w kind r s p q = only-one p q
 
-pub tell-by : (w : Watcher) (table : List ℕ) (kind : ℕ) (r s : Told) → r ≡ tellBy (listed table) w kind → s ≡ tellBy (listed table) w kind → r ≡ s
+pub tell-by : (w : Watcher) (table : List ℕ) (kind : ℕ) (r s : Told) → r ≡ tellBy (followsBy table) w kind → s ≡ tellBy (followsBy table) w kind → r ≡ s
 tell-by w table kind r s p q = only-one p q

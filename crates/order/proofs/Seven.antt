@@ -15,14 +15,14 @@ use Rattle.laws.proofs.Cases.{less-or-not}
 use Rattle.laws.proofs.Tests.{and-first, and-second, and-both}
 use Rattle.laws.proofs.Tables.{at}
 use Rattle.order.specs.Grammar.{never}
-use Rattle.order.specs.Contexts.{segment, H, P, AP, AC, OBR, OBX, FAC, REG, ACT, ERR, L, orders, cover, invoices, bodies, message, grammar, isContext}
+use Rattle.order.specs.Contexts.{segment, H, P, AP, AC, OBR, OBX, FAC, REG, ACT, ERR, L, orders, cover, invoices, bodies, messageShape, grammar, isContext}
 use Rattle.order.specs.Place.{empties, told, rowTold, rowsTold, rowsAfter, someLeft}
 use Rattle.order.specs.Followers.{ways, before, leftAt}
 use Rattle.order.proofs.Begun.{alive}
 
 -- whoever opens this opens the grammars, down to their shapes
 unfoldable pub grammars : Unit {0}
-unfolding grammar message bodies orders cover invoices segment H P AP AC OBR OBX FAC REG ACT ERR L
+unfolding grammar messageShape bodies orders cover invoices segment H P AP AC OBR OBX FAC REG ACT ERR L
 grammars = tt
 
 -- and this, what is left of them at each state
@@ -58,7 +58,7 @@ module _ (m : ℕ) where
 
 pub no-grammar : (c : ℕ) → 8 ≤ c → grammar c ≡ never
 unfolding grammar bodies
-no-grammar c h = List·getD-eq-default (never ∷ map message bodies) never h
+no-grammar c h = List·getD-eq-default (never ∷ map messageShape bodies) never h
 
 pub context-or-never : (c : ℕ) → (isContext c ≡ true) ⊎ (grammar c ≡ never)
 unfolding grammar

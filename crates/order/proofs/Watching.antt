@@ -15,7 +15,7 @@ use Rattle.laws.proofs.Tests.{and-where, where-holds, never-holds, equal-tests}
 use Rattle.order.specs.Contexts.{isContext}
 use Rattle.order.specs.Place.{someLeft}
 use Rattle.order.specs.Followers.{leftAt, follows, asEntry, followers}
-use Rattle.order.specs.Watcher.{InTable, listed, allowsC, allowsNext, allows, tookKind, tellBy, tellOf}
+use Rattle.order.specs.Watcher.{InTable, followsBy, allowsC, allowsNext, allows, tookKind, tellBy, tellOf}
 use Rattle.order.specs.declared.watcher.Watcher.{Watcher}
 use Rattle.order.specs.declared.watcher.Told.{Told}
 use Rattle.order.proofs.Seven.{all-seven₃, context-from, context-to, states}
@@ -25,18 +25,18 @@ use Rattle.order.proofs.Allowing.{allows-other, first-is-H, kind-above}
 
 -- the table lists what the grammar says may follow
 
-entry-listed : (b : Bool) → eqb (asEntry b) 1 ≡ b
-entry-listed true = refl
-entry-listed false = refl
+entry-followsBy : (b : Bool) → eqb (asEntry b) 1 ≡ b
+entry-followsBy true = refl
+entry-followsBy false = refl
 
-pub listed-follows : (c x k : ℕ) → InTable c x k → listed followers c x k ≡ follows c x k
-unfolding listed
-listed-follows zero x k t = let z : ⊥ = omega arith in absurd z
-listed-follows (suc c) zero k t = let z : ⊥ = omega arith in absurd z
-listed-follows (suc c) (suc x) zero t = let z : ⊥ = omega arith in absurd z
-listed-follows (suc c) (suc x) (suc k) t =
+pub followsBy-follows : (c x k : ℕ) → InTable c x k → followsBy followers c x k ≡ follows c x k
+unfolding followsBy
+followsBy-follows zero x k t = let z : ⊥ = omega arith in absurd z
+followsBy-follows (suc c) zero k t = let z : ⊥ = omega arith in absurd z
+followsBy-follows (suc c) (suc x) zero t = let z : ⊥ = omega arith in absurd z
+followsBy-follows (suc c) (suc x) (suc k) t =
     let e : (suc c - 1) * 121 + (suc x - 1) * 11 + (suc k - 1) ≡ c * 121 + x * 11 + k = omega arith in
-    rw (e, entry c x k (omega arith) (omega arith) (omega arith)) (entry-listed (follows (suc c) (suc x) (suc k)))
+    rw (e, entry c x k (omega arith) (omega arith) (omega arith)) (entry-followsBy (follows (suc c) (suc x) (suc k)))
 
 -- two ways to say what may follow that agree within the table allow the same
 
@@ -73,14 +73,14 @@ module _ (may might : ℕ → ℕ → ℕ → Bool) (same : (c x k : ℕ) → In
       (λ t. other-case (eqb k 12) (allowsC x) (allowsNext may c x k) (allowsNext might c x k) (λ e. same-next t))
 
 -- the watcher hands back the same by the table as by the grammar
-pub by-table : (w : Watcher) (k : ℕ) → tellBy (listed followers) w k ≡ tellOf w k
+pub by-table : (w : Watcher) (k : ℕ) → tellBy (followsBy followers) w k ≡ tellOf w k
 unfolding tellBy tellOf
 by-table w k =
     ap {B = Told} (λ (b : Bool). elim b [ true ↦ record { watcher = tookKind w k; yes = true } | false ↦ record { watcher = w; yes = false } ])
-    (same-allows (listed followers) follows listed-follows (w .context) (w .last) k)
+    (same-allows (followsBy followers) follows followsBy-follows (w .context) (w .last) k)
 
-pub by-this-table : (table : List ℕ) → table ≡ followers → (w : Watcher) (k : ℕ) → tellBy (listed table) w k ≡ tellOf w k
-by-this-table table e w k = ap (λ (l : List ℕ). tellBy (listed l) w k) e ∙ by-table w k
+pub by-this-table : (table : List ℕ) → table ≡ followers → (w : Watcher) (k : ℕ) → tellBy (followsBy table) w k ≡ tellOf w k
+by-this-table table e w k = ap (λ (l : List ℕ). tellBy (followsBy l) w k) e ∙ by-table w k
 
 -- at a state that is reached the cases of `allows` say what is left of the grammar
 

@@ -3,7 +3,7 @@
 use form::kind::Kind;
 ghost use mathlib.Core.Path.{_≡_};
 ghost use Prim.Native.Nat.{_≤_};
-ghost use Rattle.order.specs.Owning.{placeOf, noRows, Owned};
+ghost use Rattle.order.specs.Owning.{levelPlace, noRows, Owned};
 
 // What is known of the rows so far has a place for each level, and one above all levels.
 pub const PLACES: usize = 9;
@@ -38,7 +38,7 @@ pub fn owner_of(nearest: &mut [u16; PLACES], row: u16, kind: u8, level: u8) -> u
 
 // The place of a kind: its level; C, which has none and is near to nothing, goes by the last.
 fn place_of(kind: u8, level: u8) -> usize
-    ensures { λ r. ⌜ (r ≡ placeOf kind level) × (r ≤ 8) ⌝ }
+    ensures { λ r. ⌜ (r ≡ levelPlace kind level) × (r ≤ 8) ⌝ }
 {
     if kind == Kind::C {
         return ABOVE;

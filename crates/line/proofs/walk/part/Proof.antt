@@ -43,7 +43,7 @@ use denote.Triple.Walked.{says, Stays, stay-none, walkOf, goes-none, Walks, ends
 use denote.Exit.{yes}
 use denote.Triple.Clauses.{ensured, lasts}
 use Rattle.form.specs.Limits.{form}
-use Rattle.line.specs.Finding.{foundAt, partOf}
+use Rattle.line.specs.Finding.{foundAt, partFound}
 use Rattle.line.specs.declared.walk.Walk.{Walk}
 use Rattle.line.proofs.walk.Walk as T
 use Rattle.line.proofs.walk.Walk.Laws as T′
@@ -77,7 +77,7 @@ module _ {M : Type 1} (𝓤 : URA M) (H : Heap 𝓤) (A : Atoms 𝓤) (W : Given
   v = sliceVal (d .message .ptr) (length (d .message .now))
 
   abbrev found : List ℕ
-  found = partOf (now (d .message)) (d .at) (foundAt form (now (d .message)) (d .at))
+  found = partFound (now (d .message)) (d .at) (foundAt form (now (d .message)) (d .at))
 
   abbrev Post : Val → SProp 𝓤
   Post = walkOf 𝓤 H A parted.ended stayed (parted.clauses 𝓤 H A mem run) .post (((κ, tt), (q, tt), tt, (d, tt), (mach ∷ [], tt)), tt)
