@@ -13,7 +13,6 @@ use lib.Seq.{take-add, drop-at, drop-drop, length-take-le}
 use borrow.Author.Tests.{ne-eqb}
 use Rattle.laws.specs.Lists.{among, count}
 use Rattle.laws.specs.Every.{All, none, also}
-use Rattle.laws.specs.Each.{Each}
 use Rattle.laws.proofs.Tests.{Tested, passed, failed, tested}
 use Rattle.laws.proofs.Cases.{less-or-not}
 use Rattle.laws.proofs.Lists.{count-append, count-more}
@@ -24,7 +23,7 @@ use Rattle.form.specs.Header.{splitting}
 use Rattle.line.specs.Lines.{Lines, line, CR, space, walkFrom, walk, texts, faultNumber}
 use Rattle.line.specs.Joining.{letterA, addendum, carried, joined}
 use Rattle.line.specs.Finding.{textRun}
-use Rattle.line.specs.Sound.{Text, SoundLine}
+use Rattle.line.specs.Sound.{SoundLine}
 use Rattle.line.proofs.Runs.{textRun-nil, textRun-more, textRun-stop, textRun-length}
 use Rattle.line.proofs.Joining.{carried-addendum, carried-segment, joined-addendum, joined-segment}
 use Rattle.line.proofs.Walking.{texts-sound}
@@ -33,6 +32,7 @@ use Rattle.line.proofs.Standing.{textRun-later, nextPlace, LineHere, line-here,
 use Rattle.table.specs.Rows.{allLeaves}
 use Rattle.table.specs.Flat.{Without}
 use Rattle.table.specs.Filed.{Filed}
+use Rattle.table.proofs.Filing.{text-clear}
 use Rattle.table.proofs.Growing.{filed-grows, leaves-grow}
 use Rattle.read.specs.Classes.{classTable}
 use Rattle.read.specs.Scan.{run, marks}
@@ -41,10 +41,6 @@ use Rattle.read.specs.Segments.{lineText, lineAfter, Left}
 use Rattle.read.proofs.ScanLaws.{Bytes, run-text, marks-separators}
 
 -- text has no CR
-
-text-clear : (t : List ℕ) → Text t → Without CR t
-text-clear [] h = none
-text-clear (b ∷ t) h = also (ne-eqb b CR (λ e. let low = h .0 in omega arith)) (text-clear t (h .1))
 
 run-clear : (s : List ℕ) → Without CR (take (textRun s) s)
 run-clear [] = rw textRun-nil none
@@ -55,23 +51,23 @@ run-clear (b ∷ s) =
     (less-or-not b space)
 
 module _ (L : Limits) (f : ℕ) where
-  carried-clear : (ls : List (List ℕ)) → Each (SoundLine L) ls → Without CR (carried f ls)
+  carried-clear : (ls : List (List ℕ)) → All (SoundLine L) ls → Without CR (carried f ls)
   unfolding carried
   carried-clear [] h = none
-  carried-clear (l ∷ ls) h = go (tested (addendum f l)) (carried-clear ls (h .1))
+  carried-clear (l ∷ ls) (also h hs) = go (tested (addendum f l)) (carried-clear ls hs)
     where
       go : Tested (addendum f l) → Without CR (carried f ls) → Without CR (carried f (l ∷ ls))
-      go (passed e) ih = rw (carried-addendum f l ls e) (all-append (all-drop 2 (text-clear l (h .0 .text))) ih)
+      go (passed e) ih = rw (carried-addendum f l ls e) (all-append (all-drop 2 (text-clear l (h .text))) ih)
       go (failed e) ih = rw (carried-segment f l ls e) none
 
-  joined-clear : (ls : List (List ℕ)) → Each (SoundLine L) ls → All (Without CR) (joined f ls)
+  joined-clear : (ls : List (List ℕ)) → All (SoundLine L) ls → All (Without CR) (joined f ls)
   unfolding joined
   joined-clear [] h = none
-  joined-clear (l ∷ ls) h = go (tested (addendum f l)) (joined-clear ls (h .1))
+  joined-clear (l ∷ ls) (also h hs) = go (tested (addendum f l)) (joined-clear ls hs)
     where
       go : Tested (addendum f l) → All (Without CR) (joined f ls) → All (Without CR) (joined f (l ∷ ls))
       go (passed e) ih = rw (joined-addendum f l ls e) ih
-      go (failed e) ih = rw (joined-segment f l ls e) (also (all-append (text-clear l (h .0 .text)) (carried-clear ls (h .1))) ih)
+      go (failed e) ih = rw (joined-segment f l ls e) (also (all-append (text-clear l (h .text)) (carried-clear ls hs)) ih)
 
 -- a byte that is no `A` begins no addendum
 pub no-addendum : (f : ℕ) (s : List ℕ) → (getD s 0 0 ≡ letterA → ⊥) → addendum f s ≡ false
@@ -257,7 +253,7 @@ module _ {L : Limits} {ps : Separators} {class m : List ℕ} (s : Readable L ps 
       let js : List (List ℕ) = joined (ps .field) (linesFrom L m at) in
       let whole : segmentsIn L ps m ≡ closed ++ ((begun ++ (t ++ c)) ∷ js)
       = left .whole ∙ ap (λ (x : List ℕ). closed ++ (x ∷ js)) (append-assoc begun t c) in
-      let lines : Each (SoundLine L) (linesFrom L m at) = texts-sound L (s .one) at (drop at m) in
+      let lines : All (SoundLine L) (linesFrom L m at) = texts-sound L (s .one) at (drop at m) in
       let all : Filed ps (closed ++ ((begun ++ (t ++ c)) ∷ js))
       = filed-grows ps closed begun (t ++ c) js f (all-append clear (carried-clear L (ps .field) (linesFrom L m at) lines))
       (joined-clear L (ps .field) (linesFrom L m at) lines) in

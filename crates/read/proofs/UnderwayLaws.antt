@@ -15,7 +15,7 @@ use Rattle.form.specs.declared.separators.Separators.{Separators}
 use Rattle.form.specs.Header.{splitting}
 use Rattle.form.proofs.HeaderRule.{SoundHeader}
 use Rattle.order.specs.Followers.{followers}
-use Rattle.order.specs.Watcher.{listed}
+use Rattle.order.specs.Watcher.{followsBy}
 use Rattle.line.specs.Lines.{Lines, end, fault, line, walkFrom, walk, texts, faultNumber, faultPlace}
 use Rattle.line.specs.Finding.{textRun, foundAt, handedOut, endedLine}
 use Rattle.line.specs.Joining.{letterA, addendum, carried, joined}
@@ -84,7 +84,7 @@ module _ (L : Limits) (ps : Separators) (m : List ℕ) (at : ℕ) (s : Survey) w
   -- that is no addendum begins a segment
   segment-begins :
       (table : List ℕ) → table ≡ followers → at < length m → Underway L ps m at s → addendum (ps .field) (drop at m) ≡ false
-      → LineBegun L ps m at at (nextSegment (closed (listed table) s))
+      → LineBegun L ps m at at (nextSegment (closed (followsBy table) s))
   segment-begins table is some w a =
       record {
         done = w .done ++ w .last ∷ [];
@@ -149,7 +149,7 @@ module _ {L : Limits} {ps : Separators} {m : List ℕ} {at from : ℕ} {s : Surv
 
   -- or one that begins a segment, once the open one is closed
   pub begins-next : {table : List ℕ} {shut next : Survey} → table ≡ followers → from ≡ at → at < length m
-      → shut ≡ closed (listed table) s → next ≡ nextSegment shut → LineBegun L ps m at from next
+      → shut ≡ closed (followsBy table) s → next ≡ nextSegment shut → LineBegun L ps m at from next
   begins-next {table = table} {next = next} is here some shuts opens =
       let segment = begins-segment (ps .field) at (drop at m) (sym is-from ∙ here) in
       subst⁻¹ (λ (n : ℕ). LineBegun L ps m at n next) here
@@ -309,7 +309,7 @@ message-begins L ps m b wide h =
 
 -- the last line has been seen: no fault, and all that is asked of the segments is known
 pub survey-ends : {L : Limits} {ps : Separators} {m : List ℕ} {at : ℕ} {s shut : Survey} {table : List ℕ}
-    → Underway L ps m at s → table ≡ followers → length m ≤ at → shut ≡ closed (listed table) s
+    → Underway L ps m at s → table ≡ followers → length m ≤ at → shut ≡ closed (followsBy table) s
     → (faultNumber (walk L m) ≡ 0) × Known ps (joined (ps .field) (texts (walk L m))) shut
 unfolding texts faultNumber carried joined
 survey-ends {L} {ps} {m} {at} {s} {shut} {table} w is past shuts =
@@ -320,6 +320,6 @@ survey-ends {L} {ps} {m} {at} {s} {shut} {table} w is past shuts =
     ∙ ap (λ (t : List ℕ). w .done ++ t ∷ []) (append-nil (w .last)) in (
       w .left .fault .number ∙ ap faultNumber over,
       subst⁻¹ (Known ps (joined (ps .field) (texts (walk L m)))) shuts
-          (subst⁻¹ (λ (ss : List (List ℕ)). Known ps ss (closed (listed table) s)) all
+          (subst⁻¹ (λ (ss : List (List ℕ)). Known ps ss (closed (followsBy table) s)) all
           (seen-closed ps s table is (w .done) (w .last) (w .seen))),
     )

@@ -11,13 +11,14 @@ use lib.Dec.{leb, ltb}
 use lib.ListN.{length}
 use lib.Seq.{length-take-le}
 use borrow.Author.Tests.{leb-true, le-leb}
+use Rattle.laws.proofs.Every.{all-first, all-rest}
 use Rattle.laws.proofs.Tests.{Tested, passed, failed, tested, and-first, and-second, and-both}
 use Rattle.form.specs.declared.limits.Limits.{Limits}
 use Rattle.form.specs.Limits.{Lawful}
 use Rattle.form.specs.Numbers.{shortOutput, noTable}
 use Rattle.line.specs.Lines.{walk, texts}
 use Rattle.line.specs.Cutting.{cuts}
-use Rattle.line.proofs.Walking.{texts-linesOf}
+use Rattle.line.proofs.Walking.{texts-given}
 use Rattle.line.proofs.Written.{walk-written}
 use Rattle.table.specs.Filed.{headerBytes}
 use Rattle.table.specs.Rows.{Table, segmentRowSize, leafRowSize, textOf}
@@ -128,9 +129,9 @@ module _ (L : Limits) (lawful : Lawful L) (levels : ℕ → ℕ → ℕ) where
     accepted-lines =
         ap (λ (s : List ℕ). texts (walk L s)) (table-written lawful w)
         ∙ ap texts
-        (walk-written L lawful (w .separators .field) (header-text (w .separators) (accepted-header lawful w .allowed) .1 .0)
+        (walk-written L lawful (w .separators .field) (all-first (all-rest (header-text (w .separators) (accepted-header lawful w .allowed))))
         (segmentsOfAccepted lawful w) (accepted-worded lawful w))
-        ∙ texts-linesOf (cuts L (w .separators .field) (segmentsOfAccepted lawful w))
+        ∙ texts-given (cuts L (w .separators .field) (segmentsOfAccepted lawful w))
         ∙ sym (table-lines lawful w)
 
   -- what the writer answers: 12, then 13, else the message and its lines
