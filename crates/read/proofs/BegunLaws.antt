@@ -14,7 +14,7 @@ use Rattle.order.specs.Levels.{levelIn}
 use Rattle.order.specs.Owning.{noRows, placeOf, added, owned, knownAfter}
 use Rattle.order.proofs.Coming.{length-owned, owned-last, known-last}
 use Rattle.table.specs.Leaves.{Leaf, kindOfSegment, messageLeaves}
-use Rattle.table.specs.Rows.{segmentRowsFrom, kindsOf, allLeaves}
+use Rattle.table.specs.Rows.{segmentRowSize, leafRowSize, segmentRow, segmentRowsFrom, kindsOf, allLeaves}
 use Rattle.table.specs.Flat.{leaf, Without, Pass, step, ended}
 use Rattle.table.specs.OnePass.{passOver}
 use Rattle.table.proofs.Counting.{length-segmentLeaves, length-headerLeaves}
@@ -24,7 +24,7 @@ use Rattle.read.specs.declared.fill.Filling.{Filling}
 use Rattle.read.specs.declared.fill.Line.{Line}
 use Rattle.read.specs.Classes.{classTable}
 use Rattle.read.specs.Laying.{nextSegment, Held}
-use Rattle.read.specs.Segments.{segmentRow, ClosedBy, begunAfter, lineText, LineFilled, closedRows, Begun}
+use Rattle.read.specs.Segments.{ClosedBy, begunAfter, lineText, LineFilled, closedRows, Begun}
 use Rattle.read.proofs.HeldLaws.{Ends, segment-closes, held-segment, held-ended}
 
 -- each segment has a leaf
@@ -33,15 +33,15 @@ unfolding leavesBehind
 leaves-some ps [] s = omega (arith, length-headerLeaves ps s)
 leaves-some ps (h ∷ ss) s = omega (arith, length-segmentLeaves ps (2 + length ss) s)
 
--- the rows of closed segments: four numbers each, and one row more behind them
+-- the rows of closed segments: a row each, and one row more behind them
 module _ (lv : ℕ → ℕ) (ps : Separators) where
-  pub length-closedRows : (closed : List (List ℕ)) → length (closedRows lv ps closed) ≡ length closed * 4
+  pub length-closedRows : (closed : List (List ℕ)) → length (closedRows lv ps closed) ≡ length closed * segmentRowSize
   unfolding closedRows
   length-closedRows closed =
       length-segmentRows 1 (kindsOf ps closed) (owned lv noRows 1 (kindsOf ps closed)) (messageLeaves ps closed)
       (length-owned lv noRows 1 (kindsOf ps closed))
       (length-messageLeaves ps closed ∙ sym (length-kinds ps closed))
-      ∙ ap (λ (n : ℕ). n * 4) (length-kinds ps closed)
+      ∙ ap (λ (n : ℕ). n * segmentRowSize) (length-kinds ps closed)
 
   -- the owner of a kind by what is known of those before it
   abbrev ownerBehind : List (List ℕ) → ℕ → ℕ
@@ -68,7 +68,7 @@ module _ {lv : ℕ → ℕ} {ps : Separators} {text₀ segments₀ leaves₀ : L
   so-far = closed ++ (begun ∷ [])
 
   -- how many leaves there are, the one begun among them, seven numbers each
-  pub begun-leaves : f .laying .row + 7 ≡ length (allLeaves ps so-far) * 7
+  pub begun-leaves : f .laying .row + leafRowSize ≡ length (allLeaves ps so-far) * leafRowSize
   unfolding ended
   begun-leaves =
       omega (
@@ -79,7 +79,7 @@ module _ {lv : ℕ → ℕ} {ps : Separators} {text₀ segments₀ leaves₀ : L
       )
 
   -- and how many of them are the segment's own
-  pub begun-own : f .laying .row + 7 ≡ length (allLeaves ps closed) * 7 + length (leavesBehind ps closed begun) * 7
+  pub begun-own : f .laying .row + leafRowSize ≡ length (allLeaves ps closed) * leafRowSize + length (leavesBehind ps closed begun) * leafRowSize
   begun-own =
       omega (
         arith,
@@ -117,18 +117,18 @@ module _ {lv : ℕ → ℕ} {ps : Separators} {text₀ segments₀ leaves₀ : L
 
     pub closed-rows : segments′ ≡ sets segments₀ 0 (closedRows lv ps so-far)
     closed-rows =
-        let count : f .laying .row / 7 + 2 - f .first ≡ length (leavesBehind ps closed begun) = omega (arith, begun-own, b .first) in
+        let count : f .laying .row / leafRowSize + 2 - f .first ≡ length (leavesBehind ps closed begun) = omega (arith, begun-own, b .first) in
         let first : f .first ≡ 1 + length (allLeaves ps closed) = omega (arith, b .first) in
-        let place : (f .laying .segment - 1) * 4 ≡ length (closedRows lv ps closed)
+        let place : (f .laying .segment - 1) * segmentRowSize ≡ length (closedRows lv ps closed)
         = omega (arith, length-closedRows lv ps closed, b .number) in
         w .row
-        ∙ ap₂ (λ (s r : List ℕ). sets s ((f .laying .segment - 1) * 4) r) (b .rows)
-        (ap₂ (λ (x o : ℕ). segmentRow x o (f .first) (f .laying .row / 7 + 2 - f .first)) is owner-by
+        ∙ ap₂ (λ (s r : List ℕ). sets s ((f .laying .segment - 1) * segmentRowSize) r) (b .rows)
+        (ap₂ (λ (x o : ℕ). segmentRow x o (f .first) (f .laying .row / leafRowSize + 2 - f .first)) is owner-by
         ∙ ap₂ (λ (n m : ℕ). segmentRow (kindOfSegment ps begun) (ownerBehind lv ps closed (kindOfSegment ps begun)) n m) first count)
         ∙ sets-behind segments₀ (closedRows lv ps closed)
         (segmentRow (kindOfSegment ps begun) (ownerBehind lv ps closed (kindOfSegment ps begun)) (1 + length (allLeaves ps closed))
         (length (leavesBehind ps closed begun)))
-        ((f .laying .segment - 1) * 4) place
+        ((f .laying .segment - 1) * segmentRowSize) place
         ∙ ap (sets segments₀ 0) (sym (closedRows-last lv ps closed begun))
 
     -- and it is known itself

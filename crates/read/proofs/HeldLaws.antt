@@ -21,7 +21,7 @@ use Rattle.form.specs.Header.{splitting}
 use Rattle.line.specs.Lines.{CR}
 use Rattle.table.specs.Leaves.{Leaf}
 use Rattle.table.specs.Flat.{Pass, leaf, ones, raised, step, steps, ended}
-use Rattle.table.specs.Rows.{leafRowsFrom, textOf}
+use Rattle.table.specs.Rows.{leafRowSize, leafRowsFrom, textOf}
 use Rattle.table.proofs.Flat.{raised-here}
 use Rattle.table.proofs.Passes.{step-separator}
 use Rattle.table.proofs.Closing.{withText, steps-text, text-last, leafRow, rows-last, length-rows}
@@ -46,7 +46,7 @@ outTo l out =
 
 -- the leaf begun is closed: one row more, and the next leaf begins where the text ends
 pub record Closes (l next : Laying) : Type 0 where
-  pub row : next .row ≡ l .row + 7
+  pub row : next .row ≡ l .row + leafRowSize
   pub begin : next .begin ≡ l .out
   pub out : next .out ≡ l .out
   pub counted : Counted l → Counted next

@@ -21,6 +21,7 @@ use Rattle.laws.proofs.Every.{all-append, all-drop}
 use Rattle.form.specs.declared.limits.Limits.{Limits}
 use Rattle.form.specs.declared.separators.Separators.{Separators}
 use Rattle.form.specs.Header.{splitting}
+use Rattle.form.proofs.Packing.{Bytes}
 use Rattle.line.specs.Lines.{Lines, line, CR, space, walkFrom, walk, texts, faultNumber}
 use Rattle.line.specs.Joining.{letterA, addendum, carried, joined}
 use Rattle.line.specs.Finding.{textRun}
@@ -33,19 +34,15 @@ use Rattle.line.proofs.Standing.{textRun-later, nextPlace, LineHere, line-here,
 use Rattle.table.specs.Rows.{allLeaves}
 use Rattle.table.specs.Flat.{Without}
 use Rattle.table.specs.Filed.{Filed}
+use Rattle.table.proofs.Filing.{text-clear}
 use Rattle.table.proofs.Growing.{filed-grows, leaves-grow}
 use Rattle.read.specs.Classes.{classTable}
 use Rattle.read.specs.Scan.{run, marks}
 use Rattle.read.specs.Filling.{segmentsIn}
 use Rattle.read.specs.Segments.{lineText, lineAfter, Left}
-use Rattle.read.proofs.ScanLaws.{Bytes, run-text, marks-separators}
+use Rattle.read.proofs.ScanLaws.{run-text, marks-separators}
 
--- text has no CR
-
-text-clear : (t : List ℕ) → Text t → Without CR t
-text-clear [] h = none
-text-clear (b ∷ t) h = also (ne-eqb b CR (λ e. let low = h .0 in omega arith)) (text-clear t (h .1))
-
+-- the text that a list begins with has no CR
 run-clear : (s : List ℕ) → Without CR (take (textRun s) s)
 run-clear [] = rw textRun-nil none
 run-clear (b ∷ s) =

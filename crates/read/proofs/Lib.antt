@@ -17,7 +17,7 @@ pub mod BegunLaws
 pub mod LeftLaws
 pub mod StandLaws
 pub mod HeaderLaws
-pub mod Judging
+pub mod Deciding
 pub mod Answering
 pub mod OnlyOne
 pub mod Acceptance

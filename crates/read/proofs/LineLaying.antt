@@ -11,8 +11,10 @@ use Rattle.laws.specs.Lists.{among}
 use Rattle.laws.specs.Every.{All}
 use Rattle.laws.proofs.Every.{all-at, all-drop}
 use Rattle.form.specs.Header.{splitting}
+use Rattle.form.proofs.Packing.{Bytes}
 use Rattle.line.specs.Lines.{CR}
 use Rattle.table.specs.Flat.{step, steps}
+use Rattle.table.specs.Rows.{leafRowSize, width}
 use Rattle.table.proofs.Passes.{steps-append}
 use Rattle.read.specs.declared.lay.Laying.{Laying}
 use Rattle.read.specs.declared.lay.Laid.{Laid}
@@ -21,10 +23,6 @@ use Rattle.read.specs.Laying.{rowOf, nextLeaf, Counted, Held, Lays, Laid
 use Rattle.read.proofs.PlainLaws.{textFrom, lineFrom, run-split, marks-split, line-split, length-text, no-text, run-turn, run-stop, marks-turn, marks-stop, line-turn}
 use Rattle.read.proofs.ClassLaws.{plain-passes}
 use Rattle.read.proofs.HeldLaws.{outTo, leaf-closes, leaf-segment, held-text, held-separator}
-
--- that each byte of a message is one
-abbrev pub Bytes : List ℕ → Type 0
-Bytes message = All (λ (b : ℕ). b < 256) message
 
 -- the n bytes of text from the byte i on are copied, behind the text so far
 abbrev pub Copied : List ℕ → List ℕ → ℕ → Laying → List ℕ → ℕ → List ℕ → Type 0
@@ -147,7 +145,7 @@ text-fits {class} {message} {i} asked = let split = run-split class message i (i
 
 pub row-fits : {class message : List ℕ} {i : ℕ} {l : Laying} {text leaves : List ℕ} → Lays class message i l text leaves
     → (n : ℕ) → n ≡ getD message i 0 → (getD class n 0 ≡ 5 → ⊥) → (getD class (getD message i 0) 0 ≡ 0 → ⊥)
-    → (l .row + 7 ≤ length leaves) × (l .row < 65535 * 7) × (l .out < 65536) × Counted l
+    → (l .row + leafRowSize ≤ length leaves) × (l .row + leafRowSize < width * leafRowSize) × (l .out < width) × Counted l
 row-fits {class} {message} {i} asked n e no-end other =
     let mark = marks-turn class message i (omega arith) (λ z. no-end (ap (λ (b : ℕ). getD class b 0) e ∙ z)) other in
     (omega arith, omega arith, omega arith, asked .counted)

@@ -11,7 +11,7 @@ use lib.Dec.{eqb}
 use lib.ListN.{length, getD, take, drop}
 use borrow.Author.Tests.{lt-ltb, le-ltb}
 use Rattle.laws.specs.Lists.{among, count}
-use Rattle.laws.specs.Every.{All, none, also}
+use Rattle.laws.specs.Every.{none, also}
 use Rattle.laws.proofs.Cases.{less-or-not}
 use Rattle.laws.proofs.Tests.{either}
 use Rattle.laws.proofs.Lists.{first-within, first-not-among, first-among}
@@ -19,6 +19,7 @@ use Rattle.laws.proofs.Parts.{part-cons, part-none}
 use Rattle.laws.proofs.Tables.{getD-values-zero}
 use Rattle.form.specs.declared.separators.Separators.{Separators}
 use Rattle.form.specs.Header.{splitting}
+use Rattle.form.proofs.Packing.{Bytes}
 use Rattle.line.specs.Finding.{textRun}
 use Rattle.line.proofs.Runs.{textRun-nil, textRun-more, textRun-stop}
 use Rattle.read.specs.Classes.{sortOf, classOf, classTable}
@@ -115,9 +116,6 @@ module _ (ps : Separators) (b : ℕ) where
   unfolding sortOf
   sort-some h = first-among b 1 (splitting ps) h
 
--- every element is a byte
-abbrev pub Bytes : List ℕ → Type 0
-Bytes s = All (λ (b : ℕ). b < 256) s
 
 module _ (ps : Separators) where
   stops-low : (b : ℕ) → b < 256 → b < 32 → getD (classTable ps) b 0 ≡ 5

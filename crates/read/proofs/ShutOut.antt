@@ -21,7 +21,7 @@ use Rattle.table.proofs.Accepting.{refuse-passed}
 use Rattle.table.proofs.Examples.{examples-hold}
 use Rattle.read.specs.declared.Answer.{Answer}
 use Rattle.read.specs.Answering.{answerOf, segmentsPut, leavesPut, roomOf, Gives, ReadAs}
-use Rattle.read.proofs.OwnersColumn.{front-at, roomy-segments, roomy-leaves}
+use Rattle.table.proofs.Room.{front-at, roomy-segments, roomy-leaves}
 
 -- what an example says of the outcome
 says-accepted : (o : Outcome) {t : Table} {bytes : ℕ} {lines : List ℕ} → says o ≡ files t bytes lines → o ≡ accepted t

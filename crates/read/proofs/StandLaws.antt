@@ -1,4 +1,4 @@
--- The second pass line by line: there is room for a line and for the rows it closes; after it the pass stands at the next place, where an
+-- The second pass line by line: tline-readable is room for a line and for the rows it closes; after it the pass stands at the next place, wline-readable an
 -- addendum goes on with the segment begun, any other line with the next one, and at the message's end the buffers hold the table.
 -- Assumes nothing.
 use mathlib.Core.List.{List, [], _∷_, _++_, append-assoc}
@@ -10,35 +10,37 @@ use lib.ListN.{length, getD, drop}
 use lib.Seq.{sets, length-sets}
 use Rattle.laws.proofs.Tests.{Tested, passed, failed, tested}
 use Rattle.laws.proofs.Cases.{less-or-not}
+use Rattle.form.specs.declared.limits.Limits.{Limits}
 use Rattle.form.specs.declared.separators.Separators.{Separators}
 use Rattle.form.proofs.HeaderRule.{sound-header}
+use Rattle.form.proofs.Packing.{Bytes}
 use Rattle.line.specs.Joining.{addendum}
 use Rattle.order.specs.Levels.{levelIn}
 use Rattle.order.specs.Owners.{owners}
 use Rattle.order.proofs.Owner.{owned-owners}
 use Rattle.table.specs.Leaves.{kindOfSegment, messageLeaves}
-use Rattle.table.specs.Rows.{segmentRowsFrom, leafRowsFrom, textOf, kindsOf, allLeaves, tableOf}
+use Rattle.table.specs.Rows.{leafRowSize, width, segmentRowsFrom, leafRowsFrom, textOf, kindsOf, allLeaves, tableOf}
 use Rattle.read.specs.declared.fill.Filling.{Filling}
 use Rattle.read.specs.declared.fill.Line.{Line}
 use Rattle.read.specs.Scan.{run}
 use Rattle.read.specs.Starting.{textFrom}
 use Rattle.read.specs.Laying.{nextSegment, Counted, Lays}
-use Rattle.read.specs.Filling.{segmentsIn, tableIn, Filled}
-use Rattle.read.specs.Segments.{kindNoted, Closable, ClosedBy, begunAfter, lineText, lineAfter, LineFilled, closedRows, Begun, Left, Came, Surveyed, Stands, AtLine}
+use Rattle.read.specs.Filling.{segmentsIn, tableIn, Fillable, Filled}
+use Rattle.read.specs.Segments.{kindNoted, Closable, ClosedBy, begunAfter, lineText, lineAfter, LineFilled, closedRows, Begun, Left, Came, Stands, AtLine}
 use Rattle.read.proofs.KindLookup.{kind-found}
 use Rattle.read.proofs.BegunLaws.{leaves-some, begun-leaves, begun-own, begun-joined, closed-rows, begun-next, begun-ends}
 use Rattle.read.proofs.StartLaws.{begins-segment, carries-on, carried-from, from-past}
 use Rattle.read.proofs.LeftLaws.{Readable, line-clear, addendum-within, segment-within, left-addendum, left-segment, left-none, segments-left, leaves-left, leaves-line}
 
-pub readable : {c : Came} {class kinds levels : List ℕ} {context : ℕ} {ps : Separators} {m : List ℕ} → Surveyed c class kinds levels context ps m
-    → Readable (c .limits) ps class m
-readable {ps = ps} {m = m} y =
-    let header = sound-header m ps (y .given .header) in
+pub readable : {L : Limits} {class kinds : List ℕ} {ps : Separators} {context : ℕ} {m : List ℕ} → Fillable L class kinds ps context m → Bytes m
+    → Readable L ps class m
+readable {ps = ps} {m = m} given bytes =
+    let header = sound-header m ps (given .header) in
     record {
-      one = omega (arith, y .given .lawful .header);
+      one = omega (arith, given .fits .lawful .header);
       high = omega (arith, header .allowed .field .low);
-      classes = y .given .classes;
-      bytes = y .bytes;
+      classes = given .classes;
+      bytes = bytes;
     }
 
 -- the buffers keep their lengths
@@ -56,20 +58,23 @@ module _ {lv : ℕ → ℕ} {ps : Separators} {text₀ segments₀ leaves₀ : L
 -- a line from `from` on, whose text goes to the segment begun
 module _ {c : Came} {class kinds levels : List ℕ} {context : ℕ} {ps : Separators} {m : List ℕ} {from : ℕ} {f : Filling}
     {nearest text segments leaves : List ℕ} (j : AtLine c class kinds levels context ps m from f nearest text segments leaves) where
+  line-readable : Readable (c .limits) ps class m
+  line-readable = readable (j .prepared .given) (j .bytes)
+
   pub line-lays : Lays class m from (f .laying) text leaves
   line-lays =
-      let given = j .surveyed .given in
-      let few = leaves-line (readable (j .surveyed)) (j .closed) (j .begun) (j .begins .filed) from (lineAfter class m from) (j .left) in
+      let given = j .prepared .given in
+      let few = leaves-line line-readable (j .closed) (j .begun) (j .begins .filed) from (lineAfter class m from) (j .left) in
       let rows = begun-leaves (j .begins) in
       let text-same = text-kept (j .begins) in
       let leaves-same = leaves-kept (j .begins) in
       let behind = j .behind in
       record {
         ahead = j .inside;
-        room = omega (arith, j .inside, given .bytes, given .textRoom);
-        short = omega (arith, j .inside, given .bytes, given .small);
-        rows = omega (arith, given .fewLeaves, given .leafRoom);
-        few = omega (arith, given .fewLeaves, given .leavesSmall);
+        room = omega (arith, j .inside, given .bytes, j .prepared .textRoom);
+        short = omega (arith, j .inside, given .bytes, given .fits .bytes);
+        rows = omega (arith, given .fewLeaves, j .prepared .leafRoom);
+        few = omega (arith, given .fewLeaves, given .fits .leaves);
         counted = j .begins .counted;
       }
 
@@ -81,10 +86,11 @@ module _ {c : Came} {class kinds levels : List ℕ} {context : ℕ} {ps : Separa
       let behind = j .behind in
       let inside = j .inside in
       record {
-        surveyed = j .surveyed;
+        prepared = j .prepared;
+        bytes = j .bytes;
         closed = j .closed;
         begun = j .begun ++ lineText class m from;
-        begins = begun-joined (j .begins) (j .surveyed .given .classes) (line-clear (readable (j .surveyed)) from) filled;
+        begins = begun-joined (j .begins) (j .prepared .given .classes) (line-clear line-readable from) filled;
         left = subst⁻¹ (Left (c .limits) ps m (j .closed) (j .begun ++ lineText class m from)) next (j .left);
         behind = omega arith;
         within = omega arith;
@@ -93,15 +99,18 @@ module _ {c : Came} {class kinds levels : List ℕ} {context : ℕ} {ps : Separa
 -- closing the segment begun
 module _ {c : Came} {class kinds levels : List ℕ} {context : ℕ} {ps : Separators} {m : List ℕ} {at : ℕ} {f : Filling}
     {nearest text segments leaves : List ℕ} (w : Stands c class kinds levels context ps m at f nearest text segments leaves) where
-  row-few : f .laying .row + 7 ≤ c .limits .leaves * 7
+  stands-readable : Readable (c .limits) ps class m
+  stands-readable = readable (w .prepared .given) (w .bytes)
+
+  row-few : f .laying .row + leafRowSize ≤ c .limits .leaves * leafRowSize
   row-few =
-      let few = leaves-left (readable (w .surveyed)) (w .closed) (w .begun) (w .begins .filed) at (w .left) in
+      let few = leaves-left stands-readable (w .closed) (w .begun) (w .begins .filed) at (w .left) in
       let rows = begun-leaves (w .begins) in
-      omega (arith, w .surveyed .given .fewLeaves)
+      omega (arith, w .prepared .given .fewLeaves)
 
   pub stands-closable : Closable f kinds segments leaves
   stands-closable =
-      let given = w .surveyed .given in
+      let given = w .prepared .given in
       let few = row-few in
       let own = begun-own (w .begins) in
       let some-leaf = leaves-some ps (w .closed) (w .begun) in
@@ -111,25 +120,25 @@ module _ {c : Came} {class kinds levels : List ℕ} {context : ℕ} {ps : Separa
       let segments-same = segments-kept (w .begins) in
       let leaves-same = leaves-kept (w .begins) in
       record {
-        leafRoom = omega (arith, given .leafRoom);
-        fewLeaves = omega (arith, given .leavesSmall);
-        short = omega (arith, w .within, given .bytes, given .small);
+        leafRoom = omega (arith, w .prepared .leafRoom);
+        fewLeaves = omega (arith, given .fits .leaves);
+        short = omega (arith, w .within, given .bytes, given .fits .bytes);
         counted = w .begins .counted;
         numbered = omega arith;
-        noted = omega (arith, w .surveyed .all);
-        segmentRoom = omega (arith, given .few, given .segmentRoom);
+        noted = omega (arith, w .prepared .given .all);
+        segmentRoom = omega (arith, given .few, w .prepared .segmentRoom);
         begins = omega arith;
         some = omega arith;
       }
 
-  pub stands-next : (f .laying .row < 65535 * 7) × Counted (f .laying)
+  pub stands-next : (f .laying .row + leafRowSize < width * leafRowSize) × Counted (f .laying)
   stands-next = (stands-closable .fewLeaves, stands-closable .counted)
 
   -- the kind noted of the segment begun is its own, once no line carries it on
   kind-own : (rest : List (List ℕ)) → segmentsIn (c .limits) ps m ≡ w .closed ++ (w .begun ∷ rest) → kindNoted kinds f ≡ kindOfSegment ps (w .begun)
   kind-own rest whole =
       let place : f .laying .segment - 1 ≡ length (w .closed) = omega (arith, w .begins .number) in
-      ap (λ (n : ℕ). getD kinds n 0) place ∙ kind-found ps kinds (w .surveyed .noted) (w .surveyed .all) (w .closed) (w .begun) rest whole
+      ap (λ (n : ℕ). getD kinds n 0) place ∙ kind-found ps kinds (w .prepared .given .noted) (w .prepared .given .all) (w .closed) (w .begun) rest whole
 
   -- the line at `at` is an addendum: its text after the mark goes to the segment begun
   pub stands-addendum : {from : ℕ} → from ≡ textFrom (ps .field) at (drop at m) → (from ≡ at → ⊥)
@@ -142,15 +151,16 @@ module _ {c : Came} {class kinds levels : List ℕ} {context : ℕ} {ps : Separa
       = ⊎-elim (λ less. less) (λ none-left. absurd (other (from-past (ps .field) at m none-left))) (less-or-not at (length m)) in
       let behind = w .behind in
       record {
-        surveyed = w .surveyed;
+        prepared = w .prepared;
+        bytes = w .bytes;
         closed = w .closed;
         begun = w .begun;
         begins = w .begins;
         left =
             subst⁻¹ (λ (j : ℕ). Left (c .limits) ps m (w .closed) (w .begun ++ lineText class m j) (lineAfter class m j)) start
-            (left-addendum (readable (w .surveyed)) (w .left) h marked);
+            (left-addendum stands-readable (w .left) h marked);
         inside =
-            subst⁻¹ (λ (j : ℕ). j + run class (drop j m) < length m) start (addendum-within (readable (w .surveyed)) (w .left) h marked);
+            subst⁻¹ (λ (j : ℕ). j + run class (drop j m) < length m) start (addendum-within stands-readable (w .left) h marked);
         behind = omega arith;
       }
 
@@ -161,16 +171,17 @@ module _ {c : Came} {class kinds levels : List ℕ} {context : ℕ} {ps : Separa
   unfolding nextSegment
   stands-segment h {from} e here {nearest′} {segments′} {leaves′} closes {g} is =
       let other = begins-segment (ps .field) at (drop at m) (sym e ∙ here) in
-      let next = left-segment (readable (w .surveyed)) (w .left) h other in
+      let next = left-segment stands-readable (w .left) h other in
       subst⁻¹ (λ (j : ℕ). AtLine c class kinds levels context ps m j g nearest′ text segments′ leaves′) here
       (subst⁻¹ (λ (k : Filling). AtLine c class kinds levels context ps m at k nearest′ text segments′ leaves′) is
       (record {
-        surveyed = w .surveyed;
+        prepared = w .prepared;
+        bytes = w .bytes;
         closed = w .closed ++ (w .begun ∷ []);
         begun = [];
         begins = begun-next (w .begins) (λ k. refl) (kind-own _ (next .whole ∙ append-assoc (w .closed) (w .begun ∷ []) _)) closes;
         left = next;
-        inside = segment-within (readable (w .surveyed)) (w .left) h;
+        inside = segment-within stands-readable (w .left) h;
         behind = w .behind;
       }))
 
@@ -188,7 +199,7 @@ module _ {c : Came} {class kinds levels : List ℕ} {context : ℕ} {ps : Separa
     unfolding closedRows
     rows-owned ss =
         ap (λ (os : List ℕ). segmentRowsFrom 1 (kindsOf ps ss) os (messageLeaves ps ss))
-        (owned-owners (levelIn levels context) (w .surveyed .below context) (kindsOf ps ss))
+        (owned-owners (levelIn levels context) (w .prepared .below context) (kindsOf ps ss))
 
     pub stands-filled : Filled (tableIn (c .limits) levels ps m) (c .text) (c .segments) (c .leaves) text segments′ leaves′ (f .laying .out)
     unfolding tableOf
@@ -203,7 +214,7 @@ module _ {c : Came} {class kinds levels : List ℕ} {context : ℕ} {ps : Separa
               ∙ rows-owned (segmentsIn (c .limits) ps m)
               ∙ ap (λ (n : ℕ). segmentRowsFrom 1 (kindsOf ps (segmentsIn (c .limits) ps m))
               (owners (levelIn levels n) (kindsOf ps (segmentsIn (c .limits) ps m))) (messageLeaves ps (segmentsIn (c .limits) ps m)))
-              (w .surveyed .named));
+              (w .prepared .given .named));
           leafRows = ends .stored ∙ ap (λ (ss : List (List ℕ)). sets (c .leaves) 0 (leafRowsFrom 0 (allLeaves ps ss))) (sym whole);
           counted = sym (ends .reaches) ∙ ap (λ (ss : List (List ℕ)). length (textOf (allLeaves ps ss))) (sym whole);
         }

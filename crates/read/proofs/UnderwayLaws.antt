@@ -13,6 +13,7 @@ use Rattle.laws.proofs.Lists.{count-within}
 use Rattle.form.specs.declared.limits.Limits.{Limits}
 use Rattle.form.specs.declared.separators.Separators.{Separators}
 use Rattle.form.specs.Header.{splitting}
+use Rattle.form.proofs.Packing.{Bytes}
 use Rattle.form.proofs.HeaderRule.{SoundHeader}
 use Rattle.order.specs.Followers.{followers}
 use Rattle.order.specs.Watcher.{listed}
@@ -35,7 +36,7 @@ use Rattle.read.specs.Starting.{textFrom}
 use Rattle.read.specs.Seeing.{nothingSeen, withText, closed, nextSegment}
 use Rattle.read.specs.Surveying.{Known}
 use Rattle.read.specs.Underway.{Seen, SameFault, Left, Underway, LineBegun, StepOf}
-use Rattle.read.proofs.ScanLaws.{Bytes, run-text, marks-separators}
+use Rattle.read.proofs.ScanLaws.{run-text, marks-separators}
 use Rattle.read.proofs.StartLaws.{addendum-other, addendum-view, begins-segment, carries-on, carried-from, header-text}
 use Rattle.read.proofs.SeenLaws.{seen-begins, seen-text, seen-next, seen-closed}
 

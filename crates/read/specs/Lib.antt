@@ -10,5 +10,5 @@ pub mod Underway
 pub mod Filling
 pub mod Segments
 pub mod Answering
-pub mod Judging
+pub mod Deciding
 pub mod Sound

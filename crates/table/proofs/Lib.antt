@@ -20,6 +20,8 @@ pub mod LeafTexts
 pub mod RowTests
 pub mod Growing
 pub mod RowsGrowing
+pub mod Room
+pub mod SegmentColumns
 pub mod EndToEnd
 pub mod SegmentRows
 pub mod SoundRows
