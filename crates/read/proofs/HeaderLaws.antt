@@ -13,9 +13,10 @@ use Rattle.form.specs.declared.limits.Limits.{Limits}
 use Rattle.form.specs.declared.separators.Separators.{Separators}
 use Rattle.form.proofs.HeaderRule.{SoundHeader, sound-header}
 use Rattle.form.proofs.Packing.{Bytes}
-use Rattle.line.specs.Lines.{CR, walk}
+use Rattle.line.specs.Lines.{CR}
 use Rattle.line.specs.Joining.{addendum}
 use Rattle.line.specs.Finding.{textRun}
+use Rattle.line.specs.Left.{LeftAt}
 use Rattle.line.proofs.Runs.{textRun-more}
 use Rattle.order.specs.Levels.{levelIn}
 use Rattle.order.specs.Owning.{noRows, knownAfter}
@@ -29,8 +30,8 @@ use Rattle.table.proofs.Growing.{count-leaves}
 use Rattle.read.specs.declared.fill.Filling.{Filling}
 use Rattle.read.specs.Scan.{run}
 use Rattle.read.specs.Filling.{Prepared}
-use Rattle.read.specs.Segments.{HeaderPut, lineText, lineAfter, closedRows, Begun, Left, AtLine}
-use Rattle.read.proofs.LeftLaws.{no-addendum, line-within, left-begins, leaves-line}
+use Rattle.read.specs.Segments.{HeaderPut, lineText, lineAfter, closedRows, Begun, AtLine}
+use Rattle.read.proofs.LeftLaws.{no-addendum, line-within, first-line, left-begins, leaves-line}
 use Rattle.read.proofs.StandLaws.{readable}
 
 module _ {m : List ℕ} {ps : Separators} (s : SoundHeader m ps) where
@@ -82,14 +83,15 @@ module _ {L : Limits} {class kinds levels : List ℕ} {ps : Separators} {context
   header = sound-header m ps (y .given .header)
 
   -- the first line goes on after the header
-  first-left : Left L ps m [] (headerBytes ps ++ lineText class m 7) (lineAfter class m 7)
+  first-left : LeftAt L (ps .field) m [] (headerBytes ps ++ lineText class m 7) (lineAfter class m 7)
   first-left =
-      subst (λ (t : List ℕ). Left L ps m [] (t ++ lineText class m 7) (lineAfter class m 7)) (header-bytes ps m header)
-      (left-begins (readable (y .given) bytes) (y .given .sound) (header-run header) (omega (arith, header .long)) (header-first header))
+      subst (λ (t : List ℕ). LeftAt L (ps .field) m [] (t ++ lineText class m 7) (lineAfter class m 7)) (header-bytes ps m header)
+      (left-begins (readable (y .given) bytes) (header-run header) (omega (arith, header .long)) (header-first header))
 
   first-within : 7 + run class (drop 7 m) < length m
-  unfolding walk
-  first-within = line-within (readable (y .given) bytes) 0 (omega (arith, header .long)) (y .given .sound) 7 (header-run header)
+  first-within =
+      let s = readable (y .given) bytes in
+      line-within s (first-line s (omega (arith, header .long))) 7 (header-run header)
 
   -- there is room for the header's bytes and rows
   pub header-fits : (5 ≤ length text₀) × (leafRowSize + leafRowSize ≤ length leaves₀)
@@ -120,8 +122,8 @@ module _ {L : Limits} {class kinds levels : List ℕ} {ps : Separators} {context
         record {
           prepared = y;
           bytes = bytes;
-          closed = [];
-          begun = headerBytes ps;
+          done = [];
+          last = headerBytes ps;
           begins = header-begun;
           left = first-left;
           inside = first-within;

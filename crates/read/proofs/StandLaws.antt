@@ -15,6 +15,8 @@ use Rattle.form.specs.declared.separators.Separators.{Separators}
 use Rattle.form.proofs.HeaderRule.{sound-header}
 use Rattle.form.proofs.Packing.{Bytes}
 use Rattle.line.specs.Joining.{addendum}
+use Rattle.line.specs.Left.{LeftAt}
+use Rattle.line.proofs.Left.{none-left, segments-left}
 use Rattle.order.specs.Levels.{levelIn}
 use Rattle.order.specs.Owners.{owners}
 use Rattle.order.proofs.Owner.{owned-owners}
@@ -26,11 +28,11 @@ use Rattle.read.specs.Scan.{run}
 use Rattle.read.specs.Starting.{textFrom}
 use Rattle.read.specs.Laying.{nextSegment, Counted, Lays}
 use Rattle.read.specs.Filling.{segmentsIn, tableIn, Fillable, Filled}
-use Rattle.read.specs.Segments.{kindNoted, Closable, ClosedBy, begunAfter, lineText, lineAfter, LineFilled, closedRows, Begun, Left, Came, Stands, AtLine}
+use Rattle.read.specs.Segments.{kindNoted, Closable, ClosedBy, begunAfter, lineText, lineAfter, LineFilled, closedRows, Begun, Came, Stands, AtLine}
 use Rattle.read.proofs.KindLookup.{kind-found}
 use Rattle.read.proofs.BegunLaws.{leaves-some, begun-leaves, begun-own, begun-joined, closed-rows, begun-next, begun-ends}
 use Rattle.read.proofs.StartLaws.{begins-segment, carries-on, carried-from, from-past}
-use Rattle.read.proofs.LeftLaws.{Readable, line-clear, addendum-within, segment-within, left-addendum, left-segment, left-none, segments-left, leaves-left, leaves-line}
+use Rattle.read.proofs.LeftLaws.{Readable, line-clear, addendum-within, segment-within, addendum-left, segment-left, leaves-left, leaves-line}
 
 pub readable : {L : Limits} {class kinds : List ℕ} {ps : Separators} {context : ℕ} {m : List ℕ} → Fillable L class kinds ps context m → Bytes m
     → Readable L ps class m
@@ -41,11 +43,12 @@ readable {ps = ps} {m = m} given bytes =
       high = omega (arith, header .allowed .field .low);
       classes = given .classes;
       bytes = bytes;
+      sound = given .sound;
     }
 
 -- the buffers keep their lengths
-module _ {lv : ℕ → ℕ} {ps : Separators} {text₀ segments₀ leaves₀ : List ℕ} {closed : List (List ℕ)} {begun : List ℕ} {f : Filling}
-    {nearest text segments leaves : List ℕ} (b : Begun lv ps text₀ segments₀ leaves₀ closed begun f nearest text segments leaves) where
+module _ {lv : ℕ → ℕ} {ps : Separators} {text₀ segments₀ leaves₀ : List ℕ} {done : List (List ℕ)} {last : List ℕ} {f : Filling}
+    {nearest text segments leaves : List ℕ} (b : Begun lv ps text₀ segments₀ leaves₀ done last f nearest text segments leaves) where
   pub text-kept : length text ≡ length text₀
   text-kept = ap length (b .held .texts) ∙ (simp length-sets)
 
@@ -64,7 +67,7 @@ module _ {c : Came} {class kinds levels : List ℕ} {context : ℕ} {ps : Separa
   pub line-lays : Lays class m from (f .laying) text leaves
   line-lays =
       let given = j .prepared .given in
-      let few = leaves-line line-readable (j .closed) (j .begun) (j .begins .filed) from (lineAfter class m from) (j .left) in
+      let few = leaves-line line-readable (j .done) (j .last) (j .begins .filed) from (lineAfter class m from) (j .left) in
       let rows = begun-leaves (j .begins) in
       let text-same = text-kept (j .begins) in
       let leaves-same = leaves-kept (j .begins) in
@@ -88,10 +91,10 @@ module _ {c : Came} {class kinds levels : List ℕ} {context : ℕ} {ps : Separa
       record {
         prepared = j .prepared;
         bytes = j .bytes;
-        closed = j .closed;
-        begun = j .begun ++ lineText class m from;
+        done = j .done;
+        last = j .last ++ lineText class m from;
         begins = begun-joined (j .begins) (j .prepared .given .classes) (line-clear line-readable from) filled;
-        left = subst⁻¹ (Left (c .limits) ps m (j .closed) (j .begun ++ lineText class m from)) next (j .left);
+        left = subst⁻¹ (LeftAt (c .limits) (ps .field) m (j .done) (j .last ++ lineText class m from)) next (j .left);
         behind = omega arith;
         within = omega arith;
       }
@@ -104,7 +107,7 @@ module _ {c : Came} {class kinds levels : List ℕ} {context : ℕ} {ps : Separa
 
   row-few : f .laying .row + leafRowSize ≤ c .limits .leaves * leafRowSize
   row-few =
-      let few = leaves-left stands-readable (w .closed) (w .begun) (w .begins .filed) at (w .left) in
+      let few = leaves-left stands-readable (w .done) (w .last) (w .begins .filed) at (w .left) in
       let rows = begun-leaves (w .begins) in
       omega (arith, w .prepared .given .fewLeaves)
 
@@ -113,10 +116,10 @@ module _ {c : Came} {class kinds levels : List ℕ} {context : ℕ} {ps : Separa
       let given = w .prepared .given in
       let few = row-few in
       let own = begun-own (w .begins) in
-      let some-leaf = leaves-some ps (w .closed) (w .begun) in
+      let some-leaf = leaves-some ps (w .done) (w .last) in
       let number = w .begins .number in
       let first = w .begins .first in
-      let in-all = segments-left (w .left) in
+      let in-all = segments-left (c .limits) m at (w .left) in
       let segments-same = segments-kept (w .begins) in
       let leaves-same = leaves-kept (w .begins) in
       record {
@@ -135,10 +138,10 @@ module _ {c : Came} {class kinds levels : List ℕ} {context : ℕ} {ps : Separa
   stands-next = (stands-closable .fewLeaves, stands-closable .counted)
 
   -- the kind noted of the segment begun is its own, once no line carries it on
-  kind-own : (rest : List (List ℕ)) → segmentsIn (c .limits) ps m ≡ w .closed ++ (w .begun ∷ rest) → kindNoted kinds f ≡ kindOfSegment ps (w .begun)
+  kind-own : (rest : List (List ℕ)) → segmentsIn (c .limits) ps m ≡ w .done ++ (w .last ∷ rest) → kindNoted kinds f ≡ kindOfSegment ps (w .last)
   kind-own rest whole =
-      let place : f .laying .segment - 1 ≡ length (w .closed) = omega (arith, w .begins .number) in
-      ap (λ (n : ℕ). getD kinds n 0) place ∙ kind-found ps kinds (w .prepared .given .noted) (w .prepared .given .all) (w .closed) (w .begun) rest whole
+      let place : f .laying .segment - 1 ≡ length (w .done) = omega (arith, w .begins .number) in
+      ap (λ (n : ℕ). getD kinds n 0) place ∙ kind-found ps kinds (w .prepared .given .noted) (w .prepared .given .all) (w .done) (w .last) rest whole
 
   -- the line at `at` is an addendum: its text after the mark goes to the segment begun
   pub stands-addendum : {from : ℕ} → from ≡ textFrom (ps .field) at (drop at m) → (from ≡ at → ⊥)
@@ -153,14 +156,14 @@ module _ {c : Came} {class kinds levels : List ℕ} {context : ℕ} {ps : Separa
       record {
         prepared = w .prepared;
         bytes = w .bytes;
-        closed = w .closed;
-        begun = w .begun;
+        done = w .done;
+        last = w .last;
         begins = w .begins;
         left =
-            subst⁻¹ (λ (j : ℕ). Left (c .limits) ps m (w .closed) (w .begun ++ lineText class m j) (lineAfter class m j)) start
-            (left-addendum stands-readable (w .left) h marked);
+            subst⁻¹ (λ (j : ℕ). LeftAt (c .limits) (ps .field) m (w .done) (w .last ++ lineText class m j) (lineAfter class m j)) start
+            (addendum-left stands-readable at (w .left) h marked);
         inside =
-            subst⁻¹ (λ (j : ℕ). j + run class (drop j m) < length m) start (addendum-within stands-readable (w .left) h marked);
+            subst⁻¹ (λ (j : ℕ). j + run class (drop j m) < length m) start (addendum-within stands-readable at (w .left) h marked);
         behind = omega arith;
       }
 
@@ -171,17 +174,17 @@ module _ {c : Came} {class kinds levels : List ℕ} {context : ℕ} {ps : Separa
   unfolding nextSegment
   stands-segment h {from} e here {nearest′} {segments′} {leaves′} closes {g} is =
       let other = begins-segment (ps .field) at (drop at m) (sym e ∙ here) in
-      let next = left-segment stands-readable (w .left) h other in
+      let next = segment-left stands-readable at (w .left) h other in
       subst⁻¹ (λ (j : ℕ). AtLine c class kinds levels context ps m j g nearest′ text segments′ leaves′) here
       (subst⁻¹ (λ (k : Filling). AtLine c class kinds levels context ps m at k nearest′ text segments′ leaves′) is
       (record {
         prepared = w .prepared;
         bytes = w .bytes;
-        closed = w .closed ++ (w .begun ∷ []);
-        begun = [];
-        begins = begun-next (w .begins) (λ k. refl) (kind-own _ (next .whole ∙ append-assoc (w .closed) (w .begun ∷ []) _)) closes;
+        done = w .done ++ (w .last ∷ []);
+        last = [];
+        begins = begun-next (w .begins) (λ k. refl) (kind-own _ (next .joins ∙ append-assoc (w .done) (w .last ∷ []) _)) closes;
         left = next;
-        inside = segment-within stands-readable (w .left) h;
+        inside = segment-within stands-readable at (w .left) h;
         behind = w .behind;
       }))
 
@@ -189,10 +192,10 @@ module _ {c : Came} {class kinds levels : List ℕ} {context : ℕ} {ps : Separa
   module _ (h : length m ≤ at) {nearest′ segments′ leaves′ : List ℕ}
       (closes : ClosedBy f (kindNoted kinds f) levels context nearest segments leaves nearest′ segments′ leaves′) where
     abbrev all : List (List ℕ)
-    all = w .closed ++ (w .begun ∷ [])
+    all = w .done ++ (w .last ∷ [])
 
     whole : segmentsIn (c .limits) ps m ≡ all
-    whole = left-none (w .left) h
+    whole = none-left (c .limits) m at (w .left) h
 
     rows-owned : (ss : List (List ℕ)) → closedRows (levelIn levels context) ps ss
         ≡ segmentRowsFrom 1 (kindsOf ps ss) (owners (levelIn levels context) (kindsOf ps ss)) (messageLeaves ps ss)

@@ -1,11 +1,11 @@
 -- A survey underway: how a line begins that is joined to the open segment or begins the next, what it comes to, and the end.
 -- Assumes nothing.
 use mathlib.Core.Bool.{true, false}
-use mathlib.Core.List.{List, [], _∷_, _++_, append-assoc, append-nil}
+use mathlib.Core.List.{List, [], _∷_, _++_, append-assoc}
 use mathlib.Core.Path.{_≡_, refl, sym, ap, ap₂, _∙_, subst, subst⁻¹}
 use Prim.Native.Nat.{ℕ, _+_, _-_, _≤_, _<_, min}
 use native.Mathlib.Omega.{arith}
-use lib.ListN.{length, take, drop, length-take, length-drop, drop-of-length-le}
+use lib.ListN.{length, take, drop, length-take, length-drop}
 use lib.Seq.{drop-drop, take-add, take-take}
 use Rattle.laws.specs.Lists.{among, count}
 use Rattle.laws.proofs.Every.{all-take, all-drop}
@@ -17,12 +17,13 @@ use Rattle.form.proofs.Packing.{Bytes}
 use Rattle.form.proofs.HeaderRule.{SoundHeader}
 use Rattle.order.specs.Followers.{followers}
 use Rattle.order.specs.Watcher.{listed}
-use Rattle.line.specs.Lines.{Lines, end, fault, line, walkFrom, walk, texts, faultNumber, faultPlace}
+use Rattle.line.specs.Lines.{Lines, fault, line, walkFrom, walk, texts, faultNumber, faultPlace}
 use Rattle.line.specs.Finding.{textRun, foundAt, handedOut, endedLine}
-use Rattle.line.specs.Joining.{letterA, addendum, carried, joined}
+use Rattle.line.specs.Joining.{letterA, addendum, joined}
 use Rattle.line.specs.declared.finder.Found.the-variants.{Line, Fault}
-use Rattle.line.proofs.Steps.{walkFrom-nil}
-use Rattle.line.proofs.Joining.{addendum-line, addendum-front, carried-addendum, carried-segment, joined-addendum, joined-segment}
+use Rattle.line.specs.Left.{Left}
+use Rattle.line.proofs.Joining.{addendum-line, addendum-front}
+use Rattle.line.proofs.Left.{left-addendum, left-segment, left-first, none-faulty, none-left}
 use Rattle.line.proofs.Runs.{textRun-more, textRun-take, textRun-past, textRun-length}
 use Rattle.line.proofs.Finding.{found-ended, EndedAt, ended-at}
 use Rattle.line.proofs.Handing.{walkFrom-found, line-within}
@@ -35,50 +36,10 @@ use Rattle.read.specs.Scan.{run, marks}
 use Rattle.read.specs.Starting.{textFrom}
 use Rattle.read.specs.Seeing.{nothingSeen, withText, closed, nextSegment}
 use Rattle.read.specs.Surveying.{Known}
-use Rattle.read.specs.Underway.{Seen, SameFault, Left, Underway, LineBegun, StepOf}
+use Rattle.read.specs.Underway.{Seen, Underway, LineBegun, StepOf}
 use Rattle.read.proofs.ScanLaws.{run-text, marks-separators}
 use Rattle.read.proofs.StartLaws.{addendum-other, addendum-view, begins-segment, carries-on, carried-from, header-text}
 use Rattle.read.proofs.SeenLaws.{seen-begins, seen-text, seen-next, seen-closed}
-
--- what is left of the lines, one line on
-fault-on : {whole : Lines} {l : List ℕ} {ls : Lines} → SameFault whole (line l ls) → SameFault whole ls
-unfolding faultNumber faultPlace
-fault-on w = record { number = w .number; place = w .place }
-
-module _ {f : ℕ} {whole : Lines} {done : List (List ℕ)} {last l : List ℕ} {ls : Lines} where
-  -- an addendum carries the open segment on
-  left-addendum : addendum f l ≡ true → Left f whole done last (line l ls) → Left f whole done (last ++ drop 2 l) ls
-  unfolding texts
-  left-addendum a w =
-      record {
-        joins =
-            w .joins
-            ∙ ap₂ (λ (x : List ℕ) (y : List (List ℕ)). done ++ (last ++ x) ∷ y) (carried-addendum f l (texts ls) a) (joined-addendum f l (texts ls) a)
-            ∙ ap (λ (x : List ℕ). done ++ x ∷ joined f (texts ls)) (sym (append-assoc last (drop 2 l) (carried f (texts ls))));
-        fault = fault-on (w .fault);
-      }
-
-  -- any other line closes it and begins the next
-  left-segment : addendum f l ≡ false → Left f whole done last (line l ls) → Left f whole (done ++ last ∷ []) l ls
-  unfolding texts
-  left-segment a w =
-      record {
-        joins =
-            w .joins
-            ∙ ap₂ (λ (x : List ℕ) (y : List (List ℕ)). done ++ (last ++ x) ∷ y) (carried-segment f l (texts ls) a) (joined-segment f l (texts ls) a)
-            ∙ ap (λ (x : List ℕ). done ++ x ∷ (l ++ carried f (texts ls)) ∷ joined f (texts ls)) (append-nil last)
-            ∙ sym (append-assoc done (last ∷ []) ((l ++ carried f (texts ls)) ∷ joined f (texts ls)));
-        fault = fault-on (w .fault);
-      }
-
--- the first line begins the first segment
-left-first : (f : ℕ) (whole : Lines) (l : List ℕ) (ls : Lines) → whole ≡ line l ls → addendum f l ≡ false → Left f whole [] l ls
-unfolding texts faultNumber faultPlace
-left-first f whole l ls e a =
-    record {
-      joins = ap (λ (w : Lines). joined f (texts w)) e ∙ joined-segment f l (texts ls) a;
-      fault = record { number = ap faultNumber e; place = ap faultPlace e };
-    }
 
 -- a line at `at` of the message m
 module _ (L : Limits) (ps : Separators) (m : List ℕ) (at : ℕ) (s : Survey) where
@@ -312,15 +273,9 @@ message-begins L ps m b wide h =
 pub survey-ends : {L : Limits} {ps : Separators} {m : List ℕ} {at : ℕ} {s shut : Survey} {table : List ℕ}
     → Underway L ps m at s → table ≡ followers → length m ≤ at → shut ≡ closed (listed table) s
     → (faultNumber (walk L m) ≡ 0) × Known ps (joined (ps .field) (texts (walk L m))) shut
-unfolding texts faultNumber carried joined
-survey-ends {L} {ps} {m} {at} {s} {shut} {table} w is past shuts =
-    let over : walkFrom L at (drop at m) ≡ end = ap (walkFrom L at) (drop-of-length-le m past) ∙ walkFrom-nil L at in
-    let all : joined (ps .field) (texts (walk L m)) ≡ w .done ++ w .last ∷ []
-    = w .left .joins
-    ∙ ap (λ (ls : Lines). w .done ++ (w .last ++ carried (ps .field) (texts ls)) ∷ joined (ps .field) (texts ls)) over
-    ∙ ap (λ (t : List ℕ). w .done ++ t ∷ []) (append-nil (w .last)) in (
-      w .left .fault .number ∙ ap faultNumber over,
-      subst⁻¹ (Known ps (joined (ps .field) (texts (walk L m)))) shuts
-          (subst⁻¹ (λ (ss : List (List ℕ)). Known ps ss (closed (listed table) s)) all
-          (seen-closed ps s table is (w .done) (w .last) (w .seen))),
-    )
+survey-ends {L} {ps} {m} {at} {s} {shut} {table} w is past shuts = (
+  none-faulty L m at (w .left) past,
+  subst⁻¹ (Known ps (joined (ps .field) (texts (walk L m)))) shuts
+      (subst⁻¹ (λ (ss : List (List ℕ)). Known ps ss (closed (listed table) s)) (none-left L m at (w .left) past)
+      (seen-closed ps s table is (w .done) (w .last) (w .seen))),
+)

@@ -8,8 +8,7 @@ use lib.Seq.{sets}
 use Rattle.laws.specs.Every.{All}
 use Rattle.form.specs.declared.limits.Limits.{Limits}
 use Rattle.form.specs.declared.separators.Separators.{Separators}
-use Rattle.line.specs.Lines.{walkFrom, texts, faultNumber}
-use Rattle.line.specs.Joining.{carried, joined}
+use Rattle.line.specs.Left.{LeftAt}
 use Rattle.line.specs.Finding.{lowRun}
 use Rattle.order.specs.Levels.{levelIn}
 use Rattle.order.specs.Owning.{noRows, owned, knownAfter, Owned}
@@ -21,7 +20,7 @@ use Rattle.read.specs.declared.fill.Filling.{Filling}
 use Rattle.read.specs.declared.fill.Line.{Line}
 use Rattle.read.specs.Scan.{run}
 use Rattle.read.specs.Laying.{rowOf, nextSegment, Counted, Held, LaidBy}
-use Rattle.read.specs.Filling.{segmentsIn, Prepared}
+use Rattle.read.specs.Filling.{Prepared}
 
 -- the kind that is noted of the segment begun
 abbrev pub kindNoted : List ℕ → Filling → ℕ
@@ -82,30 +81,21 @@ pub record LineFilled
 
 -- the rows of closed segments, their owners by what is known as they come
 unfoldable pub closedRows : (ℕ → ℕ) → Separators → List (List ℕ) → List ℕ
-closedRows lv ps closed =
-    segmentRowsFrom 1 (kindsOf ps closed) (owned lv noRows 1 (kindsOf ps closed)) (messageLeaves ps closed)
+closedRows lv ps done =
+    segmentRowsFrom 1 (kindsOf ps done) (owned lv noRows 1 (kindsOf ps done)) (messageLeaves ps done)
 
 -- segments closed, one begun behind them, and what the state and the buffers hold of them over what the buffers held before
 pub record Begun
-    (lv : ℕ → ℕ) (ps : Separators) (text₀ segments₀ leaves₀ : List ℕ) (closed : List (List ℕ)) (begun : List ℕ)
+    (lv : ℕ → ℕ) (ps : Separators) (text₀ segments₀ leaves₀ : List ℕ) (done : List (List ℕ)) (last : List ℕ)
     (f : Filling) (nearest text segments leaves : List ℕ)
     : Type 0 where
-  pub filed : Filed ps (closed ++ (begun ∷ []))
-  pub held : Held text₀ leaves₀ (passOver ps (closed ++ (begun ∷ []))) (f .laying) text leaves
+  pub filed : Filed ps (done ++ (last ∷ []))
+  pub held : Held text₀ leaves₀ (passOver ps (done ++ (last ∷ []))) (f .laying) text leaves
   pub counted : Counted (f .laying)
-  pub number : f .laying .segment ≡ length closed + 1
-  pub first : f .first ≡ length (allLeaves ps closed) + 1
-  pub rows : segments ≡ sets segments₀ 0 (closedRows lv ps closed)
-  pub known : nearest ≡ knownAfter lv noRows 1 (kindsOf ps closed)
-
--- the lines from a place on give the rest: they end in no fault, and with the segment begun they are all segments
-pub record Left (L : Limits) (ps : Separators) (message : List ℕ) (closed : List (List ℕ)) (begun : List ℕ) (at : ℕ) : Type 0 where
-  pub sound : faultNumber (walkFrom L at (drop at message)) ≡ 0
-  pub whole :
-      segmentsIn L ps message
-      ≡ closed
-      ++ ((begun ++ carried (ps .field) (texts (walkFrom L at (drop at message))))
-      ∷ joined (ps .field) (texts (walkFrom L at (drop at message))))
+  pub number : f .laying .segment ≡ length done + 1
+  pub first : f .first ≡ length (allLeaves ps done) + 1
+  pub rows : segments ≡ sets segments₀ 0 (closedRows lv ps done)
+  pub known : nearest ≡ knownAfter lv noRows 1 (kindsOf ps done)
 
 -- the form's limits, and the three buffers as they came
 pub record Came : Type 0 where
@@ -121,10 +111,10 @@ pub record Stands
     : Type 0 where
   pub prepared : Prepared (c .limits) class kinds levels ps context message (c .text) (c .segments) (c .leaves)
   pub bytes : All (λ (b : ℕ). b < 256) message
-  pub closed : List (List ℕ)
-  pub begun : List ℕ
-  pub begins : Begun (levelIn levels context) ps (c .text) (c .segments) (c .leaves) closed begun f nearest text segments leaves
-  pub left : Left (c .limits) ps message closed begun at
+  pub done : List (List ℕ)
+  pub last : List ℕ
+  pub begins : Begun (levelIn levels context) ps (c .text) (c .segments) (c .leaves) done last f nearest text segments leaves
+  pub left : LeftAt (c .limits) (ps .field) message done last at
   pub behind : f .laying .out ≤ at
   pub within : f .laying .out ≤ length message
 
@@ -136,10 +126,10 @@ pub record AtLine
     : Type 0 where
   pub prepared : Prepared (c .limits) class kinds levels ps context message (c .text) (c .segments) (c .leaves)
   pub bytes : All (λ (b : ℕ). b < 256) message
-  pub closed : List (List ℕ)
-  pub begun : List ℕ
-  pub begins : Begun (levelIn levels context) ps (c .text) (c .segments) (c .leaves) closed begun f nearest text segments leaves
-  pub left : Left (c .limits) ps message closed (begun ++ lineText class message from) (lineAfter class message from)
+  pub done : List (List ℕ)
+  pub last : List ℕ
+  pub begins : Begun (levelIn levels context) ps (c .text) (c .segments) (c .leaves) done last f nearest text segments leaves
+  pub left : LeftAt (c .limits) (ps .field) message done (last ++ lineText class message from) (lineAfter class message from)
   pub inside : from + run class (drop from message) < length message
   pub behind : f .laying .out ≤ from
 
