@@ -13,7 +13,7 @@ use Rattle.table.proofs.Room.{roomy-text, roomy-segments, roomy-leaves}
 use Rattle.read.specs.declared.Answer.{Answer}
 use Rattle.read.specs.declared.decide.Decision.{Decision}
 use Rattle.read.specs.Answering.{Gives, ReadAs, answerOf, roomOf, textPut, segmentsPut, leavesPut}
-use Rattle.read.specs.Deciding.{Decides}
+use Rattle.read.specs.Deciding.{DecidesAs}
 use Rattle.read.specs.Filling.{tableIn, LevelsBelow, Prepared, Filled}
 use Rattle.read.proofs.Deciding.{decided-refuses, decided-accepts}
 
@@ -35,7 +35,7 @@ module _ {o : Outcome} {text segments leaves : List ℕ} where
 
 -- what was decided, by a table of levels: a refusal answered, and what filling asks and gives where it accepts
 module _ {L : Limits} {message class kinds : List ℕ} {d : Decision} (text segments leaves : List ℕ)
-    (w : Decides L message class kinds (λ levels. reading L levels (roomOf text segments leaves) message) d) (table : List ℕ) where
+    (w : DecidesAs L message class kinds (λ levels. reading L levels (roomOf text segments leaves) message) d) (table : List ℕ) where
   pub refusal-read : (d .number ≡ 0 → ⊥) → {r : Answer} → r ≡ answerOf (refused (d .number) (d .place))
       → ReadAs L (levelIn table) message text segments leaves r text segments leaves
   refusal-read h = gives-refusal (w .stands (levelIn table) ∙ decided-refuses L message d (levelIn table) h)

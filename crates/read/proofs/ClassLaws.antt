@@ -22,8 +22,8 @@ use Rattle.table.proofs.Flat.{raised-later}
 use Rattle.table.proofs.Places.{raisedAt, raised-first}
 use Rattle.read.specs.declared.lay.Laying.{Laying}
 use Rattle.read.specs.Classes.{sortOf, classOf, classTable}
-use Rattle.read.specs.Scan.{plain}
-use Rattle.read.specs.Laying.{placeOf, nextLeaf}
+use Rattle.read.specs.Scan.{plainRun}
+use Rattle.read.specs.Laying.{leafPlace, nextLeaf}
 use Rattle.read.proofs.PlainLaws.{plain-text, plain-none}
 
 -- the class of a byte: 5 below 32, its sort from there on
@@ -57,19 +57,19 @@ module _ (ps : Separators) (b : ℕ) (l : Laying) (no-end : eqb b CR ≡ false) 
   inner = l .field ∷ l .repetition ∷ l .subfield ∷ l .subsubfield ∷ []
 
   -- where the sort is known
-  as-sorted : (k : ℕ) → sortOf ps b ≡ suc k → l .segment ∷ raisedAt (splitting ps) k inner ≡ placeOf (nextLeaf l (suc k))
-      → raised (CR ∷ splitting ps) b (placeOf l) ≡ placeOf (nextLeaf l (sortOf ps b))
-  unfolding placeOf splitting sortOf inner
+  as-sorted : (k : ℕ) → sortOf ps b ≡ suc k → l .segment ∷ raisedAt (splitting ps) k inner ≡ leafPlace (nextLeaf l (suc k))
+      → raised (CR ∷ splitting ps) b (leafPlace l) ≡ leafPlace (nextLeaf l (sortOf ps b))
+  unfolding leafPlace splitting sortOf inner
   as-sorted k e to =
       raised-later CR (splitting ps) b (l .segment) inner no-end
       ∙ ap {B = List ℕ} (λ p. l .segment ∷ p) (raised-first (splitting ps) b 0 k inner refl (e ∙ omega arith))
-      ∙ to ∙ ap (λ (n : ℕ). placeOf (nextLeaf l n)) (sym e)
+      ∙ to ∙ ap (λ (n : ℕ). leafPlace (nextLeaf l n)) (sym e)
 
-  sort-raised : (sortOf ps b ≡ 0 → ⊥) → raised (CR ∷ splitting ps) b (placeOf l) ≡ placeOf (nextLeaf l (sortOf ps b))
-  unfolding sortOf splitting placeOf nextLeaf ones inner
+  sort-raised : (sortOf ps b ≡ 0 → ⊥) → raised (CR ∷ splitting ps) b (leafPlace l) ≡ leafPlace (nextLeaf l (sortOf ps b))
+  unfolding sortOf splitting leafPlace nextLeaf ones inner
   sort-raised some = go (sortOf ps b) refl
     where
-      go : (sort : ℕ) → sortOf ps b ≡ sort → raised (CR ∷ splitting ps) b (placeOf l) ≡ placeOf (nextLeaf l (sortOf ps b))
+      go : (sort : ℕ) → sortOf ps b ≡ sort → raised (CR ∷ splitting ps) b (leafPlace l) ≡ leafPlace (nextLeaf l (sortOf ps b))
       go zero e = absurd (some e)
       go (suc zero) e = as-sorted 0 e (rw add-one)
       go (suc (suc zero)) e = as-sorted 1 e (rw add-one)
@@ -101,20 +101,20 @@ module _ (ps : Separators) (b : ℕ) (byte : b < 256) where
     unfolding sortOf
     class-separator = among-miss CR (splitting ps) b (no-CR ps b high) ∙ found-among b 1 (splitting ps) some
 
-    pub class-raised : (l : Laying) → raised (CR ∷ splitting ps) b (placeOf l) ≡ placeOf (nextLeaf l (getD (classTable ps) b 0))
+    pub class-raised : (l : Laying) → raised (CR ∷ splitting ps) b (leafPlace l) ≡ leafPlace (nextLeaf l (getD (classTable ps) b 0))
     class-raised l =
         sort-raised ps b l (no-CR ps b high) some
-        ∙ ap (λ (k : ℕ). placeOf (nextLeaf l k)) (sym (class-at ∙ class-sort-of ps b high))
+        ∙ ap (λ (k : ℕ). leafPlace (nextLeaf l k)) (sym (class-at ∙ class-sort-of ps b high))
 
 -- the text that a line begins with has no separator
 pub plain-passes : (ps : Separators) {s : List ℕ} → All (λ (b : ℕ). b < 256) s
-    → All (λ (b : ℕ). among (CR ∷ splitting ps) b ≡ false) (take (plain (classTable ps) s) s)
-unfolding plain
+    → All (λ (b : ℕ). among (CR ∷ splitting ps) b ≡ false) (take (plainRun (classTable ps) s) s)
+unfolding plainRun
 plain-passes ps none = none
 plain-passes ps (also {a = b} {s = s} byte w) = go (tested (eqb (getD (classTable ps) b 0) 0)) (plain-passes ps w)
   where
-    go : Tested (eqb (getD (classTable ps) b 0) 0) → All (λ (a : ℕ). among (CR ∷ splitting ps) a ≡ false) (take (plain (classTable ps) s) s)
-        → All (λ (a : ℕ). among (CR ∷ splitting ps) a ≡ false) (take (plain (classTable ps) (b ∷ s)) (b ∷ s))
+    go : Tested (eqb (getD (classTable ps) b 0) 0) → All (λ (a : ℕ). among (CR ∷ splitting ps) a ≡ false) (take (plainRun (classTable ps) s) s)
+        → All (λ (a : ℕ). among (CR ∷ splitting ps) a ≡ false) (take (plainRun (classTable ps) (b ∷ s)) (b ∷ s))
     go (passed e) ih =
         let text : getD (classTable ps) b 0 ≡ 0 = eqb-true (getD (classTable ps) b 0) 0 e in
         rw (plain-text (classTable ps) b s text) (also (class-text ps b byte text) ih)

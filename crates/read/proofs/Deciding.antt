@@ -22,7 +22,7 @@ use Rattle.read.specs.declared.decide.Decision.{Decision}
 use Rattle.read.specs.declared.survey.Survey.{Survey}
 use Rattle.read.specs.Classes.{classTable}
 use Rattle.read.specs.Filling.{segmentsIn}
-use Rattle.read.specs.Deciding.{refusedAt, acceptedBy, decisionOf, decided, Decides}
+use Rattle.read.specs.Deciding.{refusedAt, acceptedBy, decisionOf, decided, DecidesAs}
 use Rattle.read.specs.Noting.{Noted}
 use Rattle.read.specs.Surveying.{Known, placeSeen}
 
@@ -202,10 +202,10 @@ module _ (L : Limits) (message : List ℕ) (d : Decision) (levels : ℕ → ℕ 
 -- so a refusal decides whatever outcome has its number and its place
 pub refusal-decides : (L : Limits) (message class kinds : List ℕ) {outcome : (ℕ → ℕ → ℕ) → Outcome} {number place : ℕ} {d : Decision}
     → (number ≡ 0 → ⊥) → ((levels : ℕ → ℕ → ℕ) → outcome levels ≡ refused number place) → d ≡ refusedAt number place
-    → Decides L message class kinds outcome d
+    → DecidesAs L message class kinds outcome d
 unfolding refusedAt
 refusal-decides L message class kinds some same e =
-    subst⁻¹ (Decides L message class kinds _) e
+    subst⁻¹ (DecidesAs L message class kinds _) e
     (record { stands = λ levels. same levels ∙ sym (decided-refuses L message _ levels some); accepts = λ z. absurd (some z) })
 
 -- a message by its lines: judged where they are sound, else refused by its first fault
@@ -264,8 +264,8 @@ module _ (L : Limits) (levels : ℕ → ℕ → ℕ) (room : Room) (message : Li
 -- a decision on the message behind its header is one on the message, once the first three tests are passed
 module _ (L : Limits) (room : Room) (message : List ℕ) (text : L .bytes ≤ room .text) (segments : L .segments * segmentRowSize ≤ room .segmentRows)
     (leaves : L .leaves * leafRowSize ≤ room .leafRows) (fits : length message ≤ L .bytes) {ps : Separators} (header : headerOf message ≡ Sound ps) where
-  pub header-decides : {class kinds : List ℕ} {d : Decision} → Decides L message class kinds (λ levels. ofMessage L levels message ps) d
-      → Decides L message class kinds (λ levels. reading L levels room message) d
+  pub header-decides : {class kinds : List ℕ} {d : Decision} → DecidesAs L message class kinds (λ levels. ofMessage L levels message ps) d
+      → DecidesAs L message class kinds (λ levels. reading L levels room message) d
   header-decides w =
       record {
         stands = λ levels. header-passes L levels room message text segments leaves fits ps header ∙ w .stands levels;
@@ -275,7 +275,7 @@ module _ (L : Limits) (room : Room) (message : List ℕ) (text : L .bytes ≤ ro
 -- what the first pass comes to decides: a fault of the lines refuses, else the tests of what was seen do
 module _ (L : Limits) (ps : Separators) (message class kinds : List ℕ) where
   pub fault-decides : {n p : ℕ} {d : Decision} → (n ≡ faultNumber (walk L message)) × (n ≡ 0 → ⊥) × (p ≡ faultPlace (walk L message))
-      → d ≡ refusedAt n p → Decides L message class kinds (λ levels. ofMessage L levels message ps) d
+      → d ≡ refusedAt n p → DecidesAs L message class kinds (λ levels. ofMessage L levels message ps) d
   fault-decides fault =
       refusal-decides L message class kinds (fault .1)
       (λ levels.
@@ -290,7 +290,7 @@ module _ (L : Limits) (ps : Separators) (message class kinds : List ℕ) where
         message-judged L levels message ps sound
         ∙ judgedBy-same L (tableOf levels ps (segmentsIn L ps message)) (sym (known .count)) (sym (known .unknown)) (sym (known .context)) (sym (known .place)) (sym (known .leaves))
 
-    judged-decides : {d : Decision} → TestsCome L ps s d → Decides L message class kinds (λ levels. ofMessage L levels message ps) d
+    judged-decides : {d : Decision} → TestsCome L ps s d → DecidesAs L message class kinds (λ levels. ofMessage L levels message ps) d
     unfolding acceptedBy
     judged-decides (refuses n p some is) = refusal-decides L message class kinds some (λ levels. tests-seen levels ∙ is _) refl
     judged-decides (passes few fewLeaves is) =
@@ -315,5 +315,5 @@ module _ (L : Limits) (ps : Separators) (message class kinds : List ℕ) where
           };
         }
 
-    pub survey-decides : {d : Decision} → d ≡ decisionOf L ps s → Decides L message class kinds (λ levels. ofMessage L levels message ps) d
-    survey-decides e = subst⁻¹ (Decides L message class kinds (λ levels. ofMessage L levels message ps)) e (judged-decides (seen-comes L ps s))
+    pub survey-decides : {d : Decision} → d ≡ decisionOf L ps s → DecidesAs L message class kinds (λ levels. ofMessage L levels message ps) d
+    survey-decides e = subst⁻¹ (DecidesAs L message class kinds (λ levels. ofMessage L levels message ps)) e (judged-decides (seen-comes L ps s))

@@ -16,7 +16,7 @@ use Rattle.table.specs.OnePass.{headerPass}
 use Rattle.read.specs.declared.lay.Laying.{Laying}
 use Rattle.read.specs.declared.lay.Laid.{Laid}
 use Rattle.read.specs.declared.fill.Filling.{Filling}
-use Rattle.read.specs.Laying.{placeOf, rowOf, nextLeaf, nextSegment, Counted, Held, LaidBy}
+use Rattle.read.specs.Laying.{leafPlace, rowOf, nextLeaf, nextSegment, PlaceCounted, Held, LaidBy}
 use Rattle.read.specs.Segments.{ClosedBy, begunAfter, HeaderPut, LineFilled}
 use Rattle.read.proofs.HeldLaws.{leaf-closes, held-begins, held-copied, held-put}
 
@@ -72,7 +72,7 @@ module _ (ps : Separators) (text leaves : List ℕ) where
 
   header-held : Held text leaves (headerPass ps) (nextLeaf statedLeaf 1) (sets text 0 (72 ∷ stated))
       (sets (sets leaves 0 (rowOf nameLeaf)) leafRowSize (rowOf statedLeaf))
-  unfolding placeOf nextLeaf headerPass headerBytes
+  unfolding leafPlace nextLeaf headerPass headerBytes
   header-held =
       let begins = held-begins text leaves (1 ∷ 1 ∷ 1 ∷ 1 ∷ 1 ∷ []) beforeHeader refl refl refl refl in
       let named = held-put (held-copied begins (72 ∷ []) 1 refl) {next = afterName} (leaf-closes nameLeaf 1) in
@@ -89,7 +89,7 @@ module _ (ps : Separators) (text leaves : List ℕ) where
             subst⁻¹ (λ (k : Laying). Held text leaves (headerPass ps) k (sets text 0 (72 ∷ stated)) leaves₂) is
             (subst⁻¹ (λ (v : List ℕ). Held text leaves (headerPass ps) (nextLeaf statedLeaf 1) (sets text 0 (72 ∷ stated)) v)
             (rest ∙ ap (λ (v : List ℕ). sets v leafRowSize (rowOf statedLeaf)) name) header-held);
-        counted = subst⁻¹ Counted is (omega arith);
+        counted = subst⁻¹ PlaceCounted is (omega arith);
         number = ap (λ (k : Laying). k .segment) is;
         out = ap (λ (k : Laying). k .out) is;
         first = refl;

@@ -26,7 +26,7 @@ use Rattle.read.specs.declared.fill.Filling.{Filling}
 use Rattle.read.specs.declared.fill.Line.{Line}
 use Rattle.read.specs.Scan.{run}
 use Rattle.read.specs.Starting.{textFrom}
-use Rattle.read.specs.Laying.{nextSegment, Counted, Lays}
+use Rattle.read.specs.Laying.{nextSegment, PlaceCounted, Lays}
 use Rattle.read.specs.Filling.{segmentsIn, tableIn, Fillable, Filled}
 use Rattle.read.specs.Segments.{kindNoted, Closable, ClosedBy, begunAfter, lineText, lineAfter, LineFilled, closedRows, Begun, Came, Stands, AtLine}
 use Rattle.read.proofs.KindLookup.{kind-found}
@@ -134,7 +134,7 @@ module _ {c : Came} {class kinds levels : List ℕ} {context : ℕ} {ps : Separa
         some = omega arith;
       }
 
-  pub stands-next : (f .laying .row + leafRowSize < width * leafRowSize) × Counted (f .laying)
+  pub stands-next : (f .laying .row + leafRowSize < width * leafRowSize) × PlaceCounted (f .laying)
   stands-next = (stands-closable .fewLeaves, stands-closable .counted)
 
   -- the kind noted of the segment begun is its own, once no line carries it on

@@ -34,7 +34,7 @@ use Rattle.read.specs.declared.survey.Step.the-variants.{On}
 use Rattle.read.specs.Classes.{classTable}
 use Rattle.read.specs.Scan.{run, marks}
 use Rattle.read.specs.Starting.{textFrom}
-use Rattle.read.specs.Seeing.{nothingSeen, withText, closed, nextSegment}
+use Rattle.read.specs.Seeing.{nothingSeen, withText, segmentShut, segmentBegun}
 use Rattle.read.specs.Surveying.{Known}
 use Rattle.read.specs.Underway.{Seen, Underway, LineBegun, StepOf}
 use Rattle.read.proofs.ScanLaws.{run-text, marks-separators}
@@ -46,7 +46,7 @@ module _ (L : Limits) (ps : Separators) (m : List ℕ) (at : ℕ) (s : Survey) w
   -- that is no addendum begins a segment
   segment-begins :
       (table : List ℕ) → table ≡ followers → at < length m → Underway L ps m at s → addendum (ps .field) (drop at m) ≡ false
-      → LineBegun L ps m at at (nextSegment (closed (listed table) s))
+      → LineBegun L ps m at at (segmentBegun (segmentShut (listed table) s))
   segment-begins table is some w a =
       record {
         done = w .done ++ w .last ∷ [];
@@ -111,11 +111,11 @@ module _ {L : Limits} {ps : Separators} {m : List ℕ} {at from : ℕ} {s : Surv
 
   -- or one that begins a segment, once the open one is closed
   pub begins-next : {table : List ℕ} {shut next : Survey} → table ≡ followers → from ≡ at → at < length m
-      → shut ≡ closed (listed table) s → next ≡ nextSegment shut → LineBegun L ps m at from next
+      → shut ≡ segmentShut (listed table) s → next ≡ segmentBegun shut → LineBegun L ps m at from next
   begins-next {table = table} {next = next} is here some shuts opens =
       let segment = begins-segment (ps .field) at (drop at m) (sym is-from ∙ here) in
       subst⁻¹ (λ (n : ℕ). LineBegun L ps m at n next) here
-      (subst⁻¹ (LineBegun L ps m at at) (opens ∙ ap nextSegment shuts) (segment-begins L ps m at s table is some w segment))
+      (subst⁻¹ (LineBegun L ps m at at) (opens ∙ ap segmentBegun shuts) (segment-begins L ps m at s table is some w segment))
 
 -- a run that begins d bytes into a line and is looked at up to the line's last place ends where the line's text does
 run-in-line : (most at d e r stop : ℕ) → d ≤ most → r ≤ e → stop ≡ at + min most (d + e) → (at + d) + min (stop - (at + d)) r ≡ at + min most (d + r)
@@ -271,11 +271,11 @@ message-begins L ps m b wide h =
 
 -- the last line has been seen: no fault, and all that is asked of the segments is known
 pub survey-ends : {L : Limits} {ps : Separators} {m : List ℕ} {at : ℕ} {s shut : Survey} {table : List ℕ}
-    → Underway L ps m at s → table ≡ followers → length m ≤ at → shut ≡ closed (listed table) s
+    → Underway L ps m at s → table ≡ followers → length m ≤ at → shut ≡ segmentShut (listed table) s
     → (faultNumber (walk L m) ≡ 0) × Known ps (joined (ps .field) (texts (walk L m))) shut
 survey-ends {L} {ps} {m} {at} {s} {shut} {table} w is past shuts = (
   none-faulty L m at (w .left) past,
   subst⁻¹ (Known ps (joined (ps .field) (texts (walk L m)))) shuts
-      (subst⁻¹ (λ (ss : List (List ℕ)). Known ps ss (closed (listed table) s)) (none-left L m at (w .left) past)
+      (subst⁻¹ (λ (ss : List (List ℕ)). Known ps ss (segmentShut (listed table) s)) (none-left L m at (w .left) past)
       (seen-closed ps s table is (w .done) (w .last) (w .seen))),
 )

@@ -81,7 +81,7 @@ pub record Accepts (L : Limits) (message class kinds : List ℕ) (d : Decision) 
   pub leaves : d .leaves ≡ length (allLeaves (d .separators) (segmentsIn L (d .separators) message))
 
 -- the contract of deciding: the outcome, whose number and place the decision has, and where it accepts, what it says
-pub record Decides (L : Limits) (message class kinds : List ℕ) (outcome : (ℕ → ℕ → ℕ) → Outcome) (d : Decision) : Type 0 where
+pub record DecidesAs (L : Limits) (message class kinds : List ℕ) (outcome : (ℕ → ℕ → ℕ) → Outcome) (d : Decision) : Type 0 where
   pub stands : (levels : ℕ → ℕ → ℕ) → outcome levels ≡ decided L message d levels
   pub accepts : d .number ≡ 0 → Accepts L message class kinds d
 

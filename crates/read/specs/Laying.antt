@@ -20,12 +20,12 @@ use Rattle.read.specs.Classes.{classTable}
 use Rattle.read.specs.Scan.{run, marks}
 
 -- the five numbers of the place of the leaf begun
-unfoldable pub placeOf : Laying → List ℕ
-placeOf l = l .segment ∷ l .field ∷ l .repetition ∷ l .subfield ∷ l .subsubfield ∷ []
+unfoldable pub leafPlace : Laying → List ℕ
+leafPlace l = l .segment ∷ l .field ∷ l .repetition ∷ l .subfield ∷ l .subsubfield ∷ []
 
 -- the row of the leaf begun
 unfoldable pub rowOf : Laying → List ℕ
-rowOf l = placeOf l ++ (l .begin ∷ (l .out - l .begin) ∷ [])
+rowOf l = leafPlace l ++ (l .begin ∷ (l .out - l .begin) ∷ [])
 
 -- the state once the leaf begun is closed, where the next one stands at these numbers of the same segment
 abbrev pub closedTo : Laying → (field repetition subfield subsubfield : ℕ) → Laying
@@ -72,7 +72,7 @@ nextSegment l =
     }
 
 -- no number of a place is more than one past the leaves closed, a row each, so that all of them are small where the leaves are few
-pub record Counted (l : Laying) : Type 0 where
+pub record PlaceCounted (l : Laying) : Type 0 where
   pub segments : l .segment * leafRowSize ≤ l .row + leafRowSize
   pub fields : l .field * leafRowSize ≤ l .row + leafRowSize
   pub repetitions : l .repetition * leafRowSize ≤ l .row + leafRowSize
@@ -82,7 +82,7 @@ pub record Counted (l : Laying) : Type 0 where
 
 -- the state, the text area and the leaf rows hold what one pass has made, over what the two buffers held before
 pub record Held (text₀ leaves₀ : List ℕ) (pass : Pass) (l : Laying) (text leaves : List ℕ) : Type 0 where
-  pub place : pass .place ≡ placeOf l
+  pub place : pass .place ≡ leafPlace l
   pub closed : l .row ≡ length (pass .closed) * leafRowSize
   pub begins : l .begin ≡ length (textOf (pass .closed))
   pub ends : l .out ≡ l .begin + length (pass .text)
@@ -97,7 +97,7 @@ pub record Lays (class message : List ℕ) (from : ℕ) (l : Laying) (text leave
   pub short : l .out + run class (drop from message) < width
   pub rows : l .row + marks class (drop from message) * leafRowSize ≤ length leaves
   pub few : l .row + marks class (drop from message) * leafRowSize + leafRowSize < width * leafRowSize
-  pub counted : Counted l
+  pub counted : PlaceCounted l
 
 -- what it gives: the line's end, and the pass gone on over its bytes
 pub record LaidBy
@@ -107,7 +107,7 @@ pub record LaidBy
   pub row : r .laying .row ≡ l .row + marks class (drop from message) * leafRowSize
   pub segment : r .laying .segment ≡ l .segment
   pub out : r .laying .out ≤ l .out + run class (drop from message)
-  pub counted : Counted (r .laying)
+  pub counted : PlaceCounted (r .laying)
   pub text-length : length text′ ≡ length text
   pub leaves-length : length leaves′ ≡ length leaves
   pub held :

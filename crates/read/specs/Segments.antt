@@ -19,7 +19,7 @@ use Rattle.table.specs.OnePass.{headerPass, passOver}
 use Rattle.read.specs.declared.fill.Filling.{Filling}
 use Rattle.read.specs.declared.fill.Line.{Line}
 use Rattle.read.specs.Scan.{run}
-use Rattle.read.specs.Laying.{rowOf, nextSegment, Counted, Held, LaidBy}
+use Rattle.read.specs.Laying.{rowOf, nextSegment, PlaceCounted, Held, LaidBy}
 use Rattle.read.specs.Filling.{Prepared}
 
 -- the kind that is noted of the segment begun
@@ -31,7 +31,7 @@ pub record Closable (f : Filling) (kinds segments leaves : List ℕ) : Type 0 wh
   pub leafRoom : f .laying .row + leafRowSize ≤ length leaves
   pub fewLeaves : f .laying .row + leafRowSize < width * leafRowSize
   pub short : f .laying .out < width
-  pub counted : Counted (f .laying)
+  pub counted : PlaceCounted (f .laying)
   pub numbered : 1 ≤ f .laying .segment
   pub noted : f .laying .segment ≤ length kinds
   pub segmentRoom : f .laying .segment * segmentRowSize ≤ length segments
@@ -55,7 +55,7 @@ begunAfter f = record { laying = nextSegment (f .laying); first = f .laying .row
 -- the first two leaves of the H: of a message that begins with the bytes of these separators
 pub record HeaderPut (ps : Separators) (text leaves : List ℕ) (r : Filling) (text′ leaves′ : List ℕ) : Type 0 where
   pub held : Held text leaves (headerPass ps) (r .laying) text′ leaves′
-  pub counted : Counted (r .laying)
+  pub counted : PlaceCounted (r .laying)
   pub number : r .laying .segment ≡ 1
   pub out : r .laying .out ≡ 5
   pub first : r .first ≡ 1
@@ -91,7 +91,7 @@ pub record Begun
     : Type 0 where
   pub filed : Filed ps (done ++ (last ∷ []))
   pub held : Held text₀ leaves₀ (passOver ps (done ++ (last ∷ []))) (f .laying) text leaves
-  pub counted : Counted (f .laying)
+  pub counted : PlaceCounted (f .laying)
   pub number : f .laying .segment ≡ length done + 1
   pub first : f .first ≡ length (allLeaves ps done) + 1
   pub rows : segments ≡ sets segments₀ 0 (closedRows lv ps done)

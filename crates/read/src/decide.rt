@@ -12,7 +12,7 @@ use table::rows;
 ghost use mathlib.Core.Path.{_≡_};
 ghost use Rattle.table.specs.Rows.{FitsRows};
 ghost use Rattle.table.specs.Reading.{ofMessage, reading};
-ghost use Rattle.read.specs.Deciding.{refusedAt, decisionOf, Decides, Decidable, Headed};
+ghost use Rattle.read.specs.Deciding.{refusedAt, decisionOf, DecidesAs, Decidable, Headed};
 
 // What deciding comes to: the number and the place of a refusal, all else zero; or 0 and 0, and what the message has.
 pub struct Decision {
@@ -36,7 +36,7 @@ pub(crate) fn decide(
     leaves: usize,
 ) -> Decision
     requires { ⌜ Decidable limits (now class) (now kinds) ⌝ }
-    ensures { λ r. ⌜ Decides limits (now (message .entry)) (now (class .exit)) (now (kinds .exit))
+    ensures { λ r. ⌜ DecidesAs limits (now (message .entry)) (now (class .exit)) (now (kinds .exit))
         (λ levels. reading limits levels (record { text = text; segmentRows = segments; leafRows = leaves }) (now (message .entry))) r ⌝ }
 {
     if text < limits.bytes {
@@ -66,7 +66,7 @@ fn decide_sound(
     message: &[u8],
 ) -> Decision
     requires { ⌜ Headed limits separators (now message) (now class) (now kinds) ⌝ }
-    ensures { λ r. ⌜ Decides limits (now (message .entry)) (now (class .exit)) (now (kinds .exit))
+    ensures { λ r. ⌜ DecidesAs limits (now (message .entry)) (now (class .exit)) (now (kinds .exit))
         (λ levels. ofMessage limits levels (now (message .entry)) separators) r ⌝ }
 {
     set_classes(class, separators);

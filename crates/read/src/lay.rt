@@ -7,8 +7,8 @@ ghost use Prim.Native.Nat.{_+_, _*_, _≤_, _<_};
 ghost use lib.ListN.{length, take, drop};
 ghost use lib.Seq.{sets};
 ghost use Rattle.table.specs.Rows.{leafRowSize, width};
-ghost use Rattle.read.specs.Scan.{plain};
-ghost use Rattle.read.specs.Laying.{rowOf, nextLeaf, nextSegment, Counted, Lays, LaidBy};
+ghost use Rattle.read.specs.Scan.{plainRun};
+ghost use Rattle.read.specs.Laying.{rowOf, nextLeaf, nextSegment, PlaceCounted, Lays, LaidBy};
 
 // How far the pass has come: where the row of the leaf begun goes, behind a row for each leaf closed, the place of that leaf, and where
 // its text begins and ends so far.
@@ -32,7 +32,7 @@ pub struct Laid {
 impl Laying {
     // The leaf begun is closed: the next one stands one segment on, its other numbers are 1.
     pub(crate) fn next_segment(self) -> Laying
-        requires { ⌜ (self .row + leafRowSize < width * leafRowSize) × Counted self ⌝ }
+        requires { ⌜ (self .row + leafRowSize < width * leafRowSize) × PlaceCounted self ⌝ }
         ensures { λ r. ⌜ r ≡ nextSegment self ⌝ }
     {
         Laying {
@@ -49,7 +49,7 @@ impl Laying {
 
     // The leaf begun is closed by a separator of a sort: the next one stands one such part on, its finer numbers are 1.
     pub(crate) fn next_leaf(self, sort: u8) -> Laying
-        requires { ⌜ (self .row + leafRowSize < width * leafRowSize) × Counted self ⌝ }
+        requires { ⌜ (self .row + leafRowSize < width * leafRowSize) × PlaceCounted self ⌝ }
         ensures { λ r. ⌜ r ≡ nextLeaf self sort ⌝ }
     {
         let mut next = self;
@@ -78,10 +78,10 @@ impl Laying {
 // Copies text from `from` on into the text area, up to the first byte that is none, and answers how many bytes it copied.
 // Such a byte lies ahead, so the loop tests no bound; one number counts both places.
 fn copy_text(class: &[u8; 256], message: &[u8], from: usize, text: &mut [u8], out: usize) -> usize
-    requires { ⌜ (from + plain (now class) (drop from (now message)) < length (now message))
-        × (out + plain (now class) (drop from (now message)) ≤ length (now text)) ⌝ }
-    ensures { λ r. ⌜ (r ≡ plain (now (class .entry)) (drop from (now (message .entry))))
-        × (now (text .exit) ≡ sets (now (text .entry)) out (take (plain (now (class .entry)) (drop from (now (message .entry)))) (drop from (now (message .entry))))) ⌝ }
+    requires { ⌜ (from + plainRun (now class) (drop from (now message)) < length (now message))
+        × (out + plainRun (now class) (drop from (now message)) ≤ length (now text)) ⌝ }
+    ensures { λ r. ⌜ (r ≡ plainRun (now (class .entry)) (drop from (now (message .entry))))
+        × (now (text .exit) ≡ sets (now (text .entry)) out (take (plainRun (now (class .entry)) (drop from (now (message .entry)))) (drop from (now (message .entry))))) ⌝ }
 {
     let mut n = 0;
     let mut b = message[from];
@@ -95,7 +95,7 @@ fn copy_text(class: &[u8; 256], message: &[u8], from: usize, text: &mut [u8], ou
 
 // The row of the leaf begun, which is closed here.
 pub(crate) fn put_leaf(laying: Laying, leaves: &mut [Entry])
-    requires { ⌜ (laying .row + leafRowSize ≤ length (now leaves)) × (laying .row + leafRowSize < width * leafRowSize) × (laying .out < width) × Counted laying ⌝ }
+    requires { ⌜ (laying .row + leafRowSize ≤ length (now leaves)) × (laying .row + leafRowSize < width * leafRowSize) × (laying .out < width) × PlaceCounted laying ⌝ }
     ensures { λ _. ⌜ now (leaves .exit) ≡ sets (now (leaves .entry)) (laying .row) (rowOf laying) ⌝ }
 {
     let at = laying.row;
