@@ -46,7 +46,6 @@ first-segment L lawful m ps s =
     (walk-begins L (headerBytes ps) (drop 7 m) (lit≤ tt) (lawful .header) (header-text ps (header .allowed)))
     (s .lines))
 
-
 pub bytes-separators : (ps qs : Separators) → headerBytes ps ≡ headerBytes qs → ps ≡ qs
 unfolding headerBytes fromBytes
 bytes-separators ps qs h =

@@ -116,7 +116,6 @@ module _ (ps : Separators) (b : ℕ) where
   unfolding sortOf
   sort-some h = first-among b 1 (splitting ps) h
 
-
 module _ (ps : Separators) where
   stops-low : (b : ℕ) → b < 256 → b < 32 → getD (classTable ps) b 0 ≡ 5
   stops-low b h l = class-at ps b h ∙ class-low ps b l

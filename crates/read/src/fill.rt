@@ -34,7 +34,14 @@ pub struct Line {
 }
 
 // The row of a segment: kind, owner, first leaf, leaf count.
-fn put_segment(segments: &mut [Entry], row: usize, kind: u8, owner: Entry, first: Entry, count: Entry)
+fn put_segment(
+    segments: &mut [Entry],
+    row: usize,
+    kind: u8,
+    owner: Entry,
+    first: Entry,
+    count: Entry,
+)
     requires { ⌜ row * segmentRowSize + segmentRowSize ≤ length (now segments) ⌝ }
     ensures { λ _. ⌜ now (segments .exit) ≡ sets (now (segments .entry)) (row * segmentRowSize) (segmentRow kind owner first count) ⌝ }
 {

@@ -33,12 +33,7 @@ pub struct Answer {
 
 // Reads a message into the three lent buffers: every message of every length, whatever the buffers hold. Buffers under the stated
 // sizes (16,384 bytes, 1,024 and 14,336 numbers) are refused with 1, longer ones are used at their front.
-pub fn read(
-    message: &[u8],
-    text: &mut [u8],
-    segments: &mut [Entry],
-    leaves: &mut [Entry],
-) -> Answer
+pub fn read(message: &[u8], text: &mut [u8], segments: &mut [Entry], leaves: &mut [Entry]) -> Answer
     ensures { λ r. ⌜ ReadAs form level (now (message .entry)) (now (text .entry)) (now (segments .entry)) (now (leaves .entry))
         r (now (text .exit)) (now (segments .exit)) (now (leaves .exit)) ⌝ }
 {
