@@ -76,14 +76,26 @@ module _ (L : Limits) (ps : Separators) (s : Survey) where
           pub decision-11 : L .leaves < s .separators + s .segments + 2 → decisionOf L ps s ≡ refusedAt manyLeaves 0
           unfolding decisionOf
           decision-11 h =
-              rw
-              (le-ltb (L .segments) (s .segments) few, eq-eqb (s .unknown) 0 known, ne-eqb (s .watcher .context) 0 context, eq-eqb (placeSeen s) 0 placed, lt-ltb (L .leaves) (s .separators + s .segments + 2) h, decisionOf)
+              rw (
+                le-ltb (L .segments) (s .segments) few,
+                eq-eqb (s .unknown) 0 known,
+                ne-eqb (s .watcher .context) 0 context,
+                eq-eqb (placeSeen s) 0 placed,
+                lt-ltb (L .leaves) (s .separators + s .segments + 2) h,
+                decisionOf,
+              )
 
           pub decision-0 : s .separators + s .segments + 2 ≤ L .leaves → decisionOf L ps s ≡ acceptedBy ps s
           unfolding decisionOf
           decision-0 h =
-              rw
-              (le-ltb (L .segments) (s .segments) few, eq-eqb (s .unknown) 0 known, ne-eqb (s .watcher .context) 0 context, eq-eqb (placeSeen s) 0 placed, le-ltb (L .leaves) (s .separators + s .segments + 2) h, decisionOf)
+              rw (
+                le-ltb (L .segments) (s .segments) few,
+                eq-eqb (s .unknown) 0 known,
+                ne-eqb (s .watcher .context) 0 context,
+                eq-eqb (placeSeen s) 0 placed,
+                le-ltb (L .leaves) (s .separators + s .segments + 2) h,
+                decisionOf,
+              )
 
 -- a test that refuses, and one that passes
 module _ (number : ℕ) (o : Outcome) where
