@@ -22,7 +22,7 @@ use Rattle.table.proofs.Growing.{filed-joined, filed-next, pass-joined, pass-ne
 use Rattle.table.proofs.RowsGrowing.{leavesBehind, messageLeaves-last, allLeaves-last, kindsOf-last, length-kinds, length-messageLeaves, length-segmentRows, segmentRows-last}
 use Rattle.read.specs.declared.fill.Filling.{Filling}
 use Rattle.read.specs.declared.fill.Line.{Line}
-use Rattle.read.specs.Classes.{classTable}
+use Rattle.table.specs.Classes.{classTable}
 use Rattle.read.specs.Laying.{nextSegment, Held}
 use Rattle.read.specs.Segments.{ClosedBy, begunAfter, lineText, LineFilled, closedRows, Begun}
 use Rattle.read.proofs.HeldLaws.{Ends, segment-closes, held-segment, held-ended}

@@ -20,7 +20,7 @@ use Rattle.table.specs.Rows.{segmentRowSize, leafRowSize, FitsRows, Table, tabl
 use Rattle.table.specs.Reading.{Room, Outcome, refused, accepted, refuseIf, refuseAt, short, judged, ofMessage, reading}
 use Rattle.read.specs.declared.decide.Decision.{Decision}
 use Rattle.read.specs.declared.survey.Survey.{Survey}
-use Rattle.read.specs.Classes.{classTable}
+use Rattle.table.specs.Classes.{classTable}
 use Rattle.read.specs.Filling.{segmentsIn}
 use Rattle.read.specs.Deciding.{refusedAt, acceptedBy, decisionOf, decided, DecidesAs}
 use Rattle.read.specs.Noting.{Noted}

@@ -26,9 +26,10 @@ use Rattle.table.proofs.Flat.{raised-here}
 use Rattle.table.proofs.Passes.{step-separator}
 use Rattle.table.proofs.Closing.{withText, steps-text, text-last, leafRow, rows-last, length-rows}
 use Rattle.read.specs.declared.lay.Laying.{Laying}
-use Rattle.read.specs.Classes.{classTable}
+use Rattle.table.specs.Classes.{classTable}
 use Rattle.read.specs.Laying.{leafPlace, rowOf, closedTo, nextLeaf, nextSegment, PlaceCounted, Held}
-use Rattle.read.proofs.ClassLaws.{class-separator, class-raised}
+use Rattle.table.proofs.Classes.{class-separator}
+use Rattle.read.proofs.ClassLaws.{class-raised}
 
 -- the state once text is copied up to a place of the text area
 abbrev pub outTo : Laying → ℕ → Laying

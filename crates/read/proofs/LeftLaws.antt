@@ -37,7 +37,7 @@ use Rattle.table.specs.Flat.{Without}
 use Rattle.table.specs.Filed.{Filed}
 use Rattle.table.proofs.Filing.{text-clear}
 use Rattle.table.proofs.Growing.{filed-grows, leaves-grow}
-use Rattle.read.specs.Classes.{classTable}
+use Rattle.table.specs.Classes.{classTable}
 use Rattle.read.specs.Scan.{run, marks}
 use Rattle.read.specs.Filling.{segmentsIn}
 use Rattle.read.specs.Segments.{lineText, lineAfter}

@@ -1,4 +1,3 @@
-pub mod ClassTables
 pub mod FieldLaws
 pub mod NameLaws
 pub mod ScanLaws

@@ -31,7 +31,7 @@ use Rattle.table.specs.Filed.{headerBytes}
 use Rattle.table.proofs.HeaderBytes.{header-bytes}
 use Rattle.read.specs.declared.survey.Survey.{Survey}
 use Rattle.read.specs.declared.survey.Step.the-variants.{On}
-use Rattle.read.specs.Classes.{classTable}
+use Rattle.table.specs.Classes.{classTable}
 use Rattle.read.specs.Scan.{run, marks}
 use Rattle.read.specs.Starting.{textFrom}
 use Rattle.read.specs.Seeing.{nothingSeen, withText, segmentShut, segmentBegun}

@@ -13,7 +13,7 @@ use Rattle.line.specs.Lines.{walk, texts, faultNumber}
 use Rattle.line.specs.Joining.{joined}
 use Rattle.order.specs.Levels.{levelIn}
 use Rattle.table.specs.Rows.{FitsRows, Table, contextIn, allLeaves, tableOf, segmentRowSize, leafRowSize}
-use Rattle.read.specs.Classes.{classTable}
+use Rattle.table.specs.Classes.{classTable}
 use Rattle.read.specs.Noting.{Noted}
 
 -- the joined segments of a message

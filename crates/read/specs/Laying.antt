@@ -16,7 +16,7 @@ use Rattle.table.specs.Flat.{Pass, steps}
 use Rattle.table.specs.Rows.{leafRowSize, width, leafRowsFrom, textOf}
 use Rattle.read.specs.declared.lay.Laying.{Laying}
 use Rattle.read.specs.declared.lay.Laid.{Laid}
-use Rattle.read.specs.Classes.{classTable}
+use Rattle.table.specs.Classes.{classTable}
 use Rattle.read.specs.Scan.{run, marks}
 
 -- the five numbers of the place of the leaf begun

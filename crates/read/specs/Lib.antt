@@ -1,4 +1,3 @@
-pub mod Classes
 pub mod Naming
 pub mod Scan
 pub mod Laying

@@ -1,5 +1,4 @@
 // Deciding: tests 1 to 11 on a message, before anything is written but the classes of bytes and the kinds, which filling goes by.
-use crate::class::set_classes;
 use crate::survey::Survey;
 use crate::survey::Surveyed;
 use crate::survey::survey_message;
@@ -8,6 +7,7 @@ use form::limits::Limits;
 use form::number::Number;
 use form::separators::Header;
 use form::separators::Separators;
+use table::class::set_classes;
 use table::rows;
 ghost use mathlib.Core.Path.{_≡_};
 ghost use Rattle.table.specs.Rows.{FitsRows};

@@ -1,5 +1,5 @@
 // The second pass over one line: its text goes into the text area, and each leaf that a separator closes gets its row.
-use crate::class::wide;
+use table::class::index;
 use table::rows;
 use table::rows::Entry;
 ghost use mathlib.Core.Path.{_≡_};
@@ -85,7 +85,7 @@ fn copy_text(class: &[u8; 256], message: &[u8], from: usize, text: &mut [u8], ou
 {
     let mut n = 0;
     let mut b = message[from];
-    while class[wide(b)] == 0 {
+    while class[index(b)] == 0 {
         text[out + n] = b;
         n += 1;
         b = message[from + n];
@@ -126,7 +126,7 @@ pub(crate) fn lay_line(
         let n = copy_text(class, message, i, text, now.out);
         let stop = i + n;
         now.out = now.out + n;
-        let sort = class[wide(message[stop])];
+        let sort = class[index(message[stop])];
         if sort == 5 {
             return Laid {
                 laying: now,

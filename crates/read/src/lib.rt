@@ -15,7 +15,6 @@ ghost use Rattle.table.specs.Reading.{refused};
 ghost use Rattle.read.specs.Answering.{ReadAs, answerOf};
 ghost use Rattle.read.specs.Deciding.{ReadsWithin};
 
-mod class;
 mod decide;
 mod fill;
 mod lay;

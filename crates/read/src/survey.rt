@@ -17,7 +17,7 @@ ghost use Prim.Native.Nat.{_+_, _-_, _≤_, _<_};
 ghost use lib.ListN.{length, set, take, drop};
 ghost use Rattle.laws.specs.Lists.{firstOf};
 ghost use Rattle.order.specs.Watcher.{listed};
-ghost use Rattle.read.specs.Classes.{classTable};
+ghost use Rattle.table.specs.Classes.{classTable};
 ghost use Rattle.read.specs.Seeing.{nothingSeen, withText, kindSeen, watching, segmentShut, segmentBegun};
 ghost use Rattle.read.specs.Underway.{LineBegun, StepOf};
 ghost use Rattle.read.specs.Surveying.{Ready, SurveyOf};

@@ -1,3 +1,4 @@
+pub mod Classes
 pub mod Splitting
 pub mod Flat
 pub mod Places

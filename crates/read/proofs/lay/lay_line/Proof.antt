@@ -19,10 +19,10 @@ abbrev μ-loop : tie.MeasureT-loop
 abbrev turn : tie.After-copy-text Inv-loop μ-loop → tie.At-loop Inv-loop μ-loop
 turn c = c .before .before
 
-abbrev copied : tie.After-wide Inv-loop μ-loop → tie.After-copy-text Inv-loop μ-loop
+abbrev copied : tie.After-index Inv-loop μ-loop → tie.After-copy-text Inv-loop μ-loop
 copied c = c .before .before .before .before .before
 
-abbrev sorted : tie.After-put-leaf Inv-loop μ-loop → tie.After-wide Inv-loop μ-loop
+abbrev sorted : tie.After-put-leaf Inv-loop μ-loop → tie.After-index Inv-loop μ-loop
 sorted c = c .before .before .before .before
 
 loop-holds : tie.Need-loop-holds Inv-loop μ-loop
@@ -45,14 +45,14 @@ add-now c =
     let stopped = going-text (turn at-text .loop .inv) (at-text .copy-text .ensures) in
     omega arith
 
-shared-slice-read-wide : tie.Need-shared-slice-read-wide Inv-loop μ-loop
-shared-slice-read-wide c =
+shared-slice-read-index : tie.Need-shared-slice-read-index Inv-loop μ-loop
+shared-slice-read-index c =
     let at-text = c .before .before .before .before in
     let stopped = going-text (turn at-text .loop .inv) (at-text .copy-text .ensures) in
     omega arith
 
-wide-requires : tie.Need-wide-requires Inv-loop μ-loop
-wide-requires c κs = search needs
+index-requires : tie.Need-index-requires Inv-loop μ-loop
+index-requires c κs = search needs
 
 element-copy-out-sort : tie.Need-element-copy-out-sort Inv-loop μ-loop
 element-copy-out-sort c = omega arith
@@ -69,16 +69,16 @@ same-length-2 c =
 
 returns : tie.Need-returns Inv-loop μ-loop
 returns c =
-    let at-wide = c .before .before in
-    let at-text = copied at-wide in
-    going-done (going-text (turn at-text .loop .inv) (at-text .copy-text .ensures)) (at-wide .wide .result) (at-wide .wide .ensures .0) (c .if1 .taken)
+    let at-index = c .before .before in
+    let at-text = copied at-index in
+    going-done (going-text (turn at-text .loop .inv) (at-text .copy-text .ensures)) (at-index .index .result) (at-index .index .ensures .0) (c .if1 .taken)
 
 put-leaf-requires : tie.Need-put-leaf-requires Inv-loop μ-loop
 put-leaf-requires c κs =
-    let at-wide = c .before .before .before in
-    let at-text = copied at-wide in
+    let at-index = c .before .before .before in
+    let at-text = copied at-index in
     let stopped = going-text (turn at-text .loop .inv) (at-text .copy-text .ensures) in
-    row-fits (stopped .asked) (at-wide .wide .result) (at-wide .wide .ensures .0) (c .before .if1 .left)
+    row-fits (stopped .asked) (at-index .index .result) (at-index .index .ensures .0) (c .before .if1 .left)
     (going-stops (turn at-text .loop .inv) (at-text .copy-text .ensures))
 
 next-leaf-requires : tie.Need-next-leaf-requires Inv-loop μ-loop
@@ -105,9 +105,9 @@ loop-less c =
 loop-again : tie.Need-loop-again Inv-loop μ-loop
 loop-again c =
     let at-put = c .before .before .before in
-    let at-wide = sorted at-put in
-    let at-text = copied at-wide in
-    going-leaf (going-text (turn at-text .loop .inv) (at-text .copy-text .ensures)) (at-wide .wide .result) (at-wide .wide .ensures .0)
+    let at-index = sorted at-put in
+    let at-text = copied at-index in
+    going-leaf (going-text (turn at-text .loop .inv) (at-text .copy-text .ensures)) (at-index .index .result) (at-index .index .ensures .0)
     (at-put .before .before .if1 .left) (going-stops (turn at-text .loop .inv) (at-text .copy-text .ensures)) (at-put .put-leaf .ensures) (c .next-leaf .ensures)
 
 pub lay-line-spec : {M : Type 1} → statement M
@@ -120,8 +120,8 @@ lay-line-spec =
     copy-text-requires
     add-stop
     add-now
-    shared-slice-read-wide
-    wide-requires
+    shared-slice-read-index
+    index-requires
     element-copy-out-sort
     same-length
     same-length-2
