@@ -32,7 +32,8 @@ use Rattle.read.specs.Filling.{segmentsIn}
 use Rattle.read.specs.Sound.{SoundLines, SoundMessage}
 use Rattle.read.proofs.OnlyOne.{only-one, refused-unchanged}
 use Rattle.read.proofs.Acceptance.{accepted-exactly, Read, accepted-read}
-use Rattle.read.proofs.OwnersColumn.{RowOf, owners-column}
+use Rattle.table.proofs.SegmentColumns.{RowOf}
+use Rattle.read.proofs.OwnersColumn.{owners-column}
 use Rattle.read.proofs.CutAnyhow.{same-joined}
 use Rattle.write.specs.Writing.{ReadTo, Writing, refuses, writes, writing}
 use Rattle.write.proofs.RoundTrip.{round-trip}

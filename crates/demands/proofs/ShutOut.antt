@@ -23,7 +23,7 @@ use Rattle.table.specs.Examples.{filed, k1}
 use Rattle.table.specs.Lent.{Lent, countsFit, withinBuffers, counted}
 use Rattle.table.specs.Rows.{Table}
 use Rattle.table.specs.Reading.{Outcome, accepted, reading, stated}
-use Rattle.read.proofs.OwnersColumn.{front-at}
+use Rattle.table.proofs.Room.{front-at}
 use Rattle.read.proofs.ShutOut.{K1, k1-read}
 use Rattle.write.specs.declared.Written.{Written}
 use Rattle.write.specs.Writing.{ReadTo, Writing, refuses, writes, writing}

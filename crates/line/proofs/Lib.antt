@@ -1,6 +1,7 @@
 pub mod Joining
 pub mod Cutting
 pub mod Steps
+pub mod Left
 pub mod Walking
 pub mod Fewest
 pub mod Runs

@@ -21,7 +21,7 @@ use Rattle.table.specs.Back.{linesOf, written}
 use Rattle.table.specs.Lent.{Lent, withinLimits, counted, lent}
 use Rattle.table.proofs.Accepting.{Accepted, accepting}
 use Rattle.read.specs.Answering.{roomOf}
-use Rattle.read.proofs.OwnersColumn.{front-at, roomy-text, roomy-segments, roomy-leaves}
+use Rattle.table.proofs.Room.{front-at, roomy-text, roomy-segments, roomy-leaves}
 use Rattle.write.specs.RowByRow.{Sized}
 use Rattle.write.specs.Writing.{ReadTo, isTable, writing}
 use Rattle.write.specs.Answer.{answer, writtenSize}

@@ -32,7 +32,7 @@ use Rattle.read.specs.declared.Answer.{Answer}
 use Rattle.read.specs.Answering.{answerOf, roomOf, Gives, ReadAs}
 use Rattle.read.specs.Filling.{segmentsIn}
 use Rattle.read.specs.Sound.{SoundLines, SoundMessage}
-use Rattle.read.proofs.Answering.{message-judged}
+use Rattle.read.proofs.Deciding.{message-judged}
 use Rattle.read.proofs.OnlyOne.{Numbered, reading-numbered}
 
 -- every kind of a derived order is 1 to 12

@@ -7,19 +7,19 @@ use native.Mathlib.Omega.{arith}
 use lib.ListN.{length, take, drop, getD, set, length-set}
 use lib.Seq.{sets}
 use Rattle.laws.proofs.Stores.{sets-first}
-use Rattle.read.specs.Scan.{plain}
-use Rattle.read.proofs.PlainLaws.{textFrom, plain-turn, plain-stop, text-turn}
+use Rattle.read.specs.Scan.{plainRun}
+use Rattle.read.proofs.PlainLaws.{plainText, plain-turn, plain-stop, text-turn}
 
 pub record Copying (class message : List ℕ) (from : ℕ) (text₀ : List ℕ) (out : ℕ) (text : List ℕ) (n b : ℕ) : Type 0 where
-  pub ahead : from + n + plain class (drop (from + n) message) < length message
-  pub room : out + n + plain class (drop (from + n) message) ≤ length text
-  pub counted : n + plain class (drop (from + n) message) ≡ plain class (drop from message)
+  pub ahead : from + n + plainRun class (drop (from + n) message) < length message
+  pub room : out + n + plainRun class (drop (from + n) message) ≤ length text
+  pub counted : n + plainRun class (drop (from + n) message) ≡ plainRun class (drop from message)
   pub byte : b ≡ getD message (from + n) 0
   pub same : length text ≡ length text₀
-  pub stored : sets text (out + n) (textFrom class message (from + n)) ≡ sets text₀ out (textFrom class message from)
+  pub stored : sets text (out + n) (plainText class message (from + n)) ≡ sets text₀ out (plainText class message from)
 
 pub copying-begins : {class message : List ℕ} {from : ℕ} {text : List ℕ} {out b : ℕ}
-    → from + plain class (drop from message) < length message → out + plain class (drop from message) ≤ length text
+    → from + plainRun class (drop from message) < length message → out + plainRun class (drop from message) ≤ length text
     → b ≡ getD message from 0
     → Copying class message from text out text 0 b
 copying-begins {class} {message} {from} {text} {out} a r e =
@@ -31,7 +31,7 @@ copying-begins {class} {message} {from} {text} {out} a r e =
       counted = rw none-from (omega arith);
       byte = rw none-from e;
       same = refl;
-      stored = ap₂ (λ (p q : ℕ). sets text p (textFrom class message q)) none-out none-from;
+      stored = ap₂ (λ (p q : ℕ). sets text p (plainText class message q)) none-out none-from;
     }
 
 module _ {class message : List ℕ} {from : ℕ} {text₀ : List ℕ} {out : ℕ} {text : List ℕ} {n b : ℕ}
@@ -49,7 +49,7 @@ module _ {class message : List ℕ} {from : ℕ} {text₀ : List ℕ} {out : ℕ
   class-here k e = ap (λ (m : ℕ). getD class m 0) (e ∙ c .byte)
 
   -- a byte of text leaves one less to copy
-  pub copying-left : (k : ℕ) → k ≡ b → getD class k 0 ≡ 0 → plain class (drop i message) ≡ suc (plain class (drop (i + 1) message))
+  pub copying-left : (k : ℕ) → k ≡ b → getD class k 0 ≡ 0 → plainRun class (drop i message) ≡ suc (plainRun class (drop (i + 1) message))
   copying-left k e h = plain-turn class message i within (sym (class-here k e) ∙ h)
 
   pub copying-more : (k : ℕ) → k ≡ b → getD class k 0 ≡ 0
@@ -65,16 +65,16 @@ module _ {class message : List ℕ} {from : ℕ} {text₀ : List ℕ} {out : ℕ
         byte = refl;
         same = length-set text o b ∙ c .same;
         stored =
-            ap₂ (λ (p q : ℕ). sets (set text o b) p (textFrom class message q)) out-next from-next
-            ∙ ap (λ (a : ℕ). sets (set text o a) (o + 1) (textFrom class message (i + 1))) (c .byte)
-            ∙ sym (sets-first text o (getD message i 0) (textFrom class message (i + 1)))
+            ap₂ (λ (p q : ℕ). sets (set text o b) p (plainText class message q)) out-next from-next
+            ∙ ap (λ (a : ℕ). sets (set text o a) (o + 1) (plainText class message (i + 1))) (c .byte)
+            ∙ sym (sets-first text o (getD message i 0) (plainText class message (i + 1)))
             ∙ ap (sets text o) (sym (text-turn class message i within (sym (class-here k e) ∙ h)))
             ∙ c .stored;
       }
 
   -- another byte leaves none
   pub copying-done : (k : ℕ) → k ≡ b → (getD class k 0 ≡ 0 → ⊥)
-      → (n ≡ plain class (drop from message)) × (text ≡ sets text₀ out (textFrom class message from))
+      → (n ≡ plainRun class (drop from message)) × (text ≡ sets text₀ out (plainText class message from))
   copying-done k e h =
-      let none : plain class (drop i message) ≡ 0 = plain-stop class message i within (λ z. h (class-here k e ∙ z)) in
+      let none : plainRun class (drop i message) ≡ 0 = plain-stop class message i within (λ z. h (class-here k e ∙ z)) in
       (omega arith, ap (λ (j : ℕ). sets text o (take j (drop i message))) (sym none) ∙ c .stored)

@@ -25,7 +25,7 @@ use Rattle.line.proofs.Walking.{Low, walk-lows}
 use Rattle.table.specs.Filed.{headerBytes}
 use Rattle.table.specs.Reading.{Room, Outcome, refuseIf, short, judged, reading}
 use Rattle.table.proofs.Filing.{joined-header}
-use Rattle.table.proofs.HeaderBytes.{header-bytes, header-text, header-clear, bytes-sound}
+use Rattle.table.proofs.HeaderBytes.{fromBytes, header-bytes, header-text, header-clear, bytes-sound}
 use Rattle.read.specs.declared.Answer.{Answer}
 use Rattle.read.specs.Answering.{roomOf, Gives, ReadAs}
 use Rattle.read.specs.Filling.{segmentsIn}
@@ -45,9 +45,6 @@ first-segment L lawful m ps s =
     (ap (λ (u : List ℕ). u ++ drop 7 m) (sym (header-bytes ps m header)) ∙ take-append-drop 7 m)
     (walk-begins L (headerBytes ps) (drop 7 m) (lit≤ tt) (lawful .header) (header-text ps (header .allowed)))
     (s .lines))
-
-fromBytes : ℕ → ℕ → ℕ → ℕ → ℕ → Separators
-fromBytes f s r e x = record { field = f; subfield = s; repeater = r; escape = e; subsubfield = x }
 
 pub bytes-separators : (ps qs : Separators) → headerBytes ps ≡ headerBytes qs → ps ≡ qs
 unfolding headerBytes fromBytes

@@ -12,14 +12,16 @@ use Rattle.laws.specs.Every.{none, also}
 use Rattle.form.specs.declared.limits.Limits.{Limits}
 use Rattle.form.specs.declared.separators.Separators.{Separators}
 use Rattle.form.proofs.HeaderRule.{SoundHeader, sound-header}
-use Rattle.line.specs.Lines.{CR, walk}
+use Rattle.laws.proofs.Bytes.{Bytes}
+use Rattle.line.specs.Lines.{CR}
 use Rattle.line.specs.Joining.{addendum}
 use Rattle.line.specs.Finding.{textRun}
+use Rattle.line.specs.Left.{LeftAt}
 use Rattle.line.proofs.Runs.{textRun-more}
 use Rattle.order.specs.Levels.{levelIn}
 use Rattle.order.specs.Owning.{noRows, knownAfter}
 use Rattle.table.specs.Leaves.{messageLeaves}
-use Rattle.table.specs.Rows.{segmentRowsFrom, kindsOf, contextIn, allLeaves}
+use Rattle.table.specs.Rows.{leafRowSize, segmentRowsFrom, kindsOf, allLeaves}
 use Rattle.table.specs.Flat.{gluedTo, glued, steps}
 use Rattle.table.specs.Filed.{headerBytes, Filed}
 use Rattle.table.specs.OnePass.{passOver}
@@ -27,11 +29,9 @@ use Rattle.table.proofs.HeaderBytes.{header-bytes}
 use Rattle.table.proofs.Growing.{count-leaves}
 use Rattle.read.specs.declared.fill.Filling.{Filling}
 use Rattle.read.specs.Scan.{run}
-use Rattle.read.specs.Filling.{segmentsIn, Fillable}
-use Rattle.read.specs.Noting.{Noted}
-use Rattle.read.specs.Segments.{HeaderPut, lineText, lineAfter, closedRows, Begun, Left, Came, LevelsBelow, Surveyed, AtLine}
-use Rattle.read.proofs.ScanLaws.{Bytes}
-use Rattle.read.proofs.LeftLaws.{no-addendum, line-within, left-begins, leaves-line}
+use Rattle.read.specs.Filling.{Prepared}
+use Rattle.read.specs.Segments.{HeaderPut, lineText, lineAfter, closedRows, Begun, AtLine}
+use Rattle.read.proofs.LeftLaws.{no-addendum, line-within, first-line, left-begins, leaves-line}
 use Rattle.read.proofs.StandLaws.{readable}
 
 module _ {m : List ℕ} {ps : Separators} (s : SoundHeader m ps) where
@@ -77,37 +77,33 @@ module _ {m : List ℕ} {ps : Separators} (s : SoundHeader m ps) where
       }
 
 -- what the second pass starts with
-pub surveyed : (kinds levels : List ℕ) {L : Limits} {ps : Separators} {class m text segments leaves : List ℕ} {context : ℕ}
-    → Fillable L ps class m text segments leaves → context ≡ contextIn ps (segmentsIn L ps m) → LevelsBelow levels
-    → Noted ps (segmentsIn L ps m) (length (segmentsIn L ps m)) kinds → length (segmentsIn L ps m) ≤ length kinds → Bytes m
-    → Surveyed (record { limits = L; text = text; segments = segments; leaves = leaves }) class kinds levels context ps m
-surveyed kinds levels given named below noted all bytes = record { given = given; named = named; below = below; noted = noted; all = all; bytes = bytes }
-
-module _ {c : Came} {class kinds levels : List ℕ} {context : ℕ} {ps : Separators} {m : List ℕ} (y : Surveyed c class kinds levels context ps m) where
+module _ {L : Limits} {class kinds levels : List ℕ} {ps : Separators} {context : ℕ} {m text₀ segments₀ leaves₀ : List ℕ}
+    (y : Prepared L class kinds levels ps context m text₀ segments₀ leaves₀) (bytes : Bytes m) where
   header : SoundHeader m ps
   header = sound-header m ps (y .given .header)
 
   -- the first line goes on after the header
-  first-left : Left (c .limits) ps m [] (headerBytes ps ++ lineText class m 7) (lineAfter class m 7)
+  first-left : LeftAt L (ps .field) m [] (headerBytes ps ++ lineText class m 7) (lineAfter class m 7)
   first-left =
-      subst (λ (t : List ℕ). Left (c .limits) ps m [] (t ++ lineText class m 7) (lineAfter class m 7)) (header-bytes ps m header)
-      (left-begins (readable y) (y .given .sound) (header-run header) (omega (arith, header .long)) (header-first header))
+      subst (λ (t : List ℕ). LeftAt L (ps .field) m [] (t ++ lineText class m 7) (lineAfter class m 7)) (header-bytes ps m header)
+      (left-begins (readable (y .given) bytes) (header-run header) (omega (arith, header .long)) (header-first header))
 
   first-within : 7 + run class (drop 7 m) < length m
-  unfolding walk
-  first-within = line-within (readable y) 0 (omega (arith, header .long)) (y .given .sound) 7 (header-run header)
+  first-within =
+      let s = readable (y .given) bytes in
+      line-within s (first-line s (omega (arith, header .long))) 7 (header-run header)
 
   -- there is room for the header's bytes and rows
-  pub header-fits : (5 ≤ length (c .text)) × (14 ≤ length (c .leaves))
+  pub header-fits : (5 ≤ length text₀) × (leafRowSize + leafRowSize ≤ length leaves₀)
   header-fits =
       let given = y .given in
-      let few = leaves-line (readable y) [] (headerBytes ps) (header-filed header) 7 (lineAfter class m 7) first-left in
+      let few = leaves-line (readable (y .given) bytes) [] (headerBytes ps) (header-filed header) 7 (lineAfter class m 7) first-left in
       let three = count-leaves ps (headerBytes ps ∷ []) (header-filed header) in
       let long = header .long in
-      (omega (arith, given .bytes, given .textRoom), omega (arith, given .fewLeaves, given .leafRoom))
+      (omega (arith, given .bytes, y .textRoom), omega (arith, given .fewLeaves, y .leafRoom))
 
-  module _ {r : Filling} {nearest text leaves : List ℕ} (put : HeaderPut ps (c .text) (c .leaves) r text leaves) (rows : nearest ≡ noRows) where
-    header-begun : Begun (levelIn levels context) ps (c .text) (c .segments) (c .leaves) [] (headerBytes ps) r nearest text (c .segments) leaves
+  module _ {r : Filling} {nearest text leaves : List ℕ} (put : HeaderPut ps text₀ leaves₀ r text leaves) (rows : nearest ≡ noRows) where
+    header-begun : Begun (levelIn levels context) ps text₀ segments₀ leaves₀ [] (headerBytes ps) r nearest text segments₀ leaves
     unfolding passOver glued gluedTo steps headerBytes allLeaves messageLeaves concat closedRows kindsOf segmentRowsFrom knownAfter
     header-begun =
         record {
@@ -121,12 +117,13 @@ module _ {c : Came} {class kinds levels : List ℕ} {context : ℕ} {ps : Separa
         }
 
     -- the rest of the first line goes to the first segment
-    pub header-line : AtLine c class kinds levels context ps m 7 r nearest text (c .segments) leaves
+    pub header-line : AtLine (record { limits = L; text = text₀; segments = segments₀; leaves = leaves₀ }) class kinds levels context ps m 7 r nearest text segments₀ leaves
     header-line =
         record {
-          surveyed = y;
-          closed = [];
-          begun = headerBytes ps;
+          prepared = y;
+          bytes = bytes;
+          done = [];
+          last = headerBytes ps;
           begins = header-begun;
           left = first-left;
           inside = first-within;

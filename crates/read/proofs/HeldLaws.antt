@@ -21,14 +21,15 @@ use Rattle.form.specs.Header.{splitting}
 use Rattle.line.specs.Lines.{CR}
 use Rattle.table.specs.Leaves.{Leaf}
 use Rattle.table.specs.Flat.{Pass, leaf, ones, raised, step, steps, ended}
-use Rattle.table.specs.Rows.{leafRowsFrom, textOf}
+use Rattle.table.specs.Rows.{leafRowSize, leafRowsFrom, textOf}
 use Rattle.table.proofs.Flat.{raised-here}
 use Rattle.table.proofs.Passes.{step-separator}
 use Rattle.table.proofs.Closing.{withText, steps-text, text-last, leafRow, rows-last, length-rows}
 use Rattle.read.specs.declared.lay.Laying.{Laying}
-use Rattle.read.specs.Classes.{classTable}
-use Rattle.read.specs.Laying.{placeOf, rowOf, closedTo, nextLeaf, nextSegment, Counted, Held}
-use Rattle.read.proofs.ClassLaws.{class-separator, class-raised}
+use Rattle.table.specs.Classes.{classTable}
+use Rattle.read.specs.Laying.{leafPlace, rowOf, closedTo, nextLeaf, nextSegment, PlaceCounted, Held}
+use Rattle.table.proofs.Classes.{class-separator}
+use Rattle.read.proofs.ClassLaws.{class-raised}
 
 -- the state once text is copied up to a place of the text area
 abbrev pub outTo : Laying → ℕ → Laying
@@ -46,10 +47,10 @@ outTo l out =
 
 -- the leaf begun is closed: one row more, and the next leaf begins where the text ends
 pub record Closes (l next : Laying) : Type 0 where
-  pub row : next .row ≡ l .row + 7
+  pub row : next .row ≡ l .row + leafRowSize
   pub begin : next .begin ≡ l .out
   pub out : next .out ≡ l .out
-  pub counted : Counted l → Counted next
+  pub counted : PlaceCounted l → PlaceCounted next
 
 pub segment-closes : (l : Laying) → Closes l (nextSegment l)
 unfolding nextSegment
@@ -94,7 +95,7 @@ module _ (l : Laying) (sort : ℕ) where
   leaf-segment = leaf-cases (λ n. n .segment ≡ l .segment) (λ f r s t a b c d. refl)
 
 -- a pass that has made nothing yet holds nothing: the buffers are as they came
-pub held-begins : (text leaves place : List ℕ) (l : Laying) → place ≡ placeOf l → l .row ≡ 0 → l .begin ≡ 0 → l .out ≡ 0
+pub held-begins : (text leaves place : List ℕ) (l : Laying) → place ≡ leafPlace l → l .row ≡ 0 → l .begin ≡ 0 → l .out ≡ 0
     → Held text leaves (record { place = place; text = []; closed = [] }) l text leaves
 unfolding textOf leafRowsFrom
 held-begins text leaves place l at row begin out =
@@ -117,7 +118,7 @@ module _ {text₀ leaves₀ : List ℕ} {pass : Pass} {l : Laying} {text leaves 
   -- text goes behind the text
   pub held-copied : (s : List ℕ) (out : ℕ) → out ≡ l .out + length s
       → Held text₀ leaves₀ (withText pass s) (outTo l out) (sets text (l .out) s) leaves
-  unfolding placeOf
+  unfolding leafPlace
   held-copied s out e =
       record {
         place = h .place;
@@ -138,7 +139,7 @@ module _ {text₀ leaves₀ : List ℕ} {pass : Pass} {l : Laying} {text leaves 
   held-text ps {s} out w e = rw (steps-text ps pass w) (held-copied s out e)
 
   five : length (pass .place) ≡ 5
-  unfolding placeOf
+  unfolding leafPlace
   five = ap length (h .place)
 
   row-begun : rowOf l ≡ leafRow (leafBegun pass) (0 + length (textOf (pass .closed)))
@@ -149,7 +150,7 @@ module _ {text₀ leaves₀ : List ℕ} {pass : Pass} {l : Laying} {text leaves 
 
   -- the leaf begun is closed, and its row goes behind the rows
   pub held-put : {next : Laying} → Closes l next
-      → Held text₀ leaves₀ (closing pass (placeOf next)) next text (sets leaves (l .row) (rowOf l))
+      → Held text₀ leaves₀ (closing pass (leafPlace next)) next text (sets leaves (l .row) (rowOf l))
   held-put k =
       record {
         place = refl;
@@ -168,7 +169,7 @@ module _ {text₀ leaves₀ : List ℕ} {pass : Pass} {l : Laying} {text leaves 
         placed = all-append (h .placed) (also five none);
       }
 
-  pub held-closes : (ps : List ℕ) (b : ℕ) (next : Laying) → among ps b ≡ true → raised ps b (placeOf l) ≡ placeOf next → Closes l next
+  pub held-closes : (ps : List ℕ) (b : ℕ) (next : Laying) → among ps b ≡ true → raised ps b (leafPlace l) ≡ leafPlace next → Closes l next
       → Held text₀ leaves₀ (step ps pass b) next text (sets leaves (l .row) (rowOf l))
   held-closes ps b next is place k =
       subst⁻¹ (λ (c : Pass). Held text₀ leaves₀ c next text (sets leaves (l .row) (rowOf l)))
@@ -183,12 +184,12 @@ module _ {text₀ leaves₀ : List ℕ} {pass : Pass} {l : Laying} {text leaves 
       let no-five : getD (classTable ps) b 0 ≡ 5 → ⊥ = λ z. no-end (at ∙ z) in
       let text : getD (classTable ps) b 0 ≡ 0 → ⊥ = λ z. no-text (at ∙ z) in
       held-closes (CR ∷ splitting ps) b (nextLeaf l (getD class b 0)) (class-separator ps b byte no-five text)
-      (class-raised ps b byte no-five text l ∙ ap (λ (k : ℕ). placeOf (nextLeaf l k)) (sym at)) (leaf-closes l (getD class b 0))
+      (class-raised ps b byte no-five text l ∙ ap (λ (k : ℕ). leafPlace (nextLeaf l k)) (sym at)) (leaf-closes l (getD class b 0))
 
   -- the CR that stands for the end of a segment
   pub held-segment : (ps : Separators)
       → Held text₀ leaves₀ (step (CR ∷ splitting ps) pass CR) (nextSegment l) text (sets leaves (l .row) (rowOf l))
-  unfolding placeOf nextSegment splitting ones
+  unfolding leafPlace nextSegment splitting ones
   held-segment ps =
       held-closes (CR ∷ splitting ps) CR (nextSegment l) (among-hit CR (splitting ps) CR (eq-eqb CR CR refl))
       (raised-here CR (splitting ps) CR (l .segment) (l .field ∷ l .repetition ∷ l .subfield ∷ l .subsubfield ∷ []) (eq-eqb CR CR refl)

@@ -1,4 +1,3 @@
-pub mod ClassTables
 pub mod FieldLaws
 pub mod NameLaws
 pub mod ScanLaws
@@ -17,7 +16,7 @@ pub mod BegunLaws
 pub mod LeftLaws
 pub mod StandLaws
 pub mod HeaderLaws
-pub mod Judging
+pub mod Deciding
 pub mod Answering
 pub mod OnlyOne
 pub mod Acceptance

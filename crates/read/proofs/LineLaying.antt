@@ -11,25 +11,23 @@ use Rattle.laws.specs.Lists.{among}
 use Rattle.laws.specs.Every.{All}
 use Rattle.laws.proofs.Every.{all-at, all-drop}
 use Rattle.form.specs.Header.{splitting}
+use Rattle.laws.proofs.Bytes.{Bytes}
 use Rattle.line.specs.Lines.{CR}
 use Rattle.table.specs.Flat.{step, steps}
+use Rattle.table.specs.Rows.{leafRowSize, width}
 use Rattle.table.proofs.Passes.{steps-append}
 use Rattle.read.specs.declared.lay.Laying.{Laying}
 use Rattle.read.specs.declared.lay.Laid.{Laid}
-use Rattle.read.specs.Scan.{run, plain}
-use Rattle.read.specs.Laying.{rowOf, nextLeaf, Counted, Held, Lays, LaidBy}
-use Rattle.read.proofs.PlainLaws.{textFrom, lineFrom, run-split, marks-split, line-split, length-text, no-text, run-turn, run-stop, marks-turn, marks-stop, line-turn}
+use Rattle.read.specs.Scan.{run, plainRun}
+use Rattle.read.specs.Laying.{rowOf, nextLeaf, PlaceCounted, Held, Lays, LaidBy}
+use Rattle.read.proofs.PlainLaws.{plainText, lineFrom, run-split, marks-split, line-split, length-text, no-text, run-turn, run-stop, marks-turn, marks-stop, line-turn}
 use Rattle.read.proofs.ClassLaws.{plain-passes}
 use Rattle.read.proofs.HeldLaws.{outTo, leaf-closes, leaf-segment, held-text, held-separator}
-
--- that each byte of a message is one
-abbrev pub Bytes : List ℕ → Type 0
-Bytes message = All (λ (b : ℕ). b < 256) message
 
 -- the n bytes of text from the byte i on are copied, behind the text so far
 abbrev pub Copied : List ℕ → List ℕ → ℕ → Laying → List ℕ → ℕ → List ℕ → Type 0
 Copied class message i l text n text₁ =
-    (n ≡ plain class (drop i message)) × (text₁ ≡ sets text (l .out) (textFrom class message i))
+    (n ≡ plainRun class (drop i message)) × (text₁ ≡ sets text (l .out) (plainText class message i))
 
 -- the state there
 abbrev pub outBy : Laying → ℕ → Laying
@@ -40,14 +38,14 @@ module _ {class message : List ℕ} {i : ℕ} {l : Laying} {text leaves : List �
   abbrev stop : ℕ
   stop = i + n
 
-  stops : stop ≡ i + plain class (drop i message)
+  stops : stop ≡ i + plainRun class (drop i message)
   stops = ap (λ (k : ℕ). i + k) (copied .0)
 
-  runs : run class (drop i message) ≡ plain class (drop i message) + run class (drop stop message)
+  runs : run class (drop i message) ≡ plainRun class (drop i message) + run class (drop stop message)
   runs = run-split class message i stop stops
 
   same-text : length text₁ ≡ length text
-  same-text = ap length (copied .1) ∙ length-sets text (l .out) (textFrom class message i)
+  same-text = ap length (copied .1) ∙ length-sets text (l .out) (plainText class message i)
 
   pub lays-text : Lays class message stop (outBy l n) text₁ leaves
   lays-text =
@@ -81,12 +79,12 @@ module _ {class message : List ℕ} {i : ℕ} {l : Laying} {text leaves : List �
         held = λ ps text₀ leaves₀ pass is h.
             rw (
               line-split class message i stop stops,
-              steps-append (CR ∷ splitting ps) pass (textFrom class message i) (lineFrom class message stop),
+              steps-append (CR ∷ splitting ps) pass (plainText class message i) (lineFrom class message stop),
             )
-            (d .held ps text₀ leaves₀ (steps (CR ∷ splitting ps) pass (textFrom class message i)) is
-            (subst⁻¹ (λ (t : List ℕ). Held text₀ leaves₀ (steps (CR ∷ splitting ps) pass (textFrom class message i)) (outBy l n) t leaves) (copied .1)
+            (d .held ps text₀ leaves₀ (steps (CR ∷ splitting ps) pass (plainText class message i)) is
+            (subst⁻¹ (λ (t : List ℕ). Held text₀ leaves₀ (steps (CR ∷ splitting ps) pass (plainText class message i)) (outBy l n) t leaves) (copied .1)
             (held-text h (CR ∷ splitting ps) (l .out + n)
-            (subst⁻¹ (λ (k : List ℕ). All (λ (b : ℕ). among (CR ∷ splitting ps) b ≡ false) (textFrom k message i)) is
+            (subst⁻¹ (λ (k : List ℕ). All (λ (b : ℕ). among (CR ∷ splitting ps) b ≡ false) (plainText k message i)) is
             (plain-passes ps (all-drop i bytes)))
             (omega (arith, length-text class message i stop stops (omega arith))))));
       }
@@ -142,12 +140,12 @@ module _ {class message : List ℕ} {l : Laying} {text leaves : List ℕ} {stop 
 
 -- so the text from the byte i on has room, and so has the row of a leaf that a separator closes
 pub text-fits : {class message : List ℕ} {i : ℕ} {l : Laying} {text leaves : List ℕ} → Lays class message i l text leaves
-    → (i + plain class (drop i message) < length message) × (l .out + plain class (drop i message) ≤ length text)
-text-fits {class} {message} {i} asked = let split = run-split class message i (i + plain class (drop i message)) refl in omega arith
+    → (i + plainRun class (drop i message) < length message) × (l .out + plainRun class (drop i message) ≤ length text)
+text-fits {class} {message} {i} asked = let split = run-split class message i (i + plainRun class (drop i message)) refl in omega arith
 
 pub row-fits : {class message : List ℕ} {i : ℕ} {l : Laying} {text leaves : List ℕ} → Lays class message i l text leaves
     → (n : ℕ) → n ≡ getD message i 0 → (getD class n 0 ≡ 5 → ⊥) → (getD class (getD message i 0) 0 ≡ 0 → ⊥)
-    → (l .row + 7 ≤ length leaves) × (l .row < 65535 * 7) × (l .out < 65536) × Counted l
+    → (l .row + leafRowSize ≤ length leaves) × (l .row + leafRowSize < width * leafRowSize) × (l .out < width) × PlaceCounted l
 row-fits {class} {message} {i} asked n e no-end other =
     let mark = marks-turn class message i (omega arith) (λ z. no-end (ap (λ (b : ℕ). getD class b 0) e ∙ z)) other in
     (omega arith, omega arith, omega arith, asked .counted)

@@ -21,7 +21,7 @@ use Rattle.line.proofs.Steps.{byte-cases, inside-nil, inside-cr, inside-control
 use Rattle.table.specs.Reading.{Room, Outcome, refused, accepted, refuseIf, refuseAt, judged, ofMessage, reading}
 use Rattle.read.specs.declared.Answer.{Answer}
 use Rattle.read.specs.Answering.{noCard, answerOf, textPut, segmentsPut, leavesPut, Gives, ReadAs}
-use Rattle.read.proofs.Answering.{message-judged, message-fault}
+use Rattle.read.proofs.Deciding.{message-judged, message-fault}
 
 -- two outcomes that satisfy the contract are equal, the answer and each buffer
 module _ (L : Limits) (levels : ℕ → ℕ → ℕ) (message : List ℕ) {text segments leaves : List ℕ} where

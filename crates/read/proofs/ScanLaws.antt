@@ -7,21 +7,19 @@ use mathlib.Core.Logic.{⊎-elim}
 use mathlib.Core.Path.{_≡_, refl, sym, ap, _∙_}
 use Prim.Native.Nat.{ℕ, suc, _+_, _-_, _≤_, _<_}
 use native.Mathlib.Omega.{arith}
-use lib.Dec.{eqb}
 use lib.ListN.{length, getD, take, drop}
-use borrow.Author.Tests.{lt-ltb, le-ltb}
 use Rattle.laws.specs.Lists.{among, count}
-use Rattle.laws.specs.Every.{All, none, also}
+use Rattle.laws.specs.Every.{none, also}
 use Rattle.laws.proofs.Cases.{less-or-not}
 use Rattle.laws.proofs.Tests.{either}
-use Rattle.laws.proofs.Lists.{first-within, first-not-among, first-among}
 use Rattle.laws.proofs.Parts.{part-cons, part-none}
-use Rattle.laws.proofs.Tables.{getD-values-zero}
 use Rattle.form.specs.declared.separators.Separators.{Separators}
 use Rattle.form.specs.Header.{splitting}
+use Rattle.laws.proofs.Bytes.{Bytes}
 use Rattle.line.specs.Finding.{textRun}
 use Rattle.line.proofs.Runs.{textRun-nil, textRun-more, textRun-stop}
-use Rattle.read.specs.Classes.{sortOf, classOf, classTable}
+use Rattle.table.specs.Classes.{classTable}
+use Rattle.table.proofs.Classes.{class-at, class-low, class-high, sort-within, sort-none, sort-some}
 use Rattle.read.specs.Scan.{run, marks}
 use Rattle.read.proofs.PlainLaws.{run-more, run-none as run-stop, marks-text, marks-more, marks-none as marks-stop}
 
@@ -88,36 +86,6 @@ module _ {class m : List ℕ} {from stop : ℕ} where
           let marks-left : marks class (between m i stop) ≡ marks class (between m (i + 1) stop)
           = ap (marks class) turn ∙ marks-text class b (between m (i + 1) stop) (omega arith) in
           record { ahead = omega arith; few = omega (arith, w .few); end = omega (arith, w .end); marked = omega (arith, w .marked) }
-
--- the class of a byte: 5 below 32, else its sort, which is 0 exactly where it is no splitting separator
-module _ (ps : Separators) (b : ℕ) where
-  pub class-at : b < 256 → getD (classTable ps) b 0 ≡ classOf ps b
-  unfolding classTable
-  class-at h = getD-values-zero (classOf ps) 256 b 0 h
-
-  pub class-low : b < 32 → classOf ps b ≡ 5
-  unfolding classOf
-  class-low h = rw (lt-ltb b 32 h, classOf)
-
-  pub class-high : 32 ≤ b → classOf ps b ≡ sortOf ps b
-  unfolding classOf
-  class-high h = rw (le-ltb b 32 h, classOf)
-
-  pub sort-within : sortOf ps b ≤ 4
-  unfolding sortOf splitting
-  sort-within = first-within (eqb b) 0 (splitting ps)
-
-  pub sort-none : among (splitting ps) b ≡ false → sortOf ps b ≡ 0
-  unfolding sortOf
-  sort-none h = first-not-among b 1 (splitting ps) h
-
-  pub sort-some : among (splitting ps) b ≡ true → 1 ≤ sortOf ps b
-  unfolding sortOf
-  sort-some h = first-among b 1 (splitting ps) h
-
--- every element is a byte
-abbrev pub Bytes : List ℕ → Type 0
-Bytes s = All (λ (b : ℕ). b < 256) s
 
 module _ (ps : Separators) where
   stops-low : (b : ℕ) → b < 256 → b < 32 → getD (classTable ps) b 0 ≡ 5

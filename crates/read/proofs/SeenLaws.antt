@@ -40,7 +40,7 @@ use Rattle.table.proofs.Counting.{length-allSegments}
 use Rattle.read.specs.declared.name.Name.{Name}
 use Rattle.read.specs.declared.survey.Survey.{Survey}
 use Rattle.read.specs.Naming.{fresh, withBytes}
-use Rattle.read.specs.Seeing.{nothingSeen, contextWith, withText, kindSeen, contextSeen, watching, toldNow, closed, nextSegment}
+use Rattle.read.specs.Seeing.{nothingSeen, contextWith, withText, kindSeen, contextSeen, watching, toldNow, segmentShut, segmentBegun}
 use Rattle.read.specs.Surveying.{placeSeen, Known}
 use Rattle.read.specs.Underway.{Seen}
 use Rattle.read.proofs.NameLaws.{numberPacked, letter-kept, byte-separator, byte-letter, bytes-none, bytes-more, bytes-settled, bytes-append, segment-kind, header-context}
@@ -100,7 +100,7 @@ module _ (s : Survey) (may : ℕ → ℕ → ℕ → Bool) where
   pub closed-as : {kind : ℕ} {watcher : Watcher} {told : Told} {unknown misplaced : ℕ}
       → kind ≡ kindSeen s → watcher ≡ watching s → told ≡ tellBy may watcher kind
       → unknown ≡ firstOf (s .unknown) (eqb kind 0) (s .segments) → misplaced ≡ firstOf (s .misplaced) (not (told .yes)) (s .segments)
-      → closedStruct unknown misplaced (told .watcher) ≡ closed may s
+      → closedStruct unknown misplaced (told .watcher) ≡ segmentShut may s
   unfolding toldNow
   closed-as {told = told} {unknown = unknown} k v x u p =
       ap (λ (b : ℕ). closedStruct unknown b (told .watcher)) p
@@ -228,7 +228,7 @@ module _ (ps : Separators) (s : Survey) (table : List ℕ) (is : table ≡ follo
         (λ (e : k ≡ 0 → ⊥). ne-eqb k 0 e ∙ sym (ne-eqb 0 k (λ q. e (sym q))))
         (equal-or-not k 0)
 
-    unknown-closed : closed (followsBy table) s .unknown ≡ firstUnknown (kindsOf ps (segmentsOf done last))
+    unknown-closed : segmentShut (followsBy table) s .unknown ≡ firstUnknown (kindsOf ps (segmentsOf done last))
     unfolding firstUnknown
     unknown-closed =
         ap₂ (λ (a : ℕ) (b : Bool). firstOf a b (s .segments)) (w .judged .unknown) (zero-test (kindSeen s) ∙ ap (eqb 0) (kind-seen ps s done last w))
@@ -236,7 +236,7 @@ module _ (ps : Separators) (s : Survey) (table : List ℕ) (is : table ≡ follo
         ∙ sym (first-append (eqb 0) 0 (kindsOf ps done) (kindOfSegment ps last))
         ∙ ap (firstFrom (eqb 0) 1) (sym (kinds-last done last))
 
-    misplaced-closed : closed (followsBy table) s .misplaced ≡ firstNo 1 (watcherOf done last) (kindsOf ps (segmentsOf done last))
+    misplaced-closed : segmentShut (followsBy table) s .misplaced ≡ firstNo 1 (watcherOf done last) (kindsOf ps (segmentsOf done last))
     misplaced-closed =
         ap₂ (λ (a : ℕ) (b : Bool). firstOf a (not b) (s .segments)) (misplaced-seen done last w) (ap (λ (x : Told). x .yes) told-seen)
         ∙ ap
@@ -246,14 +246,14 @@ module _ (ps : Separators) (s : Survey) (table : List ℕ) (is : table ≡ follo
         ∙ sym (no-append 0 (watcherOf done last) (kindsOf ps done) (kindOfSegment ps last))
         ∙ ap (firstNo 1 (watcherOf done last)) (sym (kinds-last done last))
 
-    watcher-closed : closed (followsBy table) s .watcher ≡ watched (watcherOf done last) (kindsOf ps (segmentsOf done last))
+    watcher-closed : segmentShut (followsBy table) s .watcher ≡ watched (watcherOf done last) (kindsOf ps (segmentsOf done last))
     watcher-closed =
         ap (λ (x : Told). x .watcher) told-seen
         ∙ sym (watched-append (watcherOf done last) (kindsOf ps done) (kindOfSegment ps last))
         ∙ ap (watched (watcherOf done last)) (sym (kinds-last done last))
 
     -- the open segment closed and the next begun
-    pub seen-next : Seen ps (segmentsOf done last) [] (nextSegment (closed (followsBy table) s))
+    pub seen-next : Seen ps (segmentsOf done last) [] (segmentBegun (segmentShut (followsBy table) s))
     seen-next =
         record {
           count = omega (arith, w .count, length-append done (last ∷ []));
@@ -265,7 +265,7 @@ module _ (ps : Separators) (s : Survey) (table : List ℕ) (is : table ≡ follo
           bytes = none;
         }
 
-    place-closed : placeSeen (closed (followsBy table) s) ≡ misplaced (contextIn ps (segmentsOf done last)) (kindsOf ps (segmentsOf done last))
+    place-closed : placeSeen (segmentShut (followsBy table) s) ≡ misplaced (contextIn ps (segmentsOf done last)) (kindsOf ps (segmentsOf done last))
     unfolding placeSeen placeTold
     place-closed =
         let past : s .segments + 1 ≡ suc 0 + length (kindsOf ps (segmentsOf done last))
@@ -279,7 +279,7 @@ module _ (ps : Separators) (s : Survey) (table : List ℕ) (is : table ≡ follo
         ∙ place-by-watcher (contextIn ps (segmentsOf done last)) (kindsOf ps (segmentsOf done last))
 
     -- all segments closed: what tests 7 to 11 ask
-    pub seen-closed : Known ps (segmentsOf done last) (closed (followsBy table) s)
+    pub seen-closed : Known ps (segmentsOf done last) (segmentShut (followsBy table) s)
     seen-closed =
         record {
           count = omega (arith, w .count, length-append done (last ∷ []));

@@ -10,20 +10,21 @@ use Rattle.form.specs.declared.separators.Separators.{Separators}
 use Rattle.line.specs.Finding.{lowRun}
 use Rattle.order.specs.Levels.{levelIn}
 use Rattle.order.specs.Owning.{Owned}
+use Rattle.table.specs.Rows.{segmentRowSize, leafRowSize, segmentRow}
 use Rattle.table.specs.Filed.{headerBytes}
 use Rattle.table.specs.OnePass.{headerPass}
 use Rattle.read.specs.declared.lay.Laying.{Laying}
 use Rattle.read.specs.declared.lay.Laid.{Laid}
 use Rattle.read.specs.declared.fill.Filling.{Filling}
-use Rattle.read.specs.Laying.{placeOf, rowOf, nextLeaf, nextSegment, Counted, Held, LaidBy}
-use Rattle.read.specs.Segments.{segmentRow, ClosedBy, begunAfter, HeaderPut, LineFilled}
+use Rattle.read.specs.Laying.{leafPlace, rowOf, nextLeaf, nextSegment, PlaceCounted, Held, LaidBy}
+use Rattle.read.specs.Segments.{ClosedBy, begunAfter, HeaderPut, LineFilled}
 use Rattle.read.proofs.HeldLaws.{leaf-closes, held-begins, held-copied, held-put}
 
 -- a segment closed, from the level and the owner that were told of its kind
 pub closed-by : {f : Filling} {levels : List ℕ} {context : ℕ} {nearest segments leaves nearest′ segments′ leaves′ : List ℕ} {kind level owner : ℕ}
     → level ≡ levelIn levels context kind → Owned nearest nearest′ (f .laying .segment) kind level owner
     → leaves′ ≡ sets leaves (f .laying .row) (rowOf (f .laying))
-    → segments′ ≡ sets segments ((f .laying .segment - 1) * 4) (segmentRow kind owner (f .first) (f .laying .row / 7 + 2 - f .first))
+    → segments′ ≡ sets segments ((f .laying .segment - 1) * segmentRowSize) (segmentRow kind owner (f .first) (f .laying .row / leafRowSize + 2 - f .first))
     → ClosedBy f kind levels context nearest segments leaves nearest′ segments′ leaves′
 closed-by {f} {nearest = nearest} {nearest′ = nearest′} {kind = kind} {owner = owner} told owns leaf row =
     record {
@@ -34,8 +35,8 @@ closed-by {f} {nearest = nearest} {nearest′ = nearest′} {kind = kind} {owner
     }
 
 -- the segment after it
-pub begun-after : (f : Filling) {l : Laying} → l ≡ nextSegment (f .laying) → record { laying = l; first = f .laying .row / 7 + 2 } ≡ begunAfter f
-begun-after f e = ap {B = Filling} (λ (l : Laying). record { laying = l; first = f .laying .row / 7 + 2 }) e
+pub begun-after : (f : Filling) {l : Laying} → l ≡ nextSegment (f .laying) → record { laying = l; first = f .laying .row / leafRowSize + 2 } ≡ begunAfter f
+begun-after f e = ap {B = Filling} (λ (l : Laying). record { laying = l; first = f .laying .row / leafRowSize + 2 }) e
 
 -- a line
 pub line-filled : {class message : List ℕ} {from : ℕ} {f : Filling} {text leaves text′ leaves′ : List ℕ}
@@ -57,28 +58,28 @@ abbrev pub nameLeaf : Laying
 nameLeaf = record { row = 0; segment = 1; field = 1; repetition = 1; subfield = 1; subsubfield = 1; begin = 0; out = 1 }
 
 abbrev pub statedLeaf : Laying
-statedLeaf = record { row = 7; segment = 1; field = 2; repetition = 1; subfield = 1; subsubfield = 1; begin = 1; out = 5 }
+statedLeaf = record { row = leafRowSize; segment = 1; field = 2; repetition = 1; subfield = 1; subsubfield = 1; begin = 1; out = 5 }
 
 abbrev pub beforeHeader : Laying
 beforeHeader = record { row = 0; segment = 1; field = 1; repetition = 1; subfield = 1; subsubfield = 1; begin = 0; out = 0 }
 
 abbrev pub afterName : Laying
-afterName = record { row = 7; segment = 1; field = 2; repetition = 1; subfield = 1; subsubfield = 1; begin = 1; out = 1 }
+afterName = record { row = leafRowSize; segment = 1; field = 2; repetition = 1; subfield = 1; subsubfield = 1; begin = 1; out = 1 }
 
 module _ (ps : Separators) (text leaves : List ℕ) where
   abbrev stated : List ℕ
   stated = ps .subfield ∷ ps .repeater ∷ ps .escape ∷ ps .subsubfield ∷ []
 
   header-held : Held text leaves (headerPass ps) (nextLeaf statedLeaf 1) (sets text 0 (72 ∷ stated))
-      (sets (sets leaves 0 (rowOf nameLeaf)) 7 (rowOf statedLeaf))
-  unfolding placeOf nextLeaf headerPass headerBytes
+      (sets (sets leaves 0 (rowOf nameLeaf)) leafRowSize (rowOf statedLeaf))
+  unfolding leafPlace nextLeaf headerPass headerBytes
   header-held =
       let begins = held-begins text leaves (1 ∷ 1 ∷ 1 ∷ 1 ∷ 1 ∷ []) beforeHeader refl refl refl refl in
       let named = held-put (held-copied begins (72 ∷ []) 1 refl) {next = afterName} (leaf-closes nameLeaf 1) in
       held-put (held-copied named stated 5 refl) {next = nextLeaf statedLeaf 1} (leaf-closes statedLeaf 1)
 
   pub header-put : {leaves₁ leaves₂ : List ℕ} {l : Laying} → leaves₁ ≡ sets leaves 0 (rowOf nameLeaf)
-      → leaves₂ ≡ sets leaves₁ 7 (rowOf statedLeaf) → l ≡ nextLeaf statedLeaf 1
+      → leaves₂ ≡ sets leaves₁ leafRowSize (rowOf statedLeaf) → l ≡ nextLeaf statedLeaf 1
       → HeaderPut ps text leaves (record { laying = l; first = 1 })
       (sets text 0 (72 ∷ stated)) leaves₂
   unfolding nextLeaf
@@ -87,8 +88,8 @@ module _ (ps : Separators) (text leaves : List ℕ) where
         held =
             subst⁻¹ (λ (k : Laying). Held text leaves (headerPass ps) k (sets text 0 (72 ∷ stated)) leaves₂) is
             (subst⁻¹ (λ (v : List ℕ). Held text leaves (headerPass ps) (nextLeaf statedLeaf 1) (sets text 0 (72 ∷ stated)) v)
-            (rest ∙ ap (λ (v : List ℕ). sets v 7 (rowOf statedLeaf)) name) header-held);
-        counted = subst⁻¹ Counted is (omega arith);
+            (rest ∙ ap (λ (v : List ℕ). sets v leafRowSize (rowOf statedLeaf)) name) header-held);
+        counted = subst⁻¹ PlaceCounted is (omega arith);
         number = ap (λ (k : Laying). k .segment) is;
         out = ap (λ (k : Laying). k .out) is;
         first = refl;

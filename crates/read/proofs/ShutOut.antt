@@ -21,7 +21,7 @@ use Rattle.table.proofs.Accepting.{refuse-passed}
 use Rattle.table.proofs.Examples.{examples-hold}
 use Rattle.read.specs.declared.Answer.{Answer}
 use Rattle.read.specs.Answering.{answerOf, segmentsPut, leavesPut, roomOf, Gives, ReadAs}
-use Rattle.read.proofs.OwnersColumn.{front-at, roomy-segments, roomy-leaves}
+use Rattle.table.proofs.Room.{front-at, roomy-segments, roomy-leaves}
 
 -- what an example says of the outcome
 says-accepted : (o : Outcome) {t : Table} {bytes : ℕ} {lines : List ℕ} → says o ≡ files t bytes lines → o ≡ accepted t
@@ -111,6 +111,15 @@ module _ (text segments leaves : List ℕ) {text′ segments′ leaves′ : List
   fills-first-segment-only g zeros unchanged =
       let is : getD leaves′ 49 0 ≡ 2 =
       ap (λ (s : List ℕ). getD s 49 0) (given K1 k1-read g .leafRows) ∙ front-at leaves (k1 .leafRows) 49 (omega (arith, roomy-leaves form (roomOf text segments leaves) roomy)) (lit≤ tt) in
+      omega arith
+
+  -- one that keeps a finer number behind a coarser separator: JEAN stands in row 14, at 2.6.1.2.1
+  pub keeps-a-finer-number : ReadAs form level K1 text segments leaves r text′ segments′ leaves′ → getD leaves′ 95 0 ≡ 2 → ⊥
+  unfolding leavesPut k1 filed concat
+  keeps-a-finer-number g h =
+      let is : getD leaves′ 95 0 ≡ 1 =
+      ap (λ (s : List ℕ). getD s 95 0) (given K1 k1-read g .leafRows)
+      ∙ front-at leaves (k1 .leafRows) 95 (omega (arith, roomy-leaves form (roomOf text segments leaves) roomy)) (lit≤ tt) in
       omega arith
 
   -- "invented leaf .. counts": one leaf too many

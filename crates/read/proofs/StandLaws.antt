@@ -1,4 +1,4 @@
--- The second pass line by line: there is room for a line and for the rows it closes; after it the pass stands at the next place, where an
+-- The second pass line by line: tline-readable is room for a line and for the rows it closes; after it the pass stands at the next place, wline-readable an
 -- addendum goes on with the segment begun, any other line with the next one, and at the message's end the buffers hold the table.
 -- Assumes nothing.
 use mathlib.Core.List.{List, [], _∷_, _++_, append-assoc}
@@ -10,40 +10,45 @@ use lib.ListN.{length, getD, drop}
 use lib.Seq.{sets, length-sets}
 use Rattle.laws.proofs.Tests.{Tested, passed, failed, tested}
 use Rattle.laws.proofs.Cases.{less-or-not}
+use Rattle.form.specs.declared.limits.Limits.{Limits}
 use Rattle.form.specs.declared.separators.Separators.{Separators}
 use Rattle.form.proofs.HeaderRule.{sound-header}
+use Rattle.laws.proofs.Bytes.{Bytes}
 use Rattle.line.specs.Joining.{addendum}
+use Rattle.line.specs.Left.{LeftAt}
+use Rattle.line.proofs.Left.{none-left, segments-left}
 use Rattle.order.specs.Levels.{levelIn}
 use Rattle.order.specs.Owners.{owners}
 use Rattle.order.proofs.Owner.{owned-owners}
 use Rattle.table.specs.Leaves.{kindOfSegment, messageLeaves}
-use Rattle.table.specs.Rows.{segmentRowsFrom, leafRowsFrom, textOf, kindsOf, allLeaves, tableOf}
+use Rattle.table.specs.Rows.{leafRowSize, width, segmentRowsFrom, leafRowsFrom, textOf, kindsOf, allLeaves, tableOf}
 use Rattle.read.specs.declared.fill.Filling.{Filling}
 use Rattle.read.specs.declared.fill.Line.{Line}
 use Rattle.read.specs.Scan.{run}
 use Rattle.read.specs.Starting.{textFrom}
-use Rattle.read.specs.Laying.{nextSegment, Counted, Lays}
-use Rattle.read.specs.Filling.{segmentsIn, tableIn, Filled}
-use Rattle.read.specs.Segments.{kindNoted, Closable, ClosedBy, begunAfter, lineText, lineAfter, LineFilled, closedRows, Begun, Left, Came, Surveyed, Stands, AtLine}
+use Rattle.read.specs.Laying.{nextSegment, PlaceCounted, Lays}
+use Rattle.read.specs.Filling.{segmentsIn, tableIn, Fillable, Filled}
+use Rattle.read.specs.Segments.{kindNoted, Closable, ClosedBy, begunAfter, lineText, lineAfter, LineFilled, closedRows, Begun, Came, Stands, AtLine}
 use Rattle.read.proofs.KindLookup.{kind-found}
 use Rattle.read.proofs.BegunLaws.{leaves-some, begun-leaves, begun-own, begun-joined, closed-rows, begun-next, begun-ends}
 use Rattle.read.proofs.StartLaws.{begins-segment, carries-on, carried-from, from-past}
-use Rattle.read.proofs.LeftLaws.{Readable, line-clear, addendum-within, segment-within, left-addendum, left-segment, left-none, segments-left, leaves-left, leaves-line}
+use Rattle.read.proofs.LeftLaws.{Readable, line-clear, addendum-within, segment-within, addendum-left, segment-left, leaves-left, leaves-line}
 
-pub readable : {c : Came} {class kinds levels : List ℕ} {context : ℕ} {ps : Separators} {m : List ℕ} → Surveyed c class kinds levels context ps m
-    → Readable (c .limits) ps class m
-readable {ps = ps} {m = m} y =
-    let header = sound-header m ps (y .given .header) in
+pub readable : {L : Limits} {class kinds : List ℕ} {ps : Separators} {context : ℕ} {m : List ℕ} → Fillable L class kinds ps context m → Bytes m
+    → Readable L ps class m
+readable {ps = ps} {m = m} given bytes =
+    let header = sound-header m ps (given .header) in
     record {
-      one = omega (arith, y .given .lawful .header);
+      one = omega (arith, given .fits .lawful .header);
       high = omega (arith, header .allowed .field .low);
-      classes = y .given .classes;
-      bytes = y .bytes;
+      classes = given .classes;
+      bytes = bytes;
+      sound = given .sound;
     }
 
 -- the buffers keep their lengths
-module _ {lv : ℕ → ℕ} {ps : Separators} {text₀ segments₀ leaves₀ : List ℕ} {closed : List (List ℕ)} {begun : List ℕ} {f : Filling}
-    {nearest text segments leaves : List ℕ} (b : Begun lv ps text₀ segments₀ leaves₀ closed begun f nearest text segments leaves) where
+module _ {lv : ℕ → ℕ} {ps : Separators} {text₀ segments₀ leaves₀ : List ℕ} {done : List (List ℕ)} {last : List ℕ} {f : Filling}
+    {nearest text segments leaves : List ℕ} (b : Begun lv ps text₀ segments₀ leaves₀ done last f nearest text segments leaves) where
   pub text-kept : length text ≡ length text₀
   text-kept = ap length (b .held .texts) ∙ (simp length-sets)
 
@@ -56,20 +61,23 @@ module _ {lv : ℕ → ℕ} {ps : Separators} {text₀ segments₀ leaves₀ : L
 -- a line from `from` on, whose text goes to the segment begun
 module _ {c : Came} {class kinds levels : List ℕ} {context : ℕ} {ps : Separators} {m : List ℕ} {from : ℕ} {f : Filling}
     {nearest text segments leaves : List ℕ} (j : AtLine c class kinds levels context ps m from f nearest text segments leaves) where
+  line-readable : Readable (c .limits) ps class m
+  line-readable = readable (j .prepared .given) (j .bytes)
+
   pub line-lays : Lays class m from (f .laying) text leaves
   line-lays =
-      let given = j .surveyed .given in
-      let few = leaves-line (readable (j .surveyed)) (j .closed) (j .begun) (j .begins .filed) from (lineAfter class m from) (j .left) in
+      let given = j .prepared .given in
+      let few = leaves-line line-readable (j .done) (j .last) (j .begins .filed) from (lineAfter class m from) (j .left) in
       let rows = begun-leaves (j .begins) in
       let text-same = text-kept (j .begins) in
       let leaves-same = leaves-kept (j .begins) in
       let behind = j .behind in
       record {
         ahead = j .inside;
-        room = omega (arith, j .inside, given .bytes, given .textRoom);
-        short = omega (arith, j .inside, given .bytes, given .small);
-        rows = omega (arith, given .fewLeaves, given .leafRoom);
-        few = omega (arith, given .fewLeaves, given .leavesSmall);
+        room = omega (arith, j .inside, given .bytes, j .prepared .textRoom);
+        short = omega (arith, j .inside, given .bytes, given .fits .bytes);
+        rows = omega (arith, given .fewLeaves, j .prepared .leafRoom);
+        few = omega (arith, given .fewLeaves, given .fits .leaves);
         counted = j .begins .counted;
       }
 
@@ -81,11 +89,12 @@ module _ {c : Came} {class kinds levels : List ℕ} {context : ℕ} {ps : Separa
       let behind = j .behind in
       let inside = j .inside in
       record {
-        surveyed = j .surveyed;
-        closed = j .closed;
-        begun = j .begun ++ lineText class m from;
-        begins = begun-joined (j .begins) (j .surveyed .given .classes) (line-clear (readable (j .surveyed)) from) filled;
-        left = subst⁻¹ (Left (c .limits) ps m (j .closed) (j .begun ++ lineText class m from)) next (j .left);
+        prepared = j .prepared;
+        bytes = j .bytes;
+        done = j .done;
+        last = j .last ++ lineText class m from;
+        begins = begun-joined (j .begins) (j .prepared .given .classes) (line-clear line-readable from) filled;
+        left = subst⁻¹ (LeftAt (c .limits) (ps .field) m (j .done) (j .last ++ lineText class m from)) next (j .left);
         behind = omega arith;
         within = omega arith;
       }
@@ -93,43 +102,46 @@ module _ {c : Came} {class kinds levels : List ℕ} {context : ℕ} {ps : Separa
 -- closing the segment begun
 module _ {c : Came} {class kinds levels : List ℕ} {context : ℕ} {ps : Separators} {m : List ℕ} {at : ℕ} {f : Filling}
     {nearest text segments leaves : List ℕ} (w : Stands c class kinds levels context ps m at f nearest text segments leaves) where
-  row-few : f .laying .row + 7 ≤ c .limits .leaves * 7
+  stands-readable : Readable (c .limits) ps class m
+  stands-readable = readable (w .prepared .given) (w .bytes)
+
+  row-few : f .laying .row + leafRowSize ≤ c .limits .leaves * leafRowSize
   row-few =
-      let few = leaves-left (readable (w .surveyed)) (w .closed) (w .begun) (w .begins .filed) at (w .left) in
+      let few = leaves-left stands-readable (w .done) (w .last) (w .begins .filed) at (w .left) in
       let rows = begun-leaves (w .begins) in
-      omega (arith, w .surveyed .given .fewLeaves)
+      omega (arith, w .prepared .given .fewLeaves)
 
   pub stands-closable : Closable f kinds segments leaves
   stands-closable =
-      let given = w .surveyed .given in
+      let given = w .prepared .given in
       let few = row-few in
       let own = begun-own (w .begins) in
-      let some-leaf = leaves-some ps (w .closed) (w .begun) in
+      let some-leaf = leaves-some ps (w .done) (w .last) in
       let number = w .begins .number in
       let first = w .begins .first in
-      let in-all = segments-left (w .left) in
+      let in-all = segments-left (c .limits) m at (w .left) in
       let segments-same = segments-kept (w .begins) in
       let leaves-same = leaves-kept (w .begins) in
       record {
-        leafRoom = omega (arith, given .leafRoom);
-        fewLeaves = omega (arith, given .leavesSmall);
-        short = omega (arith, w .within, given .bytes, given .small);
+        leafRoom = omega (arith, w .prepared .leafRoom);
+        fewLeaves = omega (arith, given .fits .leaves);
+        short = omega (arith, w .within, given .bytes, given .fits .bytes);
         counted = w .begins .counted;
         numbered = omega arith;
-        noted = omega (arith, w .surveyed .all);
-        segmentRoom = omega (arith, given .few, given .segmentRoom);
+        noted = omega (arith, w .prepared .given .all);
+        segmentRoom = omega (arith, given .few, w .prepared .segmentRoom);
         begins = omega arith;
         some = omega arith;
       }
 
-  pub stands-next : (f .laying .row < 65535 * 7) × Counted (f .laying)
+  pub stands-next : (f .laying .row + leafRowSize < width * leafRowSize) × PlaceCounted (f .laying)
   stands-next = (stands-closable .fewLeaves, stands-closable .counted)
 
   -- the kind noted of the segment begun is its own, once no line carries it on
-  kind-own : (rest : List (List ℕ)) → segmentsIn (c .limits) ps m ≡ w .closed ++ (w .begun ∷ rest) → kindNoted kinds f ≡ kindOfSegment ps (w .begun)
+  kind-own : (rest : List (List ℕ)) → segmentsIn (c .limits) ps m ≡ w .done ++ (w .last ∷ rest) → kindNoted kinds f ≡ kindOfSegment ps (w .last)
   kind-own rest whole =
-      let place : f .laying .segment - 1 ≡ length (w .closed) = omega (arith, w .begins .number) in
-      ap (λ (n : ℕ). getD kinds n 0) place ∙ kind-found ps kinds (w .surveyed .noted) (w .surveyed .all) (w .closed) (w .begun) rest whole
+      let place : f .laying .segment - 1 ≡ length (w .done) = omega (arith, w .begins .number) in
+      ap (λ (n : ℕ). getD kinds n 0) place ∙ kind-found ps kinds (w .prepared .given .noted) (w .prepared .given .all) (w .done) (w .last) rest whole
 
   -- the line at `at` is an addendum: its text after the mark goes to the segment begun
   pub stands-addendum : {from : ℕ} → from ≡ textFrom (ps .field) at (drop at m) → (from ≡ at → ⊥)
@@ -142,15 +154,16 @@ module _ {c : Came} {class kinds levels : List ℕ} {context : ℕ} {ps : Separa
       = ⊎-elim (λ less. less) (λ none-left. absurd (other (from-past (ps .field) at m none-left))) (less-or-not at (length m)) in
       let behind = w .behind in
       record {
-        surveyed = w .surveyed;
-        closed = w .closed;
-        begun = w .begun;
+        prepared = w .prepared;
+        bytes = w .bytes;
+        done = w .done;
+        last = w .last;
         begins = w .begins;
         left =
-            subst⁻¹ (λ (j : ℕ). Left (c .limits) ps m (w .closed) (w .begun ++ lineText class m j) (lineAfter class m j)) start
-            (left-addendum (readable (w .surveyed)) (w .left) h marked);
+            subst⁻¹ (λ (j : ℕ). LeftAt (c .limits) (ps .field) m (w .done) (w .last ++ lineText class m j) (lineAfter class m j)) start
+            (addendum-left stands-readable at (w .left) h marked);
         inside =
-            subst⁻¹ (λ (j : ℕ). j + run class (drop j m) < length m) start (addendum-within (readable (w .surveyed)) (w .left) h marked);
+            subst⁻¹ (λ (j : ℕ). j + run class (drop j m) < length m) start (addendum-within stands-readable at (w .left) h marked);
         behind = omega arith;
       }
 
@@ -161,16 +174,17 @@ module _ {c : Came} {class kinds levels : List ℕ} {context : ℕ} {ps : Separa
   unfolding nextSegment
   stands-segment h {from} e here {nearest′} {segments′} {leaves′} closes {g} is =
       let other = begins-segment (ps .field) at (drop at m) (sym e ∙ here) in
-      let next = left-segment (readable (w .surveyed)) (w .left) h other in
+      let next = segment-left stands-readable at (w .left) h other in
       subst⁻¹ (λ (j : ℕ). AtLine c class kinds levels context ps m j g nearest′ text segments′ leaves′) here
       (subst⁻¹ (λ (k : Filling). AtLine c class kinds levels context ps m at k nearest′ text segments′ leaves′) is
       (record {
-        surveyed = w .surveyed;
-        closed = w .closed ++ (w .begun ∷ []);
-        begun = [];
-        begins = begun-next (w .begins) (λ k. refl) (kind-own _ (next .whole ∙ append-assoc (w .closed) (w .begun ∷ []) _)) closes;
+        prepared = w .prepared;
+        bytes = w .bytes;
+        done = w .done ++ (w .last ∷ []);
+        last = [];
+        begins = begun-next (w .begins) (λ k. refl) (kind-own _ (next .joins ∙ append-assoc (w .done) (w .last ∷ []) _)) closes;
         left = next;
-        inside = segment-within (readable (w .surveyed)) (w .left) h;
+        inside = segment-within stands-readable at (w .left) h;
         behind = w .behind;
       }))
 
@@ -178,17 +192,17 @@ module _ {c : Came} {class kinds levels : List ℕ} {context : ℕ} {ps : Separa
   module _ (h : length m ≤ at) {nearest′ segments′ leaves′ : List ℕ}
       (closes : ClosedBy f (kindNoted kinds f) levels context nearest segments leaves nearest′ segments′ leaves′) where
     abbrev all : List (List ℕ)
-    all = w .closed ++ (w .begun ∷ [])
+    all = w .done ++ (w .last ∷ [])
 
     whole : segmentsIn (c .limits) ps m ≡ all
-    whole = left-none (w .left) h
+    whole = none-left (c .limits) m at (w .left) h
 
     rows-owned : (ss : List (List ℕ)) → closedRows (levelIn levels context) ps ss
         ≡ segmentRowsFrom 1 (kindsOf ps ss) (owners (levelIn levels context) (kindsOf ps ss)) (messageLeaves ps ss)
     unfolding closedRows
     rows-owned ss =
         ap (λ (os : List ℕ). segmentRowsFrom 1 (kindsOf ps ss) os (messageLeaves ps ss))
-        (owned-owners (levelIn levels context) (w .surveyed .below context) (kindsOf ps ss))
+        (owned-owners (levelIn levels context) (w .prepared .below context) (kindsOf ps ss))
 
     pub stands-filled : Filled (tableIn (c .limits) levels ps m) (c .text) (c .segments) (c .leaves) text segments′ leaves′ (f .laying .out)
     unfolding tableOf
@@ -203,7 +217,7 @@ module _ {c : Came} {class kinds levels : List ℕ} {context : ℕ} {ps : Separa
               ∙ rows-owned (segmentsIn (c .limits) ps m)
               ∙ ap (λ (n : ℕ). segmentRowsFrom 1 (kindsOf ps (segmentsIn (c .limits) ps m))
               (owners (levelIn levels n) (kindsOf ps (segmentsIn (c .limits) ps m))) (messageLeaves ps (segmentsIn (c .limits) ps m)))
-              (w .surveyed .named));
+              (w .prepared .given .named));
           leafRows = ends .stored ∙ ap (λ (ss : List (List ℕ)). sets (c .leaves) 0 (leafRowsFrom 0 (allLeaves ps ss))) (sym whole);
           counted = sym (ends .reaches) ∙ ap (λ (ss : List (List ℕ)). length (textOf (allLeaves ps ss))) (sym whole);
         }

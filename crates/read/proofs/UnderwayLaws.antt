@@ -1,11 +1,11 @@
 -- A survey underway: how a line begins that is joined to the open segment or begins the next, what it comes to, and the end.
 -- Assumes nothing.
 use mathlib.Core.Bool.{true, false}
-use mathlib.Core.List.{List, [], _∷_, _++_, append-assoc, append-nil}
+use mathlib.Core.List.{List, [], _∷_, _++_, append-assoc}
 use mathlib.Core.Path.{_≡_, refl, sym, ap, ap₂, _∙_, subst, subst⁻¹}
 use Prim.Native.Nat.{ℕ, _+_, _-_, _≤_, _<_, min}
 use native.Mathlib.Omega.{arith}
-use lib.ListN.{length, take, drop, length-take, length-drop, drop-of-length-le}
+use lib.ListN.{length, take, drop, length-take, length-drop}
 use lib.Seq.{drop-drop, take-add, take-take}
 use Rattle.laws.specs.Lists.{among, count}
 use Rattle.laws.proofs.Every.{all-take, all-drop}
@@ -13,15 +13,17 @@ use Rattle.laws.proofs.Lists.{count-within}
 use Rattle.form.specs.declared.limits.Limits.{Limits}
 use Rattle.form.specs.declared.separators.Separators.{Separators}
 use Rattle.form.specs.Header.{splitting}
+use Rattle.laws.proofs.Bytes.{Bytes}
 use Rattle.form.proofs.HeaderRule.{SoundHeader}
 use Rattle.order.specs.Followers.{followers}
 use Rattle.order.specs.Watcher.{followsBy}
-use Rattle.line.specs.Lines.{Lines, end, fault, line, walkFrom, walk, texts, faultNumber, faultPlace}
+use Rattle.line.specs.Lines.{Lines, fault, line, walkFrom, walk, texts, faultNumber, faultPlace}
 use Rattle.line.specs.Finding.{textRun, foundAt, handedOut, endedLine}
-use Rattle.line.specs.Joining.{letterA, addendum, carried, joined}
+use Rattle.line.specs.Joining.{letterA, addendum, joined}
 use Rattle.line.specs.declared.finder.Found.the-variants.{Line, Fault}
-use Rattle.line.proofs.Steps.{walkFrom-nil}
-use Rattle.line.proofs.Joining.{addendum-line, addendum-front, carried-addendum, carried-segment, joined-addendum, joined-segment}
+use Rattle.line.specs.Left.{Left}
+use Rattle.line.proofs.Joining.{addendum-line, addendum-front}
+use Rattle.line.proofs.Left.{left-addendum, left-segment, left-first, none-faulty, none-left}
 use Rattle.line.proofs.Runs.{textRun-more, textRun-take, textRun-past, textRun-length}
 use Rattle.line.proofs.Finding.{found-ended, EndedAt, ended-at}
 use Rattle.line.proofs.Handing.{walkFrom-found, line-within}
@@ -29,62 +31,22 @@ use Rattle.table.specs.Filed.{headerBytes}
 use Rattle.table.proofs.HeaderBytes.{header-bytes}
 use Rattle.read.specs.declared.survey.Survey.{Survey}
 use Rattle.read.specs.declared.survey.Step.the-variants.{On}
-use Rattle.read.specs.Classes.{classTable}
+use Rattle.table.specs.Classes.{classTable}
 use Rattle.read.specs.Scan.{run, marks}
 use Rattle.read.specs.Starting.{textFrom}
-use Rattle.read.specs.Seeing.{nothingSeen, withText, closed, nextSegment}
+use Rattle.read.specs.Seeing.{nothingSeen, withText, segmentShut, segmentBegun}
 use Rattle.read.specs.Surveying.{Known}
-use Rattle.read.specs.Underway.{Seen, SameFault, Left, Underway, LineBegun, StepOf}
-use Rattle.read.proofs.ScanLaws.{Bytes, run-text, marks-separators}
+use Rattle.read.specs.Underway.{Seen, Underway, LineBegun, StepOf}
+use Rattle.read.proofs.ScanLaws.{run-text, marks-separators}
 use Rattle.read.proofs.StartLaws.{addendum-other, addendum-view, begins-segment, carries-on, carried-from, header-text}
 use Rattle.read.proofs.SeenLaws.{seen-begins, seen-text, seen-next, seen-closed}
-
--- what is left of the lines, one line on
-fault-on : {whole : Lines} {l : List ℕ} {ls : Lines} → SameFault whole (line l ls) → SameFault whole ls
-unfolding faultNumber faultPlace
-fault-on w = record { number = w .number; place = w .place }
-
-module _ {f : ℕ} {whole : Lines} {done : List (List ℕ)} {last l : List ℕ} {ls : Lines} where
-  -- an addendum carries the open segment on
-  left-addendum : addendum f l ≡ true → Left f whole done last (line l ls) → Left f whole done (last ++ drop 2 l) ls
-  unfolding texts
-  left-addendum a w =
-      record {
-        joins =
-            w .joins
-            ∙ ap₂ (λ (x : List ℕ) (y : List (List ℕ)). done ++ (last ++ x) ∷ y) (carried-addendum f l (texts ls) a) (joined-addendum f l (texts ls) a)
-            ∙ ap (λ (x : List ℕ). done ++ x ∷ joined f (texts ls)) (sym (append-assoc last (drop 2 l) (carried f (texts ls))));
-        fault = fault-on (w .fault);
-      }
-
-  -- any other line closes it and begins the next
-  left-segment : addendum f l ≡ false → Left f whole done last (line l ls) → Left f whole (done ++ last ∷ []) l ls
-  unfolding texts
-  left-segment a w =
-      record {
-        joins =
-            w .joins
-            ∙ ap₂ (λ (x : List ℕ) (y : List (List ℕ)). done ++ (last ++ x) ∷ y) (carried-segment f l (texts ls) a) (joined-segment f l (texts ls) a)
-            ∙ ap (λ (x : List ℕ). done ++ x ∷ (l ++ carried f (texts ls)) ∷ joined f (texts ls)) (append-nil last)
-            ∙ sym (append-assoc done (last ∷ []) ((l ++ carried f (texts ls)) ∷ joined f (texts ls)));
-        fault = fault-on (w .fault);
-      }
-
--- the first line begins the first segment
-left-first : (f : ℕ) (whole : Lines) (l : List ℕ) (ls : Lines) → whole ≡ line l ls → addendum f l ≡ false → Left f whole [] l ls
-unfolding texts faultNumber faultPlace
-left-first f whole l ls e a =
-    record {
-      joins = ap (λ (w : Lines). joined f (texts w)) e ∙ joined-segment f l (texts ls) a;
-      fault = record { number = ap faultNumber e; place = ap faultPlace e };
-    }
 
 -- a line at `at` of the message m
 module _ (L : Limits) (ps : Separators) (m : List ℕ) (at : ℕ) (s : Survey) where
   -- that is no addendum begins a segment
   segment-begins :
       (table : List ℕ) → table ≡ followers → at < length m → Underway L ps m at s → addendum (ps .field) (drop at m) ≡ false
-      → LineBegun L ps m at at (nextSegment (closed (followsBy table) s))
+      → LineBegun L ps m at at (segmentBegun (segmentShut (followsBy table) s))
   segment-begins table is some w a =
       record {
         done = w .done ++ w .last ∷ [];
@@ -149,11 +111,11 @@ module _ {L : Limits} {ps : Separators} {m : List ℕ} {at from : ℕ} {s : Surv
 
   -- or one that begins a segment, once the open one is closed
   pub begins-next : {table : List ℕ} {shut next : Survey} → table ≡ followers → from ≡ at → at < length m
-      → shut ≡ closed (followsBy table) s → next ≡ nextSegment shut → LineBegun L ps m at from next
+      → shut ≡ segmentShut (followsBy table) s → next ≡ segmentBegun shut → LineBegun L ps m at from next
   begins-next {table = table} {next = next} is here some shuts opens =
       let segment = begins-segment (ps .field) at (drop at m) (sym is-from ∙ here) in
       subst⁻¹ (λ (n : ℕ). LineBegun L ps m at n next) here
-      (subst⁻¹ (LineBegun L ps m at at) (opens ∙ ap nextSegment shuts) (segment-begins L ps m at s table is some w segment))
+      (subst⁻¹ (LineBegun L ps m at at) (opens ∙ ap segmentBegun shuts) (segment-begins L ps m at s table is some w segment))
 
 -- a run that begins d bytes into a line and is looked at up to the line's last place ends where the line's text does
 run-in-line : (most at d e r stop : ℕ) → d ≤ most → r ≤ e → stop ≡ at + min most (d + e) → (at + d) + min (stop - (at + d)) r ≡ at + min most (d + r)
@@ -309,17 +271,11 @@ message-begins L ps m b wide h =
 
 -- the last line has been seen: no fault, and all that is asked of the segments is known
 pub survey-ends : {L : Limits} {ps : Separators} {m : List ℕ} {at : ℕ} {s shut : Survey} {table : List ℕ}
-    → Underway L ps m at s → table ≡ followers → length m ≤ at → shut ≡ closed (followsBy table) s
+    → Underway L ps m at s → table ≡ followers → length m ≤ at → shut ≡ segmentShut (followsBy table) s
     → (faultNumber (walk L m) ≡ 0) × Known ps (joined (ps .field) (texts (walk L m))) shut
-unfolding texts faultNumber carried joined
-survey-ends {L} {ps} {m} {at} {s} {shut} {table} w is past shuts =
-    let over : walkFrom L at (drop at m) ≡ end = ap (walkFrom L at) (drop-of-length-le m past) ∙ walkFrom-nil L at in
-    let all : joined (ps .field) (texts (walk L m)) ≡ w .done ++ w .last ∷ []
-    = w .left .joins
-    ∙ ap (λ (ls : Lines). w .done ++ (w .last ++ carried (ps .field) (texts ls)) ∷ joined (ps .field) (texts ls)) over
-    ∙ ap (λ (t : List ℕ). w .done ++ t ∷ []) (append-nil (w .last)) in (
-      w .left .fault .number ∙ ap faultNumber over,
-      subst⁻¹ (Known ps (joined (ps .field) (texts (walk L m)))) shuts
-          (subst⁻¹ (λ (ss : List (List ℕ)). Known ps ss (closed (followsBy table) s)) all
-          (seen-closed ps s table is (w .done) (w .last) (w .seen))),
-    )
+survey-ends {L} {ps} {m} {at} {s} {shut} {table} w is past shuts = (
+  none-faulty L m at (w .left) past,
+  subst⁻¹ (Known ps (joined (ps .field) (texts (walk L m)))) shuts
+      (subst⁻¹ (λ (ss : List (List ℕ)). Known ps ss (segmentShut (followsBy table) s)) (none-left L m at (w .left) past)
+      (seen-closed ps s table is (w .done) (w .last) (w .seen))),
+)

@@ -9,28 +9,36 @@ use Rattle.form.specs.declared.limits.Limits.{Limits}
 use Rattle.form.specs.declared.separators.Separators.{Separators}
 use Rattle.form.specs.declared.separators.Header.the-variants.{Sound}
 use Rattle.form.specs.Header.{headerOf}
-use Rattle.form.specs.Limits.{Lawful}
 use Rattle.line.specs.Lines.{walk, texts, faultNumber}
 use Rattle.line.specs.Joining.{joined}
-use Rattle.order.specs.Levels.{levelIn}
-use Rattle.table.specs.Rows.{Table, contextIn, allLeaves, tableOf, segmentRowSize, leafRowSize}
-use Rattle.read.specs.Classes.{classTable}
+use Rattle.order.specs.Levels.{levelIn, LevelsBelow}
+use Rattle.table.specs.Rows.{FitsRows, Table, contextIn, allLeaves, tableOf, segmentRowSize, leafRowSize}
+use Rattle.table.specs.Classes.{classTable}
+use Rattle.read.specs.Noting.{Noted}
 
 -- the joined segments of a message
 abbrev pub segmentsIn : Limits → Separators → List ℕ → List (List ℕ)
 segmentsIn L ps message = joined (ps .field) (texts (walk L message))
 
--- what the survey has shown, and that the buffers have room; all numbers of a row fit 16 bits
-pub record Fillable (L : Limits) (ps : Separators) (class message text segments leaves : List ℕ) : Type 0 where
-  pub lawful : Lawful L
-  pub small : L .bytes < 65535
+-- what deciding has shown of a message that it accepts: its numbers fit the rows, and its kinds are noted
+pub record Fillable (L : Limits) (class kinds : List ℕ) (ps : Separators) (context : ℕ) (message : List ℕ) : Type 0 where
+  pub fits : FitsRows L
   pub header : headerOf message ≡ Sound ps
   pub classes : class ≡ classTable ps
   pub sound : faultNumber (walk L message) ≡ 0
   pub bytes : length message ≤ L .bytes
   pub few : length (segmentsIn L ps message) ≤ L .segments
   pub fewLeaves : length (allLeaves ps (segmentsIn L ps message)) ≤ L .leaves
-  pub leavesSmall : L .leaves < 65535
+  pub named : context ≡ contextIn ps (segmentsIn L ps message)
+  pub noted : Noted ps (segmentsIn L ps message) (length (segmentsIn L ps message)) kinds
+  pub all : length (segmentsIn L ps message) ≤ length kinds
+
+-- what filling asks: such a message, the levels, and buffers of the stated sizes
+pub record Prepared
+    (L : Limits) (class kinds levels : List ℕ) (ps : Separators) (context : ℕ) (message text segments leaves : List ℕ)
+    : Type 0 where
+  pub given : Fillable L class kinds ps context message
+  pub below : LevelsBelow (levelIn levels)
   pub textRoom : L .bytes ≤ length text
   pub segmentRoom : L .segments * segmentRowSize ≤ length segments
   pub leafRoom : L .leaves * leafRowSize ≤ length leaves

@@ -13,25 +13,25 @@ use Rattle.form.specs.Header.{splitting}
 use Rattle.line.specs.Lines.{CR}
 use Rattle.table.specs.Leaves.{Leaf}
 use Rattle.table.specs.Flat.{Pass, steps}
-use Rattle.table.specs.Rows.{leafRowsFrom, textOf}
+use Rattle.table.specs.Rows.{leafRowSize, width, leafRowsFrom, textOf}
 use Rattle.read.specs.declared.lay.Laying.{Laying}
 use Rattle.read.specs.declared.lay.Laid.{Laid}
-use Rattle.read.specs.Classes.{classTable}
+use Rattle.table.specs.Classes.{classTable}
 use Rattle.read.specs.Scan.{run, marks}
 
 -- the five numbers of the place of the leaf begun
-unfoldable pub placeOf : Laying → List ℕ
-placeOf l = l .segment ∷ l .field ∷ l .repetition ∷ l .subfield ∷ l .subsubfield ∷ []
+unfoldable pub leafPlace : Laying → List ℕ
+leafPlace l = l .segment ∷ l .field ∷ l .repetition ∷ l .subfield ∷ l .subsubfield ∷ []
 
 -- the row of the leaf begun
 unfoldable pub rowOf : Laying → List ℕ
-rowOf l = placeOf l ++ (l .begin ∷ (l .out - l .begin) ∷ [])
+rowOf l = leafPlace l ++ (l .begin ∷ (l .out - l .begin) ∷ [])
 
 -- the state once the leaf begun is closed, where the next one stands at these numbers of the same segment
 abbrev pub closedTo : Laying → (field repetition subfield subsubfield : ℕ) → Laying
 closedTo l field repetition subfield subsubfield =
     record {
-      row = l .row + 7;
+      row = l .row + leafRowSize;
       segment = l .segment;
       field = field;
       repetition = repetition;
@@ -61,7 +61,7 @@ nextLeaf l sort =
 unfoldable pub nextSegment : Laying → Laying
 nextSegment l =
     record {
-      row = l .row + 7;
+      row = l .row + leafRowSize;
       segment = l .segment + 1;
       field = 1;
       repetition = 1;
@@ -71,19 +71,19 @@ nextSegment l =
       out = l .out;
     }
 
--- no number of a place is more than one past the leaves closed, seven numbers each, so that all of them are small where the leaves are few
-pub record Counted (l : Laying) : Type 0 where
-  pub segments : l .segment * 7 ≤ l .row + 7
-  pub fields : l .field * 7 ≤ l .row + 7
-  pub repetitions : l .repetition * 7 ≤ l .row + 7
-  pub subfields : l .subfield * 7 ≤ l .row + 7
-  pub subsubfields : l .subsubfield * 7 ≤ l .row + 7
+-- no number of a place is more than one past the leaves closed, a row each, so that all of them are small where the leaves are few
+pub record PlaceCounted (l : Laying) : Type 0 where
+  pub segments : l .segment * leafRowSize ≤ l .row + leafRowSize
+  pub fields : l .field * leafRowSize ≤ l .row + leafRowSize
+  pub repetitions : l .repetition * leafRowSize ≤ l .row + leafRowSize
+  pub subfields : l .subfield * leafRowSize ≤ l .row + leafRowSize
+  pub subsubfields : l .subsubfield * leafRowSize ≤ l .row + leafRowSize
   pub begins : l .begin ≤ l .out
 
 -- the state, the text area and the leaf rows hold what one pass has made, over what the two buffers held before
 pub record Held (text₀ leaves₀ : List ℕ) (pass : Pass) (l : Laying) (text leaves : List ℕ) : Type 0 where
-  pub place : pass .place ≡ placeOf l
-  pub closed : l .row ≡ length (pass .closed) * 7
+  pub place : pass .place ≡ leafPlace l
+  pub closed : l .row ≡ length (pass .closed) * leafRowSize
   pub begins : l .begin ≡ length (textOf (pass .closed))
   pub ends : l .out ≡ l .begin + length (pass .text)
   pub texts : text ≡ sets text₀ 0 (textOf (pass .closed) ++ pass .text)
@@ -94,20 +94,20 @@ pub record Held (text₀ leaves₀ : List ℕ) (pass : Pass) (l : Laying) (text 
 pub record Lays (class message : List ℕ) (from : ℕ) (l : Laying) (text leaves : List ℕ) : Type 0 where
   pub ahead : from + run class (drop from message) < length message
   pub room : l .out + run class (drop from message) ≤ length text
-  pub short : l .out + run class (drop from message) < 65536
-  pub rows : l .row + marks class (drop from message) * 7 ≤ length leaves
-  pub few : l .row + marks class (drop from message) * 7 < 65535 * 7
-  pub counted : Counted l
+  pub short : l .out + run class (drop from message) < width
+  pub rows : l .row + marks class (drop from message) * leafRowSize ≤ length leaves
+  pub few : l .row + marks class (drop from message) * leafRowSize + leafRowSize < width * leafRowSize
+  pub counted : PlaceCounted l
 
 -- what it gives: the line's end, and the pass gone on over its bytes
 pub record LaidBy
     (class message : List ℕ) (from : ℕ) (l : Laying) (text leaves : List ℕ) (r : Laid) (text′ leaves′ : List ℕ)
     : Type 0 where
   pub ends : r .end ≡ from + run class (drop from message)
-  pub row : r .laying .row ≡ l .row + marks class (drop from message) * 7
+  pub row : r .laying .row ≡ l .row + marks class (drop from message) * leafRowSize
   pub segment : r .laying .segment ≡ l .segment
   pub out : r .laying .out ≤ l .out + run class (drop from message)
-  pub counted : Counted (r .laying)
+  pub counted : PlaceCounted (r .laying)
   pub text-length : length text′ ≡ length text
   pub leaves-length : length leaves′ ≡ length leaves
   pub held :

@@ -1,4 +1,3 @@
-pub mod Classes
 pub mod Naming
 pub mod Scan
 pub mod Laying
@@ -10,5 +9,5 @@ pub mod Underway
 pub mod Filling
 pub mod Segments
 pub mod Answering
-pub mod Judging
+pub mod Deciding
 pub mod Sound

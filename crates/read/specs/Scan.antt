@@ -21,6 +21,6 @@ marks class (b ∷ s) =
     ]
 
 -- how many bytes of text there are before the first that is none
-unfoldable pub plain : List ℕ → List ℕ → ℕ
-plain class [] = 0
-plain class (b ∷ s) = elim (eqb (getD class b 0) 0) [ true ↦ suc (plain class s) | false ↦ 0 ]
+unfoldable pub plainRun : List ℕ → List ℕ → ℕ
+plainRun class [] = 0
+plainRun class (b ∷ s) = elim (eqb (getD class b 0) 0) [ true ↦ suc (plainRun class s) | false ↦ 0 ]

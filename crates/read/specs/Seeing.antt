@@ -57,8 +57,8 @@ watching s = elim (eqb (s .segments) 1) [ true ↦ begun (contextSeen s) | false
 unfoldable pub toldNow : (ℕ → ℕ → ℕ → Bool) → Survey → Told
 toldNow may s = tellBy may (watching s) (kindSeen s)
 
-abbrev pub closed : (ℕ → ℕ → ℕ → Bool) → Survey → Survey
-closed may s =
+abbrev pub segmentShut : (ℕ → ℕ → ℕ → Bool) → Survey → Survey
+segmentShut may s =
     record {
       segments = s .segments;
       separators = s .separators;
@@ -70,8 +70,8 @@ closed may s =
     }
 
 -- the next one begun behind it
-abbrev pub nextSegment : Survey → Survey
-nextSegment s =
+abbrev pub segmentBegun : Survey → Survey
+segmentBegun s =
     record {
       segments = s .segments + 1;
       separators = s .separators;

@@ -8,41 +8,35 @@ use lib.Seq.{sets}
 use Rattle.laws.specs.Every.{All}
 use Rattle.form.specs.declared.limits.Limits.{Limits}
 use Rattle.form.specs.declared.separators.Separators.{Separators}
-use Rattle.line.specs.Lines.{walkFrom, texts, faultNumber}
-use Rattle.line.specs.Joining.{carried, joined}
+use Rattle.line.specs.Left.{LeftAt}
 use Rattle.line.specs.Finding.{lowRun}
 use Rattle.order.specs.Levels.{levelIn}
 use Rattle.order.specs.Owning.{noRows, owned, knownAfter, Owned}
 use Rattle.table.specs.Leaves.{messageLeaves}
-use Rattle.table.specs.Rows.{segmentRowsFrom, kindsOf, contextIn, allLeaves}
+use Rattle.table.specs.Rows.{segmentRowSize, leafRowSize, width, segmentRow, segmentRowsFrom, kindsOf, allLeaves}
 use Rattle.table.specs.Filed.{Filed}
 use Rattle.table.specs.OnePass.{headerPass, passOver}
 use Rattle.read.specs.declared.fill.Filling.{Filling}
 use Rattle.read.specs.declared.fill.Line.{Line}
 use Rattle.read.specs.Scan.{run}
-use Rattle.read.specs.Laying.{rowOf, nextSegment, Counted, Held, LaidBy}
-use Rattle.read.specs.Filling.{segmentsIn, Fillable}
-use Rattle.read.specs.Noting.{Noted}
-
--- "kind, owner, first leaf, leaf count"
-abbrev pub segmentRow : (kind owner first count : ℕ) → List ℕ
-segmentRow kind owner first count = kind ∷ owner ∷ first ∷ count ∷ []
+use Rattle.read.specs.Laying.{rowOf, nextSegment, PlaceCounted, Held, LaidBy}
+use Rattle.read.specs.Filling.{Prepared}
 
 -- the kind that is noted of the segment begun
 abbrev pub kindNoted : List ℕ → Filling → ℕ
 kindNoted kinds f = getD kinds (f .laying .segment - 1) 0
 
--- what closing the segment begun asks: its kind noted, and room for the row of its last leaf and for its own row, whose numbers fit 16 bits
+-- what closing the segment begun asks: its kind noted, and room for the row of its last leaf and for its own row, whose numbers fit a row
 pub record Closable (f : Filling) (kinds segments leaves : List ℕ) : Type 0 where
-  pub leafRoom : f .laying .row + 7 ≤ length leaves
-  pub fewLeaves : f .laying .row < 65535 * 7
-  pub short : f .laying .out < 65536
-  pub counted : Counted (f .laying)
+  pub leafRoom : f .laying .row + leafRowSize ≤ length leaves
+  pub fewLeaves : f .laying .row + leafRowSize < width * leafRowSize
+  pub short : f .laying .out < width
+  pub counted : PlaceCounted (f .laying)
   pub numbered : 1 ≤ f .laying .segment
   pub noted : f .laying .segment ≤ length kinds
-  pub segmentRoom : f .laying .segment * 4 ≤ length segments
+  pub segmentRoom : f .laying .segment * segmentRowSize ≤ length segments
   pub begins : 1 ≤ f .first
-  pub some : f .first ≤ f .laying .row / 7 + 1
+  pub some : f .first ≤ f .laying .row / leafRowSize + 1
 
 -- what it gives, by the kind noted: both rows, and what is known of the rows so far
 pub record ClosedBy (f : Filling) (kind : ℕ) (levels : List ℕ) (context : ℕ) (nearest segments leaves nearest′ segments′ leaves′ : List ℕ) : Type 0 where
@@ -51,17 +45,17 @@ pub record ClosedBy (f : Filling) (kind : ℕ) (levels : List ℕ) (context : �
   pub owns : Owned nearest nearest′ (f .laying .segment) kind (levelIn levels context kind) owner
   pub row :
       segments′
-      ≡ sets segments ((f .laying .segment - 1) * 4)
-      (segmentRow kind owner (f .first) (f .laying .row / 7 + 2 - f .first))
+      ≡ sets segments ((f .laying .segment - 1) * segmentRowSize)
+      (segmentRow kind owner (f .first) (f .laying .row / leafRowSize + 2 - f .first))
 
 -- the state after a segment that has been closed
 abbrev pub begunAfter : Filling → Filling
-begunAfter f = record { laying = nextSegment (f .laying); first = f .laying .row / 7 + 2 }
+begunAfter f = record { laying = nextSegment (f .laying); first = f .laying .row / leafRowSize + 2 }
 
 -- the first two leaves of the H: of a message that begins with the bytes of these separators
 pub record HeaderPut (ps : Separators) (text leaves : List ℕ) (r : Filling) (text′ leaves′ : List ℕ) : Type 0 where
   pub held : Held text leaves (headerPass ps) (r .laying) text′ leaves′
-  pub counted : Counted (r .laying)
+  pub counted : PlaceCounted (r .laying)
   pub number : r .laying .segment ≡ 1
   pub out : r .laying .out ≡ 5
   pub first : r .first ≡ 1
@@ -87,30 +81,21 @@ pub record LineFilled
 
 -- the rows of closed segments, their owners by what is known as they come
 unfoldable pub closedRows : (ℕ → ℕ) → Separators → List (List ℕ) → List ℕ
-closedRows lv ps closed =
-    segmentRowsFrom 1 (kindsOf ps closed) (owned lv noRows 1 (kindsOf ps closed)) (messageLeaves ps closed)
+closedRows lv ps done =
+    segmentRowsFrom 1 (kindsOf ps done) (owned lv noRows 1 (kindsOf ps done)) (messageLeaves ps done)
 
 -- segments closed, one begun behind them, and what the state and the buffers hold of them over what the buffers held before
 pub record Begun
-    (lv : ℕ → ℕ) (ps : Separators) (text₀ segments₀ leaves₀ : List ℕ) (closed : List (List ℕ)) (begun : List ℕ)
+    (lv : ℕ → ℕ) (ps : Separators) (text₀ segments₀ leaves₀ : List ℕ) (done : List (List ℕ)) (last : List ℕ)
     (f : Filling) (nearest text segments leaves : List ℕ)
     : Type 0 where
-  pub filed : Filed ps (closed ++ (begun ∷ []))
-  pub held : Held text₀ leaves₀ (passOver ps (closed ++ (begun ∷ []))) (f .laying) text leaves
-  pub counted : Counted (f .laying)
-  pub number : f .laying .segment ≡ length closed + 1
-  pub first : f .first ≡ length (allLeaves ps closed) + 1
-  pub rows : segments ≡ sets segments₀ 0 (closedRows lv ps closed)
-  pub known : nearest ≡ knownAfter lv noRows 1 (kindsOf ps closed)
-
--- the lines from a place on give the rest: they end in no fault, and with the segment begun they are all segments
-pub record Left (L : Limits) (ps : Separators) (message : List ℕ) (closed : List (List ℕ)) (begun : List ℕ) (at : ℕ) : Type 0 where
-  pub sound : faultNumber (walkFrom L at (drop at message)) ≡ 0
-  pub whole :
-      segmentsIn L ps message
-      ≡ closed
-      ++ ((begun ++ carried (ps .field) (texts (walkFrom L at (drop at message))))
-      ∷ joined (ps .field) (texts (walkFrom L at (drop at message))))
+  pub filed : Filed ps (done ++ (last ∷ []))
+  pub held : Held text₀ leaves₀ (passOver ps (done ++ (last ∷ []))) (f .laying) text leaves
+  pub counted : PlaceCounted (f .laying)
+  pub number : f .laying .segment ≡ length done + 1
+  pub first : f .first ≡ length (allLeaves ps done) + 1
+  pub rows : segments ≡ sets segments₀ 0 (closedRows lv ps done)
+  pub known : nearest ≡ knownAfter lv noRows 1 (kindsOf ps done)
 
 -- the form's limits, and the three buffers as they came
 pub record Came : Type 0 where
@@ -119,29 +104,17 @@ pub record Came : Type 0 where
   pub segments : List ℕ
   pub leaves : List ℕ
 
--- all levels lie below the place above all levels
-abbrev pub LevelsBelow : List ℕ → Type 0
-LevelsBelow levels = (c k : ℕ) → levelIn levels c k < 8
-
--- what is known before the second pass: what the survey has shown and noted, the context, the levels, and that each element is a byte
-pub record Surveyed (c : Came) (class kinds levels : List ℕ) (context : ℕ) (ps : Separators) (message : List ℕ) : Type 0 where
-  pub given : Fillable (c .limits) ps class message (c .text) (c .segments) (c .leaves)
-  pub named : context ≡ contextIn ps (segmentsIn (c .limits) ps message)
-  pub below : LevelsBelow levels
-  pub noted : Noted ps (segmentsIn (c .limits) ps message) (length (segmentsIn (c .limits) ps message)) kinds
-  pub all : length (segmentsIn (c .limits) ps message) ≤ length kinds
-  pub bytes : All (λ (b : ℕ). b < 256) message
-
 -- the second pass stands at the place `at`, where a line begins or the message ends
 pub record Stands
     (c : Came) (class kinds levels : List ℕ) (context : ℕ) (ps : Separators) (message : List ℕ) (at : ℕ) (f : Filling)
     (nearest text segments leaves : List ℕ)
     : Type 0 where
-  pub surveyed : Surveyed c class kinds levels context ps message
-  pub closed : List (List ℕ)
-  pub begun : List ℕ
-  pub begins : Begun (levelIn levels context) ps (c .text) (c .segments) (c .leaves) closed begun f nearest text segments leaves
-  pub left : Left (c .limits) ps message closed begun at
+  pub prepared : Prepared (c .limits) class kinds levels ps context message (c .text) (c .segments) (c .leaves)
+  pub bytes : All (λ (b : ℕ). b < 256) message
+  pub done : List (List ℕ)
+  pub last : List ℕ
+  pub begins : Begun (levelIn levels context) ps (c .text) (c .segments) (c .leaves) done last f nearest text segments leaves
+  pub left : LeftAt (c .limits) (ps .field) message done last at
   pub behind : f .laying .out ≤ at
   pub within : f .laying .out ≤ length message
 
@@ -151,11 +124,12 @@ pub record AtLine
     (c : Came) (class kinds levels : List ℕ) (context : ℕ) (ps : Separators) (message : List ℕ) (from : ℕ) (f : Filling)
     (nearest text segments leaves : List ℕ)
     : Type 0 where
-  pub surveyed : Surveyed c class kinds levels context ps message
-  pub closed : List (List ℕ)
-  pub begun : List ℕ
-  pub begins : Begun (levelIn levels context) ps (c .text) (c .segments) (c .leaves) closed begun f nearest text segments leaves
-  pub left : Left (c .limits) ps message closed (begun ++ lineText class message from) (lineAfter class message from)
+  pub prepared : Prepared (c .limits) class kinds levels ps context message (c .text) (c .segments) (c .leaves)
+  pub bytes : All (λ (b : ℕ). b < 256) message
+  pub done : List (List ℕ)
+  pub last : List ℕ
+  pub begins : Begun (levelIn levels context) ps (c .text) (c .segments) (c .leaves) done last f nearest text segments leaves
+  pub left : LeftAt (c .limits) (ps .field) message done (last ++ lineText class message from) (lineAfter class message from)
   pub inside : from + run class (drop from message) < length message
   pub behind : f .laying .out ≤ from
 

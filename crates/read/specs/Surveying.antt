@@ -20,7 +20,7 @@ use Rattle.table.specs.Reading.{firstUnknown}
 use Rattle.read.specs.declared.survey.Survey.{Survey}
 use Rattle.read.specs.declared.survey.Surveyed.{Surveyed}
 use Rattle.read.specs.declared.survey.Surveyed.the-variants.{Whole, Fault}
-use Rattle.read.specs.Classes.{classTable}
+use Rattle.table.specs.Classes.{classTable}
 use Rattle.read.specs.Noting.{Noted}
 
 -- what the first pass may count on

@@ -7,9 +7,9 @@ use lib.ListN.{length, getD, take, drop}
 use Rattle.laws.specs.Every.{All}
 use Rattle.form.specs.declared.limits.Limits.{Limits}
 use Rattle.form.specs.declared.separators.Separators.{Separators}
-use Rattle.line.specs.Lines.{Lines, line, walkFrom, walk, texts, faultNumber, faultPlace}
+use Rattle.line.specs.Lines.{Lines, line, walkFrom, walk, faultNumber, faultPlace}
 use Rattle.line.specs.Finding.{textRun}
-use Rattle.line.specs.Joining.{carried, joined}
+use Rattle.line.specs.Left.{SameFault, Left, LeftAt}
 use Rattle.order.specs.Watcher.{begun, watched}
 use Rattle.order.specs.Refusing.{firstNo}
 use Rattle.table.specs.Rows.{kindsOf, contextIn, allLeaves}
@@ -35,22 +35,12 @@ pub record Seen (ps : Separators) (done : List (List ℕ)) (last : List ℕ) (s 
   pub header : 7 ≤ length (getD (done ++ last ∷ []) 0 [])
   pub bytes : All (λ (b : ℕ). b < 256) last
 
--- the fault that a walk ends in is the one that its last lines end in
-pub record SameFault (whole ls : Lines) : Type 0 where
-  pub number : faultNumber whole ≡ faultNumber ls
-  pub place : faultPlace whole ≡ faultPlace ls
-
--- the lines `ls` are the last of a walk, and those before them have joined to `done` and `last`
-pub record Left (field : ℕ) (whole : Lines) (done : List (List ℕ)) (last : List ℕ) (ls : Lines) : Type 0 where
-  pub joins : joined field (texts whole) ≡ done ++ (last ++ carried field (texts ls)) ∷ joined field (texts ls)
-  pub fault : SameFault whole ls
-
 -- the survey of the message m has come to the place `at`, where a line may begin
 pub record Underway (L : Limits) (ps : Separators) (m : List ℕ) (at : ℕ) (s : Survey) : Type 0 where
   pub done : List (List ℕ)
   pub last : List ℕ
   pub seen : Seen ps done last s
-  pub left : Left (ps .field) (walk L m) done last (walkFrom L at (drop at m))
+  pub left : LeftAt L (ps .field) m done last at
   pub few-segments : s .segments ≤ at
   pub few-separators : s .separators ≤ at
   pub within : at ≤ length m

@@ -7,17 +7,19 @@ use form::limits::Limits;
 use form::separators::Separators;
 use line::finder::low_end;
 use order::levels::level_of;
+use order::owners::PLACES;
 use order::owners::no_rows;
 use order::owners::owner_of;
+use table::rows;
+use table::rows::Entry;
 ghost use mathlib.Core.Path.{_≡_};
 ghost use Prim.Native.Nat.{_+_, _*_, _≤_, _<_};
 ghost use lib.ListN.{length};
 ghost use lib.Seq.{sets};
-ghost use Rattle.table.specs.Rows.{contextIn};
-ghost use Rattle.read.specs.Laying.{Counted, Lays};
-ghost use Rattle.read.specs.Filling.{segmentsIn, tableIn, Fillable, Filled};
-ghost use Rattle.read.specs.Noting.{Noted};
-ghost use Rattle.read.specs.Segments.{segmentRow, kindNoted, Closable, ClosedBy, begunAfter, HeaderPut, LineFilled, LevelsBelow};
+ghost use Rattle.table.specs.Rows.{segmentRowSize, leafRowSize, width, segmentRow};
+ghost use Rattle.read.specs.Laying.{PlaceCounted, Lays};
+ghost use Rattle.read.specs.Filling.{tableIn, Prepared, Filled};
+ghost use Rattle.read.specs.Segments.{kindNoted, Closable, ClosedBy, begunAfter, HeaderPut, LineFilled};
 
 // How far the second pass has come: its leaves, and the number of the open segment's first leaf.
 pub struct Filling {
@@ -32,15 +34,22 @@ pub struct Line {
 }
 
 // The row of a segment: kind, owner, first leaf, leaf count.
-fn put_segment(segments: &mut [u16], row: usize, kind: u8, owner: u16, first: u16, count: u16)
-    requires { ⌜ row * 4 + 4 ≤ length (now segments) ⌝ }
-    ensures { λ _. ⌜ now (segments .exit) ≡ sets (now (segments .entry)) (row * 4) (segmentRow kind owner first count) ⌝ }
+fn put_segment(
+    segments: &mut [Entry],
+    row: usize,
+    kind: u8,
+    owner: Entry,
+    first: Entry,
+    count: Entry,
+)
+    requires { ⌜ row * segmentRowSize + segmentRowSize ≤ length (now segments) ⌝ }
+    ensures { λ _. ⌜ now (segments .exit) ≡ sets (now (segments .entry)) (row * segmentRowSize) (segmentRow kind owner first count) ⌝ }
 {
-    let at = row * 4;
-    segments[at] = kind as u16;
-    segments[at + 1] = owner;
-    segments[at + 2] = first;
-    segments[at + 3] = count;
+    let at = row * rows::SEGMENT_ROW;
+    segments[at] = kind as Entry;
+    segments[at + rows::OWNER] = owner;
+    segments[at + rows::FIRST] = first;
+    segments[at + rows::COUNT] = count;
 }
 
 // The open segment is closed: its last leaf and its own row are written. Its kind is the one that the survey noted.
@@ -49,9 +58,9 @@ fn close_segment(
     kinds: &[u8],
     levels: &[u8; 84],
     context: u8,
-    nearest: &mut [u16; 9],
-    segments: &mut [u16],
-    leaves: &mut [u16],
+    nearest: &mut [Entry; PLACES],
+    segments: &mut [Entry],
+    leaves: &mut [Entry],
 )
     requires { ⌜ Closable filling (now kinds) (now segments) (now leaves) ⌝ }
     ensures { λ _. ⌜ ClosedBy filling (kindNoted (now (kinds .entry)) filling) (now (levels .entry)) context
@@ -61,11 +70,11 @@ fn close_segment(
     let laying = filling.laying;
     put_leaf(laying, leaves);
     let row = laying.segment - 1;
-    let next = laying.row / 7 + 2;
+    let next = laying.row / rows::LEAF_ROW + 2;
     let kind = kinds[row];
     let owner = owner_of(
         nearest,
-        laying.segment as u16,
+        laying.segment as Entry,
         kind,
         level_of(levels, context, kind),
     );
@@ -74,14 +83,14 @@ fn close_segment(
         row,
         kind,
         owner,
-        filling.first as u16,
-        (next - filling.first) as u16,
+        filling.first as Entry,
+        (next - filling.first) as Entry,
     );
 }
 
 // The first two leaves, `H` and the four bytes after the field separator; the third begins at byte 7.
-fn put_header(separators: Separators, text: &mut [u8], leaves: &mut [u16]) -> Filling
-    requires { ⌜ (5 ≤ length (now text)) × (14 ≤ length (now leaves)) ⌝ }
+fn put_header(separators: Separators, text: &mut [u8], leaves: &mut [Entry]) -> Filling
+    requires { ⌜ (5 ≤ length (now text)) × (leafRowSize + leafRowSize ≤ length (now leaves)) ⌝ }
     ensures { λ r. ⌜ HeaderPut separators (now (text .entry)) (now (leaves .entry)) r (now (text .exit)) (now (leaves .exit)) ⌝ }
 {
     text[0] = b'H';
@@ -101,7 +110,7 @@ fn put_header(separators: Separators, text: &mut [u8], leaves: &mut [u16]) -> Fi
     };
     put_leaf(name, leaves);
     let stated = Laying {
-        row: 7,
+        row: rows::LEAF_ROW,
         segment: 1,
         field: 2,
         repetition: 1,
@@ -124,7 +133,7 @@ fn fill_line(
     from: usize,
     filling: Filling,
     text: &mut [u8],
-    leaves: &mut [u16],
+    leaves: &mut [Entry],
 ) -> Line
     requires { ⌜ Lays (now class) (now message) from (filling .laying) (now text) (now leaves) ⌝ }
     ensures { λ r. ⌜ LineFilled (now (class .entry)) (now (message .entry)) from filling (now (text .entry)) (now (leaves .entry))
@@ -144,13 +153,13 @@ fn fill_line(
 
 // The segment after the open one, which has been closed.
 fn next_segment(filling: Filling) -> Filling
-    requires { ⌜ (filling .laying .row < 65535 * 7) × Counted (filling .laying) ⌝ }
+    requires { ⌜ (filling .laying .row + leafRowSize < width * leafRowSize) × PlaceCounted (filling .laying) ⌝ }
     ensures { λ r. ⌜ r ≡ begunAfter filling ⌝ }
 {
     let laying = filling.laying;
     Filling {
         laying: laying.next_segment(),
-        first: laying.row / 7 + 2,
+        first: laying.row / rows::LEAF_ROW + 2,
     }
 }
 
@@ -166,14 +175,10 @@ pub(crate) fn fill(
     separators: Separators,
     message: &[u8],
     text: &mut [u8],
-    segments: &mut [u16],
-    leaves: &mut [u16],
+    segments: &mut [Entry],
+    leaves: &mut [Entry],
 ) -> usize
-    requires { ⌜ Fillable limits separators (now class) (now message) (now text) (now segments) (now leaves) ⌝ }
-    requires { ⌜ context ≡ contextIn separators (segmentsIn limits separators (now message)) ⌝ }
-    requires { ⌜ LevelsBelow (now levels) ⌝ }
-    requires { ⌜ Noted separators (segmentsIn limits separators (now message)) (length (segmentsIn limits separators (now message))) (now kinds) ⌝ }
-    requires { ⌜ length (segmentsIn limits separators (now message)) ≤ length (now kinds) ⌝ }
+    requires { ⌜ Prepared limits (now class) (now kinds) (now levels) separators context (now message) (now text) (now segments) (now leaves) ⌝ }
     ensures { λ r. ⌜ Filled (tableIn limits (now (levels .entry)) separators (now (message .entry)))
         (now (text .entry)) (now (segments .entry)) (now (leaves .entry))
         (now (text .exit)) (now (segments .exit)) (now (leaves .exit)) r ⌝ }

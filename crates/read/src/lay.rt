@@ -1,13 +1,16 @@
 // The second pass over one line: its text goes into the text area, and each leaf that a separator closes gets its row.
-use crate::class::wide;
+use table::class::index;
+use table::rows;
+use table::rows::Entry;
 ghost use mathlib.Core.Path.{_≡_};
 ghost use Prim.Native.Nat.{_+_, _*_, _≤_, _<_};
 ghost use lib.ListN.{length, take, drop};
 ghost use lib.Seq.{sets};
-ghost use Rattle.read.specs.Scan.{plain};
-ghost use Rattle.read.specs.Laying.{rowOf, nextLeaf, nextSegment, Counted, Lays, LaidBy};
+ghost use Rattle.table.specs.Rows.{leafRowSize, width};
+ghost use Rattle.read.specs.Scan.{plainRun};
+ghost use Rattle.read.specs.Laying.{rowOf, nextLeaf, nextSegment, PlaceCounted, Lays, LaidBy};
 
-// How far the pass has come: where the row of the leaf begun goes, seven numbers for each leaf closed, the place of that leaf, and where
+// How far the pass has come: where the row of the leaf begun goes, behind a row for each leaf closed, the place of that leaf, and where
 // its text begins and ends so far.
 pub struct Laying {
     pub row: usize,
@@ -29,11 +32,11 @@ pub struct Laid {
 impl Laying {
     // The leaf begun is closed: the next one stands one segment on, its other numbers are 1.
     pub(crate) fn next_segment(self) -> Laying
-        requires { ⌜ (self .row < 65535 * 7) × Counted self ⌝ }
+        requires { ⌜ (self .row + leafRowSize < width * leafRowSize) × PlaceCounted self ⌝ }
         ensures { λ r. ⌜ r ≡ nextSegment self ⌝ }
     {
         Laying {
-            row: self.row + 7,
+            row: self.row + rows::LEAF_ROW,
             segment: self.segment + 1,
             field: 1,
             repetition: 1,
@@ -46,11 +49,11 @@ impl Laying {
 
     // The leaf begun is closed by a separator of a sort: the next one stands one such part on, its finer numbers are 1.
     pub(crate) fn next_leaf(self, sort: u8) -> Laying
-        requires { ⌜ (self .row < 65535 * 7) × Counted self ⌝ }
+        requires { ⌜ (self .row + leafRowSize < width * leafRowSize) × PlaceCounted self ⌝ }
         ensures { λ r. ⌜ r ≡ nextLeaf self sort ⌝ }
     {
         let mut next = self;
-        next.row = self.row + 7;
+        next.row = self.row + rows::LEAF_ROW;
         next.begin = self.out;
         if sort == 4 {
             next.subsubfield = self.subsubfield + 1;
@@ -75,14 +78,14 @@ impl Laying {
 // Copies text from `from` on into the text area, up to the first byte that is none, and answers how many bytes it copied.
 // Such a byte lies ahead, so the loop tests no bound; one number counts both places.
 fn copy_text(class: &[u8; 256], message: &[u8], from: usize, text: &mut [u8], out: usize) -> usize
-    requires { ⌜ (from + plain (now class) (drop from (now message)) < length (now message))
-        × (out + plain (now class) (drop from (now message)) ≤ length (now text)) ⌝ }
-    ensures { λ r. ⌜ (r ≡ plain (now (class .entry)) (drop from (now (message .entry))))
-        × (now (text .exit) ≡ sets (now (text .entry)) out (take (plain (now (class .entry)) (drop from (now (message .entry)))) (drop from (now (message .entry))))) ⌝ }
+    requires { ⌜ (from + plainRun (now class) (drop from (now message)) < length (now message))
+        × (out + plainRun (now class) (drop from (now message)) ≤ length (now text)) ⌝ }
+    ensures { λ r. ⌜ (r ≡ plainRun (now (class .entry)) (drop from (now (message .entry))))
+        × (now (text .exit) ≡ sets (now (text .entry)) out (take (plainRun (now (class .entry)) (drop from (now (message .entry)))) (drop from (now (message .entry))))) ⌝ }
 {
     let mut n = 0;
     let mut b = message[from];
-    while class[wide(b)] == 0 {
+    while class[index(b)] == 0 {
         text[out + n] = b;
         n += 1;
         b = message[from + n];
@@ -91,18 +94,18 @@ fn copy_text(class: &[u8; 256], message: &[u8], from: usize, text: &mut [u8], ou
 }
 
 // The row of the leaf begun, which is closed here.
-pub(crate) fn put_leaf(laying: Laying, leaves: &mut [u16])
-    requires { ⌜ (laying .row + 7 ≤ length (now leaves)) × (laying .row < 65535 * 7) × (laying .out < 65536) × Counted laying ⌝ }
+pub(crate) fn put_leaf(laying: Laying, leaves: &mut [Entry])
+    requires { ⌜ (laying .row + leafRowSize ≤ length (now leaves)) × (laying .row + leafRowSize < width * leafRowSize) × (laying .out < width) × PlaceCounted laying ⌝ }
     ensures { λ _. ⌜ now (leaves .exit) ≡ sets (now (leaves .entry)) (laying .row) (rowOf laying) ⌝ }
 {
     let at = laying.row;
-    leaves[at] = laying.segment as u16;
-    leaves[at + 1] = laying.field as u16;
-    leaves[at + 2] = laying.repetition as u16;
-    leaves[at + 3] = laying.subfield as u16;
-    leaves[at + 4] = laying.subsubfield as u16;
-    leaves[at + 5] = laying.begin as u16;
-    leaves[at + 6] = (laying.out - laying.begin) as u16;
+    leaves[at] = laying.segment as Entry;
+    leaves[at + rows::FIELD] = laying.field as Entry;
+    leaves[at + rows::REPETITION] = laying.repetition as Entry;
+    leaves[at + rows::SUBFIELD] = laying.subfield as Entry;
+    leaves[at + rows::SUBSUBFIELD] = laying.subsubfield as Entry;
+    leaves[at + rows::START] = laying.begin as Entry;
+    leaves[at + rows::LENGTH] = (laying.out - laying.begin) as Entry;
 }
 
 // The pass over a line from `from` on, up to its CR.
@@ -112,7 +115,7 @@ pub(crate) fn lay_line(
     from: usize,
     laying: Laying,
     text: &mut [u8],
-    leaves: &mut [u16],
+    leaves: &mut [Entry],
 ) -> Laid
     requires { ⌜ Lays (now class) (now message) from laying (now text) (now leaves) ⌝ }
     ensures { λ r. ⌜ LaidBy (now (class .entry)) (now (message .entry)) from laying (now (text .entry)) (now (leaves .entry)) r (now (text .exit)) (now (leaves .exit)) ⌝ }
@@ -123,7 +126,7 @@ pub(crate) fn lay_line(
         let n = copy_text(class, message, i, text, now.out);
         let stop = i + n;
         now.out = now.out + n;
-        let sort = class[wide(message[stop])];
+        let sort = class[index(message[stop])];
         if sort == 5 {
             return Laid {
                 laying: now,

@@ -1,5 +1,5 @@
 // One line of the survey: where it ends and how many splitting separators it has, each byte looked at once.
-use crate::class::wide;
+use table::class::index;
 ghost use mathlib.Core.Path.{_≡_};
 ghost use Prim.Native.Nat.{_+_, _-_, _≤_};
 ghost use lib.ListN.{length, take, drop};
@@ -19,7 +19,7 @@ pub(crate) fn scan(class: &[u8; 256], message: &[u8], from: usize, stop: usize) 
     let mut separators = 0;
     let mut i = from;
     while i < stop {
-        let sort = class[wide(message[i])];
+        let sort = class[index(message[i])];
         if sort > 0 {
             if sort == 5 {
                 return Scanned { end: i, separators };

@@ -17,8 +17,8 @@ ghost use Prim.Native.Nat.{_+_, _-_, _≤_, _<_};
 ghost use lib.ListN.{length, set, take, drop};
 ghost use Rattle.laws.specs.Lists.{firstOf};
 ghost use Rattle.order.specs.Watcher.{followsBy};
-ghost use Rattle.read.specs.Classes.{classTable};
-ghost use Rattle.read.specs.Seeing.{nothingSeen, withText, kindSeen, watching, closed, nextSegment};
+ghost use Rattle.table.specs.Classes.{classTable};
+ghost use Rattle.read.specs.Seeing.{nothingSeen, withText, kindSeen, watching, segmentShut, segmentBegun};
 ghost use Rattle.read.specs.Underway.{LineBegun, StepOf};
 ghost use Rattle.read.specs.Surveying.{Ready, SurveyOf};
 
@@ -106,7 +106,7 @@ impl Survey {
     // The open segment is closed: its kind is noted and judged, and the watcher told.
     fn closed(self, followers: &[u8; 847], kinds: &mut [u8]) -> Survey
         requires { ⌜ 1 ≤ self .segments ⌝ }
-        ensures { λ r. ⌜ (r ≡ closed (followsBy (now (followers .entry))) self)
+        ensures { λ r. ⌜ (r ≡ segmentShut (followsBy (now (followers .entry))) self)
             × (now (kinds .exit) ≡ set (now (kinds .entry)) (self .segments - 1) (kindSeen self)) ⌝ }
     {
         let kind = self.kind_number();
@@ -135,7 +135,7 @@ impl Survey {
     // The next segment begun behind a closed one.
     fn next_segment(self) -> Survey
         requires { ⌜ self .segments + 1 < 18446744073709551616 ⌝ }
-        ensures { λ r. ⌜ r ≡ nextSegment self ⌝ }
+        ensures { λ r. ⌜ r ≡ segmentBegun self ⌝ }
     {
         let mut next = self;
         next.segments = self.segments + 1;

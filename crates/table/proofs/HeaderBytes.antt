@@ -19,7 +19,7 @@ use Rattle.table.specs.Flat.{Without}
 use Rattle.table.specs.Filed.{headerBytes}
 
 -- separators from the five bytes
-fromBytes : ℕ → ℕ → ℕ → ℕ → ℕ → Separators
+unfoldable pub fromBytes : ℕ → ℕ → ℕ → ℕ → ℕ → Separators
 fromBytes f s r e x = record { field = f; subfield = s; repeater = r; escape = e; subsubfield = x }
 
 -- the first seven bytes of a message with a sound header

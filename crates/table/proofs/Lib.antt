@@ -1,3 +1,4 @@
+pub mod Classes
 pub mod Splitting
 pub mod Flat
 pub mod Places
@@ -20,6 +21,8 @@ pub mod LeafTexts
 pub mod RowTests
 pub mod Growing
 pub mod RowsGrowing
+pub mod Room
+pub mod SegmentColumns
 pub mod EndToEnd
 pub mod SegmentRows
 pub mod SoundRows

@@ -1,3 +1,4 @@
+pub mod Classes
 pub mod Leaves
 pub mod Flat
 pub mod Filed

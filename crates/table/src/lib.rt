@@ -1,4 +1,5 @@
 // The table that a message is filed in, and what document 01 says it holds.
+pub mod class;
 pub mod rows;
 
 // What a table's rows and text are counted by. A refused call's card is all zero.

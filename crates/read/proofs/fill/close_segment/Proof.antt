@@ -6,13 +6,18 @@ use borrow.Author.Needs.{needs}
 use Rattle.read.proofs.fill.close_segment.Statement.{statement}
 use Rattle.read.proofs.fill.close_segment.Tie as tie
 
+-- the places behind others: where the function begins, and where the leaf is put
+abbrev start : tie.After-put-leaf → tie.Start
+start c = c .before .before .before .before .before .before
+
+abbrev put : tie.After-level-of → tie.After-put-leaf
+put c = c .before .before .before .before .before .before .before .before
+
 put-leaf-requires : tie.Need-put-leaf-requires
 put-leaf-requires c κs = search needs
 
 sub-row : tie.Need-sub-row
-sub-row c =
-    let at-pre = c .before .before .before .before .before .before .before .before .before .pre in
-    omega (arith, at-pre)
+sub-row c = omega (arith, start (c .before .before .before) .pre)
 
 add-next : tie.Need-add-next
 add-next c = search needs
@@ -33,19 +38,13 @@ cast-put-segment : tie.Need-cast-put-segment
 cast-put-segment c = search needs
 
 sub-put-segment : tie.Need-sub-put-segment
-sub-put-segment c =
-    let at-pre = c .before .before .before .before .before .before .before .before .before .before .before .before .before .before .before .before .before .before .pre in
-    omega (arith, at-pre)
+sub-put-segment c = omega (arith, start (put (c .before .before .before .before)) .pre)
 
 cast-put-segment-2 : tie.Need-cast-put-segment-2
-cast-put-segment-2 c =
-    let at-pre = c .before .before .before .before .before .before .before .before .before .before .before .before .before .before .before .before .before .before .pre in
-    omega (arith, at-pre)
+cast-put-segment-2 c = omega (arith, start (put (c .before .before .before .before)) .pre)
 
 put-segment-requires : tie.Need-put-segment-requires
-put-segment-requires c κs =
-    let at-pre = c .before .before .before .before .before .before .before .before .before .before .before .before .before .before .before .before .before .before .pre in
-    omega (arith, at-pre)
+put-segment-requires c κs = omega (arith, start (put (c .before .before .before .before)) .pre)
 
 same-length : tie.Need-same-length
 same-length c = search needs
@@ -55,11 +54,9 @@ same-length-2 c = search needs
 
 returns : tie.Need-returns
 returns c =
-    let at-level-of = c .before .before .before .before .before .before .before .level-of in
-    let at-owner-of = c .before .before .before .before .before .before .owner-of in
-    let at-put-leaf = c .before .before .before .before .before .before .before .before .before .before .before .before .before .before .before .put-leaf in
-    let at-put-segment = c .before .before .put-segment in
-    closed-by (at-level-of .ensures) (at-owner-of .ensures) (at-put-leaf .ensures) (at-put-segment .ensures)
+    let at-segment = c .before .before in
+    let at-level = at-segment .before .before .before .before .before in
+    closed-by (at-level .level-of .ensures) (at-segment .before .before .before .before .owner-of .ensures) (put at-level .put-leaf .ensures) (at-segment .put-segment .ensures)
 
 pub close-segment-spec : {M : Type 1} → statement M
 close-segment-spec =

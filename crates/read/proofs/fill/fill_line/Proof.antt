@@ -11,10 +11,9 @@ lay-line-requires c κs = search needs
 
 add-low-end : tie.Need-add-low-end
 add-low-end c =
-    let at-lay-line = c .before .before .before .before .before .before .lay-line in
-    let at-pre = c .before .before .before .before .before .before .before .before .before .before .before .before .before .pre in
-    let at-good = c .before .before .before .before .before .before .before .before .before .before .before .before .before .good in
-    omega (arith, at-lay-line .ensures .ends, at-pre .ahead, at-good)
+    let at-lay = c .before .before .before .before .before .before in
+    let start = at-lay .before .before .before .before .before .before .before in
+    omega (arith, at-lay .lay-line .ensures .ends, start .pre .ahead, start .good)
 
 low-end-requires : tie.Need-low-end-requires
 low-end-requires c κs = search needs

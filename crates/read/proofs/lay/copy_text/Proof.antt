@@ -23,8 +23,8 @@ loop-holds c =
     let at-pre = c .before .before .before .pre in
     copying-begins (at-pre .0) (at-pre .1) refl
 
-wide-requires : tie.Need-wide-requires Inv-loop μ-loop
-wide-requires c κs = search needs
+index-requires : tie.Need-index-requires Inv-loop μ-loop
+index-requires c κs = search needs
 
 element-copy-out-if1 : tie.Need-element-copy-out-if1 Inv-loop μ-loop
 element-copy-out-if1 c = omega arith
@@ -32,16 +32,16 @@ element-copy-out-if1 c = omega arith
 add-text : tie.Need-add-text Inv-loop μ-loop
 add-text c =
     let at-loop = c .before .before .before .loop in
-    let at-wide = c .before .before .wide in
+    let at-index = c .before .before .index in
     let at-if1 = c .if1 in
-    omega (arith, at-loop .inv, copying-left (at-loop .inv) (at-wide .result) (at-wide .ensures .0) (at-if1 .taken))
+    omega (arith, at-loop .inv, copying-left (at-loop .inv) (at-index .result) (at-index .ensures .0) (at-if1 .taken))
 
 slice-write-text : tie.Need-slice-write-text Inv-loop μ-loop
 slice-write-text c =
     let at-loop = c .before .before .before .loop in
-    let at-wide = c .before .before .wide in
+    let at-index = c .before .before .index in
     let at-if1 = c .if1 in
-    let one = copying-left (at-loop .inv) (at-wide .result) (at-wide .ensures .0) (at-if1 .taken) in omega arith
+    let one = copying-left (at-loop .inv) (at-index .result) (at-index .ensures .0) (at-if1 .taken) in omega arith
 
 add-n : tie.Need-add-n Inv-loop μ-loop
 add-n c = omega arith
@@ -52,9 +52,9 @@ add-b c = omega arith
 shared-slice-read-b-2 : tie.Need-shared-slice-read-b-2 Inv-loop μ-loop
 shared-slice-read-b-2 c =
     let at-loop = c .before .before .before .before .loop in
-    let at-wide = c .before .before .before .wide in
+    let at-index = c .before .before .before .index in
     let at-if1 = c .before .if1 in
-    let one = copying-left (at-loop .inv) (at-wide .result) (at-wide .ensures .0) (at-if1 .taken) in omega arith
+    let one = copying-left (at-loop .inv) (at-index .result) (at-index .ensures .0) (at-if1 .taken) in omega arith
 
 loop-less : tie.Need-loop-less Inv-loop μ-loop
 loop-less c = omega arith
@@ -62,9 +62,9 @@ loop-less c = omega arith
 loop-again : tie.Need-loop-again Inv-loop μ-loop
 loop-again c =
     let at-loop = c .before .before .before .before .loop in
-    let at-wide = c .before .before .before .wide in
+    let at-index = c .before .before .before .index in
     let at-if1 = c .before .if1 in
-    copying-more (at-loop .inv) (at-wide .result) (at-wide .ensures .0) (at-if1 .taken)
+    copying-more (at-loop .inv) (at-index .result) (at-index .ensures .0) (at-if1 .taken)
 
 same-length : tie.Need-same-length Inv-loop μ-loop
 same-length c =
@@ -74,9 +74,9 @@ same-length c =
 returns : tie.Need-returns Inv-loop μ-loop
 returns c =
     let at-loop = c .before .before .before .loop in
-    let at-wide = c .before .before .wide in
+    let at-index = c .before .before .index in
     let at-if1 = c .if1 in
-    copying-done (at-loop .inv) (at-wide .result) (at-wide .ensures .0) (at-if1 .left)
+    copying-done (at-loop .inv) (at-index .result) (at-index .ensures .0) (at-if1 .left)
 
 pub copy-text-spec : {M : Type 1} → statement M
 copy-text-spec =
@@ -86,7 +86,7 @@ copy-text-spec =
     μ-loop
     shared-slice-read-b
     loop-holds
-    wide-requires
+    index-requires
     element-copy-out-if1
     add-text
     slice-write-text

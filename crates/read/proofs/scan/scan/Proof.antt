@@ -18,11 +18,11 @@ abbrev μ-loop : tie.MeasureT-loop
 loop-holds : tie.Need-loop-holds Inv-loop μ-loop
 loop-holds c = scan-begins (omega arith)
 
-shared-slice-read-wide : tie.Need-shared-slice-read-wide Inv-loop μ-loop
-shared-slice-read-wide c = omega arith
+shared-slice-read-index : tie.Need-shared-slice-read-index Inv-loop μ-loop
+shared-slice-read-index c = omega arith
 
-wide-requires : tie.Need-wide-requires Inv-loop μ-loop
-wide-requires c κs = search needs
+index-requires : tie.Need-index-requires Inv-loop μ-loop
+index-requires c κs = search needs
 
 element-copy-out-sort : tie.Need-element-copy-out-sort Inv-loop μ-loop
 element-copy-out-sort c = search needs
@@ -30,9 +30,9 @@ element-copy-out-sort c = search needs
 returns : tie.Need-returns Inv-loop μ-loop
 returns c =
     let at-loop = c .before .before .before .before .before .before .loop in
-    let at-wide = c .before .before .before .wide in
+    let at-index = c .before .before .before .index in
     let at-if2 = c .if2 in
-    let scanned = scan-stops (at-loop .inv) (omega arith) (omega arith) (at-wide .ensures .0) (at-if2 .taken) in
+    let scanned = scan-stops (at-loop .inv) (omega arith) (omega arith) (at-index .ensures .0) (at-if2 .taken) in
     (scanned .end, scanned .marked)
 
 add-separators : tie.Need-add-separators Inv-loop μ-loop
@@ -50,14 +50,14 @@ loop-again : tie.Need-loop-again Inv-loop μ-loop
 loop-again c =
     let at-args = c .before .before .before .before .before .before .before .args in
     let at-loop = c .before .before .before .before .before .loop in
-    let at-wide = c .before .before .wide in
+    let at-index = c .before .before .index in
     let at-if1 = c .if1 in
     let a = at-args in
     ⊎-elim
     (λ h. subst⁻¹ (Scanning (a .class .now) (a .message .now) (a .from) (a .stop) (at-loop .i + 1)) (h .2)
-    (scan-marks (at-loop .inv) (omega arith) (omega arith) (at-wide .ensures .0) (h .1 .left) (h .0 .taken)))
+    (scan-marks (at-loop .inv) (omega arith) (omega arith) (at-index .ensures .0) (h .1 .left) (h .0 .taken)))
     (λ h. subst⁻¹ (Scanning (a .class .now) (a .message .now) (a .from) (a .stop) (at-loop .i + 1)) (h .1)
-    (scan-passes (at-loop .inv) (omega arith) (omega arith) (at-wide .ensures .0) (h .0 .left)))
+    (scan-passes (at-loop .inv) (omega arith) (omega arith) (at-index .ensures .0) (h .0 .left)))
     (at-if1 .came)
 
 returns-2 : tie.Need-returns-2 Inv-loop μ-loop
@@ -73,8 +73,8 @@ scan-spec =
     Inv-loop
     μ-loop
     loop-holds
-    shared-slice-read-wide
-    wide-requires
+    shared-slice-read-index
+    index-requires
     element-copy-out-sort
     returns
     add-separators

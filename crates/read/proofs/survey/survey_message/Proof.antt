@@ -9,6 +9,7 @@ use lib.ListN.{length}
 use Rattle.laws.proofs.Bytes.{bytes-known}
 use Rattle.form.proofs.HeaderRule.{sound-header}
 use Rattle.read.specs.declared.survey.Survey.{Survey}
+use Rattle.read.specs.declared.survey.Step.{Step}
 use Rattle.read.specs.declared.survey.Step.the-variants.{On}
 use Rattle.read.specs.Underway.{StepOf}
 use Rattle.read.proofs.UnderwayLaws.{message-begins, goes-on-from, begins-next, survey-ends}
@@ -23,25 +24,44 @@ Inv-loop class followers limits separators message kinds₀ seen₀ at₀ from�
 abbrev μ-loop : tie.MeasureT-loop
 μ-loop class followers limits separators message kinds₀ seen₀ at₀ from₀ kinds seen at from = length message - at
 
+-- the places behind others: where the function begins, where a turn does, and where the next line begins
+abbrev start : tie.At-loop Inv-loop μ-loop → tie.Start Inv-loop μ-loop
+start c = c .before .before .before .before
+
+abbrev turn : tie.After-known-told Inv-loop μ-loop → tie.At-loop Inv-loop μ-loop
+turn c = c .before .before .before .before
+
+abbrev next : tie.After-closed Inv-loop μ-loop → tie.After-text-from Inv-loop μ-loop
+next c = c .before .before .before
+
+-- what a line comes to
+abbrev StepHere : tie.At-loop Inv-loop μ-loop → Step → Type 0
+StepHere c step =
+    let a = start c .args in
+    StepOf (a .limits) (a .separators) (a .message .now) (c .loop .seen .segments) (c .loop .at) step
+
+-- where it has led to a later place
+abbrev LedOn : tie.After-known-told Inv-loop μ-loop → Type 0
+LedOn c = let led = c .before .more .given .0 in StepHere (turn c) (On (led .0) (led .1 .0))
+
+led-on : (c : tie.After-known-told Inv-loop μ-loop) → LedOn c
+led-on c = subst (StepHere (turn c)) (c .before .more .given .1) (c .before .before .before .see-line .ensures)
+
 begin-requires : tie.Need-begin-requires Inv-loop μ-loop
 begin-requires c κs = search needs
 
 loop-holds : tie.Need-loop-holds Inv-loop μ-loop
 loop-holds c =
-    let at-shared-slice-known = c .before .before .shared-slice-known in
-    let at-args = c .before .before .before .args in
-    let at-begin = c .begin in
-    let at-pre = c .before .before .before .pre in
-    let a = at-args in
+    let at-start = c .before .before .before in
+    let a = at-start .args in
+    let pre = at-start .pre in
     let m = a .message .now in
-    noting-begins (a .kinds .now) (at-begin .ensures)
-    (message-begins (a .limits) (a .separators) m (bytes-known m (at-shared-slice-known .given)) (at-pre .lawful .header) (sound-header m (a .separators) (at-pre .header)))
+    noting-begins (a .kinds .now) (c .begin .ensures)
+    (message-begins (a .limits) (a .separators) m (bytes-known m (c .before .before .shared-slice-known .given)) (pre .lawful .header)
+    (sound-header m (a .separators) (pre .header)))
 
 see-line-requires : tie.Need-see-line-requires Inv-loop μ-loop
-see-line-requires c κs =
-    let at-pre = c .before .before .before .before .pre in
-    let at-loop = c .loop in
-    (omega (arith, at-pre .lawful .header), at-pre .classes, at-loop .inv .begun)
+see-line-requires c κs = let pre = start c .pre in (omega (arith, pre .lawful .header), pre .classes, c .loop .inv .begun)
 
 enum-known-more : tie.Need-enum-known-more Inv-loop μ-loop
 enum-known-more c = search needs
@@ -50,110 +70,77 @@ enum-known-number : tie.Need-enum-known-number Inv-loop μ-loop
 enum-known-number c = search needs
 
 same-length : tie.Need-same-length Inv-loop μ-loop
-same-length c =
-    let at-loop = c .before .before .before .before .loop in
-    at-loop .inv .kept
+same-length c = c .before .before .before .before .loop .inv .kept
 
 returns : tie.Need-returns Inv-loop μ-loop
 returns c =
-    let at-args = c .before .before .before .before .before .before .before .before .args in
-    let at-loop = c .before .before .before .before .loop in
-    let at-number = c .before .number in
-    let at-see-line = c .before .before .before .see-line in
-    subst (StepOf (at-args .limits) (at-args .separators) (at-args .message .now) (at-loop .seen .segments) (at-loop .at)) (at-number .given .1) (at-see-line .ensures)
+    let at-line = c .before .before .before in
+    subst (StepHere (at-line .before)) (c .before .number .given .1) (at-line .see-line .ensures)
 
 text-from-requires : tie.Need-text-from-requires Inv-loop μ-loop
 text-from-requires c κs = search needs
-
--- what the line has led to
-abbrev LedOn : tie.After-known-told Inv-loop μ-loop → Type 0
-LedOn c =
-    let at-args = c .before .before .before .before .before .before .before .before .args in
-    let at-more = c .before .more in
-    let at-loop = c .before .before .before .before .loop in
-    let a = at-args in
-    let led = at-more .given .0 in
-    StepOf (a .limits) (a .separators) (a .message .now) (at-loop .seen .segments) (at-loop .at) (On (led .0) (led .1 .0))
-
-led-on : (c : tie.After-known-told Inv-loop μ-loop) → LedOn c
-led-on c =
-    let at-args = c .before .before .before .before .before .before .before .before .args in
-    let at-loop = c .before .before .before .before .loop in
-    let at-more = c .before .more in
-    let at-see-line = c .before .before .before .see-line in
-    subst (StepOf (at-args .limits) (at-args .separators) (at-args .message .now) (at-loop .seen .segments) (at-loop .at)) (at-more .given .1) (at-see-line .ensures)
 
 closed-requires : tie.Need-closed-requires Inv-loop μ-loop
 closed-requires c κs = omega (arith, led-on (c .before .before .before) .1 .seen .count)
 
 same-length-2 : tie.Need-same-length-2 Inv-loop μ-loop
 same-length-2 c =
-    let at-loop = c .before .before .before .before .before .before .before .before .before .before .before .loop in
-    let at-text-from = c .before .before .before .before .before .before .text-from in
-    let at-if1 = c .before .before .before .before .before .if1 in
-    let at-pre = c .before .before .before .before .before .before .before .before .before .before .before .before .before .before .before .pre in
-    let at-closed = c .before .before .before .closed in
-    let led = led-on (c .before .before .before .before .before .before .before) in
-    closed-kept (at-loop .inv) (led .1) (led .2) (at-text-from .ensures) (at-if1 .taken) (at-pre .lawful .header) (at-closed .ensures .1)
+    let shut = c .before .before .before in
+    let at-turn = turn (next shut .before) in
+    let led = led-on (next shut .before) in
+    closed-kept (at-turn .loop .inv) (led .1) (led .2) (next shut .text-from .ensures) (shut .before .before .if1 .taken) (start at-turn .pre .lawful .header)
+    (shut .closed .ensures .1)
 
 returns-2 : tie.Need-returns-2 Inv-loop μ-loop
 returns-2 c =
-    let at-pre = c .before .before .before .before .before .before .before .before .before .before .before .before .before .before .before .pre in
-    let at-if2 = c .if2 in
-    let at-closed = c .before .before .before .closed in
-    let at-loop = c .before .before .before .before .before .before .before .before .before .before .before .loop in
-    let at-text-from = c .before .before .before .before .before .before .text-from in
-    let at-if1 = c .before .before .before .before .before .if1 in
-    let led = led-on (c .before .before .before .before .before .before .before) in
-    let ends = survey-ends (led .1) (at-pre .table) (at-if2 .taken) (at-closed .ensures .0) in (
+    let shut = c .before .before .before in
+    let at-turn = turn (next shut .before) in
+    let pre = start at-turn .pre in
+    let led = led-on (next shut .before) in
+    let ends = survey-ends (led .1) (pre .table) (c .if2 .taken) (shut .closed .ensures .0) in (
       ends .0,
       ends .1,
-      closed-noted (at-loop .inv) (led .1) (led .2) (at-text-from .ensures) (at-if1 .taken) (at-pre .lawful .header) (at-closed .ensures .1)
-          (ap (λ (s : Survey). s .segments) (at-closed .ensures .0)),
+      closed-noted (at-turn .loop .inv) (led .1) (led .2) (next shut .text-from .ensures) (shut .before .before .if1 .taken) (pre .lawful .header)
+          (shut .closed .ensures .1) (ap (λ (s : Survey). s .segments) (shut .closed .ensures .0)),
     )
 
 next-segment-requires : tie.Need-next-segment-requires Inv-loop μ-loop
 next-segment-requires c κs =
-    let at-closed = c .before .before .before .closed in
-    let at-if2 = c .if2 in
-    let at-good = c .before .before .before .before .before .before .before .before .before .before .before .before .before .before .before .good in
-    omega (arith, led-on (c .before .before .before .before .before .before .before) .1 .few-segments, ap (λ (s : Survey). s .segments) (at-closed .ensures .0), at-if2 .left, at-good)
+    let shut = c .before .before .before in
+    let seen = next shut .before in
+    let count = ap (λ (s : Survey). s .segments) (shut .closed .ensures .0) in
+    omega (arith, led-on seen .1 .few-segments, count, c .if2 .left, start (turn seen) .good)
 
 loop-less : tie.Need-loop-less Inv-loop μ-loop
 loop-less c =
-    let at-loop = c .before .before .before .before .before .before .before .before .before .before .before .before .loop in
-    omega (arith, led-on (c .before .before .before .before .before .before .before .before) .0, at-loop .inv .begun .some)
+    let seen = next (c .before .before .before .before) .before in
+    omega (arith, led-on seen .0, turn seen .loop .inv .begun .some)
 
 loop-again : tie.Need-loop-again Inv-loop μ-loop
 loop-again c =
-    let at-loop = c .before .before .before .before .before .before .before .before .before .before .before .before .loop in
-    let at-text-from = c .before .before .before .before .before .before .before .text-from in
-    let at-if1 = c .before .before .before .before .before .before .if1 in
-    let at-pre = c .before .before .before .before .before .before .before .before .before .before .before .before .before .before .before .before .pre in
-    let at-closed = c .before .before .before .before .closed in
-    let at-next-segment = c .next-segment in
-    let at-if2 = c .before .if2 in
-    let led = led-on (c .before .before .before .before .before .before .before .before) in
-    noting-next (at-loop .inv) (led .1) (led .2) (at-text-from .ensures) (at-if1 .taken) (at-pre .lawful .header) (at-closed .ensures .1)
-    (ap (λ (s : Survey). s .segments) (at-next-segment .ensures) ∙ ap (λ (s : Survey). s .segments + 1) (at-closed .ensures .0))
-    (begins-next (led .1) (at-text-from .ensures) (at-pre .table) (at-if1 .taken) (at-if2 .left) (at-closed .ensures .0) (at-next-segment .ensures))
+    let shut = c .before .before .before .before in
+    let at-turn = turn (next shut .before) in
+    let pre = start at-turn .pre in
+    let from = next shut .text-from .ensures in
+    let here = shut .before .before .if1 .taken in
+    let led = led-on (next shut .before) in
+    noting-next (at-turn .loop .inv) (led .1) (led .2) from here (pre .lawful .header) (shut .closed .ensures .1)
+    (ap (λ (s : Survey). s .segments) (c .next-segment .ensures) ∙ ap (λ (s : Survey). s .segments + 1) (shut .closed .ensures .0))
+    (begins-next (led .1) from (pre .table) here (c .before .if2 .left) (shut .closed .ensures .0) (c .next-segment .ensures))
 
 loop-less-2 : tie.Need-loop-less-2 Inv-loop μ-loop
 loop-less-2 c =
-    let at-loop = c .before .before .before .before .before .before .loop in
-    omega (arith, led-on (c .before .before) .0, at-loop .inv .begun .some)
+    let seen = c .before .before in
+    omega (arith, led-on seen .0, turn seen .loop .inv .begun .some)
 
 loop-again-2 : tie.Need-loop-again-2 Inv-loop μ-loop
 loop-again-2 c =
-    let at-args = c .before .before .before .before .before .before .before .before .before .before .args in
-    let at-pre = c .before .before .before .before .before .before .before .before .before .before .pre in
-    let at-loop = c .before .before .before .before .before .before .loop in
-    let at-text-from = c .before .text-from in
-    let at-if1 = c .if1 in
-    let led = led-on (c .before .before) in
-    let sound = sound-header (at-args .message .now) (at-args .separators) (at-pre .header) in
-    noting-goes-on (at-loop .inv) (led .1) (led .2)
-    (goes-on-from (led .1) (at-text-from .ensures) (sound .allowed .field .low) (at-pre .lawful .header) (at-if1 .left))
+    let seen = c .before .before in
+    let at-start = start (turn seen) in
+    let led = led-on seen in
+    let sound = sound-header (at-start .args .message .now) (at-start .args .separators) (at-start .pre .header) in
+    noting-goes-on (turn seen .loop .inv) (led .1) (led .2)
+    (goes-on-from (led .1) (c .before .text-from .ensures) (sound .allowed .field .low) (at-start .pre .lawful .header) (c .if1 .left))
 
 pub survey-message-spec : {M : Type 1} → statement M
 survey-message-spec =

@@ -1,19 +1,18 @@
--- `read::class::set_classes` meets its contract: at byte b the table has 5 at each byte below b, and the sorts from there on.
+-- `table::class::set_classes` meets its contract: what is left to store from byte b on gives the whole.
 -- Assumes nothing.
-use mathlib.Core.Path.{_≡_, ap, _∙_}
-use mathlib.Core.List.{List}
+use mathlib.Core.Path.{_≡_, refl, ap, sym, _∙_}
 use Prim.Native.Nat.{ℕ, _≤_, _-_}
 use native.Mathlib.Omega.{arith}
-use lib.ListN.{set}
+use lib.ListN.{replicate}
+use lib.Seq.{sets}
 use borrow.Author.Needs.{needs}
-use Rattle.laws.specs.Tables.{values}
-use Rattle.read.specs.Classes.{sortOf}
-use Rattle.read.proofs.ClassTables.{low, low-begins, low-more, sorts-stored, classes-stored}
-use Rattle.read.proofs.class.set_classes.Statement.{statement}
-use Rattle.read.proofs.class.set_classes.Tie as tie
+use Rattle.table.specs.Classes.{classesOver}
+use Rattle.table.proofs.Classes.{lows-more}
+use Rattle.table.proofs.class.set_classes.Statement.{statement}
+use Rattle.table.proofs.class.set_classes.Tie as tie
 
 abbrev Inv-loop : tie.InvT-loop
-Inv-loop class₀ b₀ class b = (b ≤ 32) × ((f : ℕ → ℕ) → class₀ ≡ values f 0 256 → class ≡ values (low f b) 0 256)
+Inv-loop class₀ b₀ class b = (b ≤ 32) × (sets class b (replicate (32 - b) 5) ≡ sets class₀ 0 (replicate 32 5))
 
 abbrev μ-loop : tie.MeasureT-loop
 μ-loop class₀ b₀ class b = 32 - b
@@ -43,7 +42,7 @@ element-write-class-4 : tie.Need-element-write-class-4 Inv-loop μ-loop
 element-write-class-4 c = search needs
 
 loop-holds : tie.Need-loop-holds Inv-loop μ-loop
-loop-holds c = (omega arith, λ f e. e ∙ low-begins f 256)
+loop-holds c = (omega arith, refl)
 
 element-write-class-5 : tie.Need-element-write-class-5 Inv-loop μ-loop
 element-write-class-5 c = omega arith
@@ -55,20 +54,14 @@ loop-less : tie.Need-loop-less Inv-loop μ-loop
 loop-less c = omega arith
 
 loop-again : tie.Need-loop-again Inv-loop μ-loop
-loop-again c =
-    let at-loop = c .before .loop in
-    (omega arith, λ f e. ap (λ (t : List ℕ). set t (at-loop .b) 5) (at-loop .inv .1 f e) ∙ low-more f 256 (at-loop .b))
+loop-again c = let at = c .before .loop in (omega arith, lows-more (at .class) (at .b) (c .loop-test .taken) ∙ at .inv .1)
 
 returns : tie.Need-returns Inv-loop μ-loop
+unfolding classesOver
 returns c =
-    let at-args = c .before .before .before .before .before .before .args in
-    let at-loop = c .before .loop in
-    let at-pre = c .before .before .before .before .before .before .pre in
-    let ps = at-args .separators in
-    at-loop .inv .1 (sortOf ps)
-    (ap (λ (t : List ℕ). set (set (set (set t (ps .subsubfield) 4) (ps .subfield) 3) (ps .repeater) 2) (ps .field) 1) at-pre ∙ sorts-stored ps 256)
-    ∙ ap (λ (b : ℕ). values (low (sortOf ps) b) 0 256) (omega arith)
-    ∙ classes-stored ps
+    let at = c .before .loop in
+    let none : 32 - at .b ≡ 0 = omega arith in
+    ap (λ (n : ℕ). sets (at .class) (at .b) (replicate n 5)) (sym none) ∙ at .inv .1
 
 pub set-classes-spec : {M : Type 1} → statement M
 set-classes-spec =

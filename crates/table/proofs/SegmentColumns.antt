@@ -1,0 +1,106 @@
+-- The columns of the segment rows (document 01, "Segments, leaves and the table"): each row of a table has its segment's kind, the owner
+-- that document 01 gives it, its first leaf and its leaf count.
+-- Assumes nothing.
+use mathlib.Core.List.{List, [], _∷_, map, reverse}
+use mathlib.Core.Path.{_≡_, refl, sym, ap, _∙_}
+use Prim.Native.Nat.{ℕ, zero, suc, _+_, _*_, _≤_, _<_}
+use native.Mathlib.Nat.{le-of-suc-le-suc, not-suc-le-zero}
+use native.Mathlib.Omega.{arith}
+use lib.ListN.{length, take, getD, length-append}
+use lib.Seq.{sets}
+use Rattle.laws.specs.Lists.{concat}
+use Rattle.form.specs.declared.separators.Separators.{Separators}
+use Rattle.order.specs.Owners.{owner, owners}
+use Rattle.order.proofs.Owner.{owners-at, length-owners}
+use Rattle.table.specs.Leaves.{Leaf, kindOfSegment, messageLeaves}
+use Rattle.table.specs.Rows.{segmentRowSize, segmentRow, segmentRowsFrom, RowIs, kindsOf, contextIn, tableOf}
+use Rattle.table.proofs.RowsGrowing.{length-kinds, length-messageLeaves, length-segmentRows}
+use Rattle.table.proofs.Room.{front-at}
+
+-- what f makes of the element at a place
+getD-map : {A : Type 0} (f : A → ℕ) (s : List A) (i : ℕ) (d : A) → i < length s → getD (map f s) i 0 ≡ f (getD s i d)
+getD-map f [] i d h = absurd (not-suc-le-zero h)
+getD-map f (a ∷ s) zero d h = refl
+getD-map f (a ∷ s) (suc i) d h = getD-map f s i d (le-of-suc-le-suc h)
+
+-- past one row
+module _ (kind owner first leaves : ℕ) (rows : List ℕ) where
+  past-row : (m n : ℕ) → m ≡ suc (suc (suc (suc n))) → getD (kind ∷ owner ∷ first ∷ leaves ∷ rows) m 0 ≡ getD rows n 0
+  past-row m n e = ap (λ (i : ℕ). getD (kind ∷ owner ∷ first ∷ leaves ∷ rows) i 0) e
+
+-- the row of the columns at i
+pub rows-at : (first : ℕ) (ks os : List ℕ) (ls : List (List Leaf)) (i : ℕ) → length os ≡ length ks → length ls ≡ length ks → i < length ks
+    → RowIs (segmentRowsFrom first ks os ls) i (getD ks i 0) (getD os i 0) (first + length (concat (take i ls))) (length (getD ls i []))
+unfolding segmentRowsFrom concat
+rows-at first [] os ls i eo el h = absurd (not-suc-le-zero h)
+rows-at first (k ∷ ks) [] ls i eo el h = absurd (omega arith)
+rows-at first (k ∷ ks) (o ∷ os) [] i eo el h = absurd (omega arith)
+rows-at first (k ∷ ks) (o ∷ os) (l ∷ ls) zero eo el h = record { kind-is = refl; owner-is = refl; first-is = omega arith; count-is = refl }
+rows-at first (k ∷ ks) (o ∷ os) (l ∷ ls) (suc i) eo el h =
+    let w = rows-at (first + length l) ks os ls i (omega arith) (omega arith) (le-of-suc-le-suc h) in
+    let past = past-row k o first (length l) (segmentRowsFrom (first + length l) ks os ls) in
+    record {
+      kind-is = past (suc i * segmentRowSize) (i * segmentRowSize) (omega arith) ∙ w .kind-is;
+      owner-is = past (suc i * segmentRowSize + 1) (i * segmentRowSize + 1) (omega arith) ∙ w .owner-is;
+      first-is =
+          past (suc i * segmentRowSize + 2) (i * segmentRowSize + 2) (omega arith) ∙ w .first-is
+          ∙ omega (arith, length-append l (concat (take i ls)));
+      count-is = past (suc i * segmentRowSize + 3) (i * segmentRowSize + 3) (omega arith) ∙ w .count-is;
+    }
+
+-- the owner of segment i: document 01's, by the kinds before it, the nearest first
+abbrev pub ownerOfSegment : (ℕ → ℕ → ℕ) → Separators → List (List ℕ) → ℕ → ℕ
+ownerOfSegment levels ps segs i = owner (levels (contextIn ps segs)) (reverse (take i (kindsOf ps segs))) (kindOfSegment ps (getD segs i []))
+
+-- the first leaf of segment i, counted from 1: one more than the leaves of the segments before it; and how many leaves it has
+abbrev pub firstLeafOf : Separators → List (List ℕ) → ℕ → ℕ
+firstLeafOf ps segs i = 1 + length (concat (take i (messageLeaves ps segs)))
+
+abbrev pub leafCountOf : Separators → List (List ℕ) → ℕ → ℕ
+leafCountOf ps segs i = length (getD (messageLeaves ps segs) i [])
+
+-- row i of rows is that of segment i
+abbrev pub RowOf : (ℕ → ℕ → ℕ) → Separators → List (List ℕ) → List ℕ → ℕ → Type 0
+RowOf levels ps segs rows i =
+    RowIs rows i (kindOfSegment ps (getD segs i [])) (ownerOfSegment levels ps segs i) (firstLeafOf ps segs i) (leafCountOf ps segs i)
+
+module _ (levels : ℕ → ℕ → ℕ) (ps : Separators) (segs : List (List ℕ)) where
+  owners-count : length (owners (levels (contextIn ps segs)) (kindsOf ps segs)) ≡ length (kindsOf ps segs)
+  owners-count = length-owners (levels (contextIn ps segs)) (kindsOf ps segs)
+
+  groups-count : length (messageLeaves ps segs) ≡ length (kindsOf ps segs)
+  groups-count = length-messageLeaves ps segs ∙ sym (length-kinds ps segs)
+
+  kind-at : (i : ℕ) → i < length segs → getD (kindsOf ps segs) i 0 ≡ kindOfSegment ps (getD segs i [])
+  unfolding kindsOf
+  kind-at i h = getD-map (kindOfSegment ps) segs i [] h
+
+  pub table-rows : (i : ℕ) → i < length segs → RowOf levels ps segs (tableOf levels ps segs .segmentRows) i
+  unfolding tableOf
+  table-rows i h =
+      let within : i < length (kindsOf ps segs) = omega (arith, length-kinds ps segs) in
+      let lv = levels (contextIn ps segs) in
+      let w = rows-at 1 (kindsOf ps segs) (owners lv (kindsOf ps segs)) (messageLeaves ps segs) i owners-count groups-count within in
+      record {
+        kind-is = w .kind-is ∙ kind-at i h;
+        owner-is = w .owner-is ∙ owners-at lv (kindsOf ps segs) i within ∙ ap (owner lv (reverse (take i (kindsOf ps segs)))) (kind-at i h);
+        first-is = w .first-is;
+        count-is = w .count-is;
+      }
+
+  pub length-table-rows : length (tableOf levels ps segs .segmentRows) ≡ length segs * segmentRowSize
+  unfolding tableOf
+  length-table-rows =
+      length-segmentRows 1 (kindsOf ps segs) (owners (levels (contextIn ps segs)) (kindsOf ps segs)) (messageLeaves ps segs) owners-count groups-count
+      ∙ ap (λ (n : ℕ). n * segmentRowSize) (length-kinds ps segs)
+
+-- a row of what is stored at the front of a buffer is a row of the buffer
+pub front-row : (buffer front : List ℕ) (i kind owner first leaves : ℕ) → length front ≤ length buffer → suc i * segmentRowSize ≤ length front
+    → RowIs front i kind owner first leaves → RowIs (sets buffer 0 front) i kind owner first leaves
+front-row buffer front i kind owner first leaves fits h w =
+    record {
+      kind-is = front-at buffer front (i * segmentRowSize) fits (omega arith) ∙ w .kind-is;
+      owner-is = front-at buffer front (i * segmentRowSize + 1) fits (omega arith) ∙ w .owner-is;
+      first-is = front-at buffer front (i * segmentRowSize + 2) fits (omega arith) ∙ w .first-is;
+      count-is = front-at buffer front (i * segmentRowSize + 3) fits (omega arith) ∙ w .count-is;
+    }
