@@ -4,7 +4,7 @@
 use mathlib.Core.Bool.{true, false, and-false}
 use mathlib.Core.List.{List, []}
 use mathlib.Core.Logic.{_⊎_, inl, inr}
-use mathlib.Core.Path.{_≡_, refl, sym, ap, ap₂, _∙_, fun-ext}
+use mathlib.Core.Path.{_≡_, refl, sym, ap, ap₂, _∙_, subst⁻¹, fun-ext}
 use Prim.Native.Nat.{ℕ, _+_, _*_, _-_, _/_, _%_, _≤_, _<_}
 use native.Mathlib.Nat.{le-trans}
 use native.Mathlib.Omega.{arith}
@@ -111,3 +111,6 @@ level-in-this table e c k = ap (λ (t : List ℕ). levelIn t c k) e ∙ rows-tab
 
 pub levels-are : {table : List ℕ} → table ≡ levelTable → levelIn table ≡ level
 levels-are {table} e = fun-ext (λ c. fun-ext (λ k. level-in-this table e c k))
+
+pub levels-below : {table : List ℕ} → table ≡ levelTable → LevelsBelow (levelIn table)
+levels-below e = subst⁻¹ LevelsBelow (levels-are e) level-few
