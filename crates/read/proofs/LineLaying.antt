@@ -14,12 +14,11 @@ use Rattle.form.specs.Header.{splitting}
 use Rattle.laws.proofs.Bytes.{Bytes}
 use Rattle.line.specs.Lines.{CR}
 use Rattle.table.specs.Flat.{step, steps}
-use Rattle.table.specs.Rows.{leafRowSize, width}
 use Rattle.table.proofs.Passes.{steps-append}
 use Rattle.read.specs.declared.lay.Laying.{Laying}
 use Rattle.read.specs.declared.lay.Laid.{Laid}
 use Rattle.read.specs.Scan.{run, plainRun}
-use Rattle.read.specs.Laying.{rowOf, nextLeaf, PlaceCounted, Held, Lays, LaidBy}
+use Rattle.read.specs.Laying.{rowOf, nextLeaf, RowFits, Held, Lays, LaidBy}
 use Rattle.read.proofs.PlainLaws.{plainText, lineFrom, run-split, marks-split, line-split, length-text, no-text, run-turn, run-stop, marks-turn, marks-stop, line-turn}
 use Rattle.read.proofs.ClassLaws.{plain-passes}
 use Rattle.read.proofs.HeldLaws.{outTo, leaf-closes, leaf-segment, held-text, held-separator}
@@ -145,10 +144,10 @@ text-fits {class} {message} {i} asked = let split = run-split class message i (i
 
 pub row-fits : {class message : List ℕ} {i : ℕ} {l : Laying} {text leaves : List ℕ} → Lays class message i l text leaves
     → (n : ℕ) → n ≡ getD message i 0 → (getD class n 0 ≡ 5 → ⊥) → (getD class (getD message i 0) 0 ≡ 0 → ⊥)
-    → (l .row + leafRowSize ≤ length leaves) × (l .row + leafRowSize < width * leafRowSize) × (l .out < width) × PlaceCounted l
+    → RowFits l leaves
 row-fits {class} {message} {i} asked n e no-end other =
     let mark = marks-turn class message i (omega arith) (λ z. no-end (ap (λ (b : ℕ). getD class b 0) e ∙ z)) other in
-    (omega arith, omega arith, omega arith, asked .counted)
+    record { room = omega arith; short = omega arith; next = record { few = omega arith; counted = asked .counted } }
 
 -- the byte at `stop` ends the line
 pub laid-end : {class message : List ℕ} {l : Laying} {text leaves : List ℕ} {stop : ℕ}

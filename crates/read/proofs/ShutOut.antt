@@ -4,7 +4,7 @@
 use mathlib.Core.Bool.{false}
 use mathlib.Core.List.{List, _++_, map}
 use mathlib.Core.Path.{_≡_, refl, sym, ap, _∙_, subst}
-use Prim.Native.Nat.{ℕ, _≤_, _<_}
+use Prim.Native.Nat.{ℕ, _+_, _*_, _≤_, _<_}
 use native.Mathlib.Omega.{arith}
 use lib.Dec.{lit≤}
 use lib.ListN.{getD, replicate}
@@ -14,7 +14,7 @@ use Rattle.form.specs.Limits.{form}
 use Rattle.form.specs.Numbers.{longLine}
 use Rattle.order.specs.Owners.{level}
 use Rattle.table.specs.declared.Card.{Card}
-use Rattle.table.specs.Rows.{Table}
+use Rattle.table.specs.Rows.{segmentRowSize, leafRowSize, ownerIn, segmentIn, Table}
 use Rattle.table.specs.Reading.{Room, Outcome, refused, accepted, short, reading, stated}
 use Rattle.table.specs.Examples.{Example, Says, refuses, files, says, read, filed, examples, k1, k6, k10}
 use Rattle.table.proofs.Accepting.{refuse-passed}
@@ -105,21 +105,22 @@ module _ (text segments leaves : List ℕ) {text′ segments′ leaves′ : List
       omega (arith, ap (λ (c : Card). c .context) h)
 
   -- "a reader that fills the first segment and only counts the rest": H has seven leaf rows, and the eighth begins with its segment, 2
-  pub fills-first-segment-only : ReadAs form level K1 text segments leaves r text′ segments′ leaves′ → getD leaves 49 0 ≡ 0
-      → getD leaves′ 49 0 ≡ getD leaves 49 0 → ⊥
+  pub fills-first-segment-only : ReadAs form level K1 text segments leaves r text′ segments′ leaves′ → segmentIn leaves 7 ≡ 0
+      → segmentIn leaves′ 7 ≡ segmentIn leaves 7 → ⊥
   unfolding leavesPut k1 filed concat
   fills-first-segment-only g zeros unchanged =
-      let is : getD leaves′ 49 0 ≡ 2 =
-      ap (λ (s : List ℕ). getD s 49 0) (given K1 k1-read g .leafRows) ∙ front-at leaves (k1 .leafRows) 49 (omega (arith, roomy-leaves form (roomOf text segments leaves) roomy)) (lit≤ tt) in
+      let is : segmentIn leaves′ 7 ≡ 2 =
+      ap (λ (s : List ℕ). segmentIn s 7) (given K1 k1-read g .leafRows)
+      ∙ front-at leaves (k1 .leafRows) (7 * leafRowSize) (omega (arith, roomy-leaves form (roomOf text segments leaves) roomy)) (lit≤ tt) in
       omega arith
 
   -- one that keeps a finer number behind a coarser separator: JEAN stands in row 14, at 2.6.1.2.1
-  pub keeps-a-finer-number : ReadAs form level K1 text segments leaves r text′ segments′ leaves′ → getD leaves′ 95 0 ≡ 2 → ⊥
+  pub keeps-a-finer-number : ReadAs form level K1 text segments leaves r text′ segments′ leaves′ → getD leaves′ (13 * leafRowSize + 4) 0 ≡ 2 → ⊥
   unfolding leavesPut k1 filed concat
   keeps-a-finer-number g h =
-      let is : getD leaves′ 95 0 ≡ 1 =
-      ap (λ (s : List ℕ). getD s 95 0) (given K1 k1-read g .leafRows)
-      ∙ front-at leaves (k1 .leafRows) 95 (omega (arith, roomy-leaves form (roomOf text segments leaves) roomy)) (lit≤ tt) in
+      let is : getD leaves′ (13 * leafRowSize + 4) 0 ≡ 1 =
+      ap (λ (s : List ℕ). getD s (13 * leafRowSize + 4) 0) (given K1 k1-read g .leafRows)
+      ∙ front-at leaves (k1 .leafRows) (13 * leafRowSize + 4) (omega (arith, roomy-leaves form (roomOf text segments leaves) roomy)) (lit≤ tt) in
       omega arith
 
   -- "invented leaf .. counts": one leaf too many
@@ -151,12 +152,12 @@ module _ (text segments leaves : List ℕ) {text′ segments′ leaves′ : List
       omega arith
 
   -- "Making a C the owner of what follows it": the AP in row 4 belongs to the P in row 2, not to the C in row 3
-  pub makes-a-C-owner : ReadAs form level K10 text segments leaves r text′ segments′ leaves′ → getD segments′ 13 0 ≡ 3 → ⊥
+  pub makes-a-C-owner : ReadAs form level K10 text segments leaves r text′ segments′ leaves′ → ownerIn segments′ 3 ≡ 3 → ⊥
   unfolding segmentsPut k10 filed concat
   makes-a-C-owner g h =
-      let is : getD segments′ 13 0 ≡ 2 =
-      ap (λ (s : List ℕ). getD s 13 0) (given K10 k10-read g .segmentRows)
-      ∙ front-at segments (k10 .segmentRows) 13 (omega (arith, roomy-segments form (roomOf text segments leaves) roomy)) (lit≤ tt) in
+      let is : ownerIn segments′ 3 ≡ 2 =
+      ap (λ (s : List ℕ). ownerIn s 3) (given K10 k10-read g .segmentRows)
+      ∙ front-at segments (k10 .segmentRows) (3 * segmentRowSize + 1) (omega (arith, roomy-segments form (roomOf text segments leaves) roomy)) (lit≤ tt) in
       omega arith
 
   -- "Taking `AP|` or `ACT|` for an addendum because it begins with A": AP and AC of K10 have rows of their own, six in all

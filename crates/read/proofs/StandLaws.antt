@@ -21,12 +21,12 @@ use Rattle.order.specs.Levels.{levelIn}
 use Rattle.order.specs.Owners.{owners}
 use Rattle.order.proofs.Owner.{owned-owners}
 use Rattle.table.specs.Leaves.{kindOfSegment, messageLeaves}
-use Rattle.table.specs.Rows.{leafRowSize, width, segmentRowsFrom, leafRowsFrom, textOf, kindsOf, allLeaves, tableOf}
+use Rattle.table.specs.Rows.{leafRowSize, segmentRowsFrom, leafRowsFrom, textOf, kindsOf, allLeaves, tableOf}
 use Rattle.read.specs.declared.fill.Filling.{Filling}
 use Rattle.read.specs.declared.fill.Line.{Line}
 use Rattle.read.specs.Scan.{run}
 use Rattle.read.specs.Starting.{textFrom}
-use Rattle.read.specs.Laying.{nextSegment, PlaceCounted, Lays}
+use Rattle.read.specs.Laying.{nextSegment, NextFits, Lays}
 use Rattle.read.specs.Filling.{segmentsIn, tableIn, Fillable, Filled}
 use Rattle.read.specs.Segments.{kindNoted, Closable, ClosedBy, begunAfter, lineText, lineAfter, LineFilled, closedRows, Begun, Came, Stands, AtLine}
 use Rattle.read.proofs.KindLookup.{kind-found}
@@ -123,10 +123,12 @@ module _ {c : Came} {class kinds levels : List ℕ} {context : ℕ} {ps : Separa
       let segments-same = segments-kept (w .begins) in
       let leaves-same = leaves-kept (w .begins) in
       record {
-        leafRoom = omega (arith, w .prepared .leafRoom);
-        fewLeaves = omega (arith, given .fits .leaves);
-        short = omega (arith, w .within, given .bytes, given .fits .bytes);
-        counted = w .begins .counted;
+        leaf =
+            record {
+              room = omega (arith, w .prepared .leafRoom);
+              short = omega (arith, w .within, given .bytes, given .fits .bytes);
+              next = record { few = omega (arith, given .fits .leaves); counted = w .begins .counted };
+            };
         numbered = omega arith;
         noted = omega (arith, w .prepared .given .all);
         segmentRoom = omega (arith, given .few, w .prepared .segmentRoom);
@@ -134,8 +136,8 @@ module _ {c : Came} {class kinds levels : List ℕ} {context : ℕ} {ps : Separa
         some = omega arith;
       }
 
-  pub stands-next : (f .laying .row + leafRowSize < width * leafRowSize) × PlaceCounted (f .laying)
-  stands-next = (stands-closable .fewLeaves, stands-closable .counted)
+  pub stands-next : NextFits (f .laying)
+  stands-next = stands-closable .leaf .next
 
   -- the kind noted of the segment begun is its own, once no line carries it on
   kind-own : (rest : List (List ℕ)) → segmentsIn (c .limits) ps m ≡ w .done ++ (w .last ∷ rest) → kindNoted kinds f ≡ kindOfSegment ps (w .last)

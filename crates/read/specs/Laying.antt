@@ -80,6 +80,16 @@ pub record PlaceCounted (l : Laying) : Type 0 where
   pub subsubfields : l .subsubfield * leafRowSize ≤ l .row + leafRowSize
   pub begins : l .begin ≤ l .out
 
+-- what closing the leaf begun asks, and its row, whose numbers fit and for which there is room
+pub record NextFits (l : Laying) : Type 0 where
+  pub few : l .row + leafRowSize < width * leafRowSize
+  pub counted : PlaceCounted l
+
+pub record RowFits (l : Laying) (leaves : List ℕ) : Type 0 where
+  pub room : l .row + leafRowSize ≤ length leaves
+  pub short : l .out < width
+  pub next : NextFits l
+
 -- the state, the text area and the leaf rows hold what one pass has made, over what the two buffers held before
 pub record Held (text₀ leaves₀ : List ℕ) (pass : Pass) (l : Laying) (text leaves : List ℕ) : Type 0 where
   pub place : pass .place ≡ leafPlace l

@@ -13,13 +13,13 @@ use Rattle.line.specs.Finding.{lowRun}
 use Rattle.order.specs.Levels.{levelIn}
 use Rattle.order.specs.Owning.{noRows, owned, knownAfter, Owned}
 use Rattle.table.specs.Leaves.{messageLeaves}
-use Rattle.table.specs.Rows.{segmentRowSize, leafRowSize, width, segmentRow, segmentRowsFrom, kindsOf, allLeaves}
+use Rattle.table.specs.Rows.{segmentRowSize, leafRowSize, segmentRow, segmentRowsFrom, kindsOf, allLeaves}
 use Rattle.table.specs.Filed.{Filed}
 use Rattle.table.specs.OnePass.{headerPass, passOver}
 use Rattle.read.specs.declared.fill.Filling.{Filling}
 use Rattle.read.specs.declared.fill.Line.{Line}
 use Rattle.read.specs.Scan.{run}
-use Rattle.read.specs.Laying.{rowOf, nextSegment, PlaceCounted, Held, LaidBy}
+use Rattle.read.specs.Laying.{rowOf, nextSegment, PlaceCounted, RowFits, Held, LaidBy}
 use Rattle.read.specs.Filling.{Prepared}
 
 -- the kind that is noted of the segment begun
@@ -28,10 +28,7 @@ kindNoted kinds f = getD kinds (f .laying .segment - 1) 0
 
 -- what closing the segment begun asks: its kind noted, and room for the row of its last leaf and for its own row, whose numbers fit a row
 pub record Closable (f : Filling) (kinds segments leaves : List ℕ) : Type 0 where
-  pub leafRoom : f .laying .row + leafRowSize ≤ length leaves
-  pub fewLeaves : f .laying .row + leafRowSize < width * leafRowSize
-  pub short : f .laying .out < width
-  pub counted : PlaceCounted (f .laying)
+  pub leaf : RowFits (f .laying) leaves
   pub numbered : 1 ≤ f .laying .segment
   pub noted : f .laying .segment ≤ length kinds
   pub segmentRoom : f .laying .segment * segmentRowSize ≤ length segments

@@ -13,6 +13,7 @@ use Rattle.line.specs.Left.{SameFault, Left, LeftAt}
 use Rattle.order.specs.Watcher.{begun, watched}
 use Rattle.order.specs.Refusing.{firstNo}
 use Rattle.table.specs.Rows.{kindsOf, contextIn, allLeaves}
+use Rattle.table.specs.Classes.{classTable}
 use Rattle.table.specs.Reading.{firstUnknown}
 use Rattle.read.specs.declared.survey.Survey.{Survey}
 use Rattle.read.specs.declared.survey.Step.{Step}
@@ -62,6 +63,12 @@ pub record LineBegun (L : Limits) (ps : Separators) (m : List ℕ) (at from : �
   pub behind : at ≤ from
   pub within : from ≤ length m
   pub short : from ≤ at + L .line
+
+-- what seeing that line asks
+pub record Seeable (L : Limits) (ps : Separators) (class m : List ℕ) (at from : ℕ) (s : Survey) : Type 0 where
+  pub one : 1 ≤ L .line
+  pub classes : class ≡ classTable ps
+  pub begun : LineBegun L ps m at from s
 
 -- what the line at `at` comes to: the survey goes on at a later place, in the same segment, or its fault is the message's
 abbrev pub StepOf : Limits → Separators → List ℕ → ℕ → ℕ → Step → Type 0

@@ -13,11 +13,11 @@ use order::owners::owner_of;
 use table::rows;
 use table::rows::Entry;
 ghost use mathlib.Core.Path.{_≡_};
-ghost use Prim.Native.Nat.{_+_, _*_, _≤_, _<_};
+ghost use Prim.Native.Nat.{_+_, _*_, _≤_};
 ghost use lib.ListN.{length};
 ghost use lib.Seq.{sets};
-ghost use Rattle.table.specs.Rows.{segmentRowSize, leafRowSize, width, segmentRow};
-ghost use Rattle.read.specs.Laying.{PlaceCounted, Lays};
+ghost use Rattle.table.specs.Rows.{segmentRowSize, leafRowSize, segmentRow};
+ghost use Rattle.read.specs.Laying.{NextFits, Lays};
 ghost use Rattle.read.specs.Filling.{tableIn, Prepared, Filled};
 ghost use Rattle.read.specs.Segments.{kindNoted, Closable, ClosedBy, begunAfter, HeaderPut, LineFilled};
 
@@ -153,7 +153,7 @@ fn fill_line(
 
 // The segment after the open one, which has been closed.
 fn next_segment(filling: Filling) -> Filling
-    requires { ⌜ (filling .laying .row + leafRowSize < width * leafRowSize) × PlaceCounted (filling .laying) ⌝ }
+    requires { ⌜ NextFits (filling .laying) ⌝ }
     ensures { λ r. ⌜ r ≡ begunAfter filling ⌝ }
 {
     let laying = filling.laying;

@@ -3,12 +3,11 @@ use table::class::index;
 use table::rows;
 use table::rows::Entry;
 ghost use mathlib.Core.Path.{_≡_};
-ghost use Prim.Native.Nat.{_+_, _*_, _≤_, _<_};
+ghost use Prim.Native.Nat.{_+_, _≤_, _<_};
 ghost use lib.ListN.{length, take, drop};
 ghost use lib.Seq.{sets};
-ghost use Rattle.table.specs.Rows.{leafRowSize, width};
 ghost use Rattle.read.specs.Scan.{plainRun};
-ghost use Rattle.read.specs.Laying.{rowOf, nextLeaf, nextSegment, PlaceCounted, Lays, LaidBy};
+ghost use Rattle.read.specs.Laying.{rowOf, nextLeaf, nextSegment, NextFits, RowFits, Lays, LaidBy};
 
 // How far the pass has come: where the row of the leaf begun goes, behind a row for each leaf closed, the place of that leaf, and where
 // its text begins and ends so far.
@@ -32,7 +31,7 @@ pub struct Laid {
 impl Laying {
     // The leaf begun is closed: the next one stands one segment on, its other numbers are 1.
     pub(crate) fn next_segment(self) -> Laying
-        requires { ⌜ (self .row + leafRowSize < width * leafRowSize) × PlaceCounted self ⌝ }
+        requires { ⌜ NextFits self ⌝ }
         ensures { λ r. ⌜ r ≡ nextSegment self ⌝ }
     {
         Laying {
@@ -49,7 +48,7 @@ impl Laying {
 
     // The leaf begun is closed by a separator of a sort: the next one stands one such part on, its finer numbers are 1.
     pub(crate) fn next_leaf(self, sort: u8) -> Laying
-        requires { ⌜ (self .row + leafRowSize < width * leafRowSize) × PlaceCounted self ⌝ }
+        requires { ⌜ NextFits self ⌝ }
         ensures { λ r. ⌜ r ≡ nextLeaf self sort ⌝ }
     {
         let mut next = self;
@@ -95,7 +94,7 @@ fn copy_text(class: &[u8; 256], message: &[u8], from: usize, text: &mut [u8], ou
 
 // The row of the leaf begun, which is closed here.
 pub(crate) fn put_leaf(laying: Laying, leaves: &mut [Entry])
-    requires { ⌜ (laying .row + leafRowSize ≤ length (now leaves)) × (laying .row + leafRowSize < width * leafRowSize) × (laying .out < width) × PlaceCounted laying ⌝ }
+    requires { ⌜ RowFits laying (now leaves) ⌝ }
     ensures { λ _. ⌜ now (leaves .exit) ≡ sets (now (leaves .entry)) (laying .row) (rowOf laying) ⌝ }
 {
     let at = laying.row;

@@ -17,9 +17,8 @@ ghost use Prim.Native.Nat.{_+_, _-_, _≤_, _<_};
 ghost use lib.ListN.{length, set, take, drop};
 ghost use Rattle.laws.specs.Lists.{firstOf};
 ghost use Rattle.order.specs.Watcher.{followsBy};
-ghost use Rattle.table.specs.Classes.{classTable};
 ghost use Rattle.read.specs.Seeing.{nothingSeen, withText, kindSeen, watching, segmentShut, segmentBegun};
-ghost use Rattle.read.specs.Underway.{LineBegun, StepOf};
+ghost use Rattle.read.specs.Underway.{Seeable, StepOf};
 ghost use Rattle.read.specs.Surveying.{Ready, SurveyOf};
 
 // What is known once some lines have been seen. The last segment begun is open: lines may still carry it on.
@@ -175,7 +174,7 @@ fn see_line(
     from: usize,
     seen: Survey,
 ) -> Step
-    requires { ⌜ (1 ≤ limits .line) × (now class ≡ classTable separators) × LineBegun limits separators (now message) at from seen ⌝ }
+    requires { ⌜ Seeable limits separators (now class) (now message) at from seen ⌝ }
     ensures { λ r. ⌜ StepOf limits separators (now (message .entry)) (seen .segments) at r ⌝ }
 {
     let stop = text_stop(limits.line, at, message.len());

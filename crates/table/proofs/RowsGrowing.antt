@@ -10,7 +10,7 @@ use Rattle.laws.proofs.Lists.{map-append}
 use Rattle.laws.proofs.Sums.{concat-append}
 use Rattle.form.specs.declared.separators.Separators.{Separators}
 use Rattle.table.specs.Leaves.{Leaf, kindOfSegment, segmentLeaves, headerLeaves, leavesFrom, messageLeaves}
-use Rattle.table.specs.Rows.{segmentRowSize, segmentRowsFrom, kindsOf, allLeaves}
+use Rattle.table.specs.Rows.{segmentRowSize, segmentRow, segmentRowsFrom, kindsOf, allLeaves}
 
 -- the leaves of one segment more: of the H where it is the first
 unfoldable pub leavesBehind : Separators → List (List ℕ) → List ℕ → List Leaf
@@ -71,16 +71,16 @@ length-segmentRows first (k ∷ ks) (o ∷ os) (l ∷ ls) e f =
 pub segmentRows-last : (first : ℕ) (ks os : List ℕ) (ls : List (List Leaf)) (k o : ℕ) (l : List Leaf)
     → length os ≡ length ks → length ls ≡ length ks
     → segmentRowsFrom first (ks ++ (k ∷ [])) (os ++ (o ∷ [])) (ls ++ (l ∷ []))
-    ≡ segmentRowsFrom first ks os ls ++ (k ∷ o ∷ (first + length (concat ls)) ∷ length l ∷ [])
+    ≡ segmentRowsFrom first ks os ls ++ segmentRow k o (first + length (concat ls)) (length l)
 unfolding segmentRowsFrom concat
 segmentRows-last first [] [] [] k o l e f =
-    ap {B = List ℕ} (λ n. k ∷ o ∷ n ∷ length l ∷ []) (omega arith)
+    ap {B = List ℕ} (λ n. segmentRow k o n (length l)) (omega arith)
 segmentRows-last first [] (p ∷ os) ls k o l e f = absurd (omega arith)
 segmentRows-last first [] [] (m ∷ ls) k o l e f = absurd (omega arith)
 segmentRows-last first (j ∷ ks) [] ls k o l e f = absurd (omega arith)
 segmentRows-last first (j ∷ ks) (p ∷ os) [] k o l e f = absurd (omega arith)
 segmentRows-last first (j ∷ ks) (p ∷ os) (m ∷ ls) k o l e f =
-    ap {B = List ℕ} (λ r. j ∷ p ∷ first ∷ length m ∷ r)
+    ap {B = List ℕ} (λ r. segmentRow j p first (length m) ++ r)
     (segmentRows-last (first + length m) ks os ls k o l (omega arith) (omega arith)
-    ∙ ap {B = List ℕ} (λ n. segmentRowsFrom (first + length m) ks os ls ++ (k ∷ o ∷ n ∷ length l ∷ []))
+    ∙ ap {B = List ℕ} (λ n. segmentRowsFrom (first + length m) ks os ls ++ segmentRow k o n (length l))
     (omega (arith, length-append m (concat ls))))

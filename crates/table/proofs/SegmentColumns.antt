@@ -1,13 +1,13 @@
 -- The columns of the segment rows (document 01, "Segments, leaves and the table"): each row of a table has its segment's kind, the owner
 -- that document 01 gives it, its first leaf and its leaf count.
 -- Assumes nothing.
-use mathlib.Core.List.{List, [], _∷_, map, reverse}
+use mathlib.Core.List.{List, [], _∷_, _++_, map, reverse}
 use mathlib.Core.Path.{_≡_, refl, sym, ap, _∙_}
 use Prim.Native.Nat.{ℕ, zero, suc, _+_, _*_, _≤_, _<_}
 use native.Mathlib.Nat.{le-of-suc-le-suc, not-suc-le-zero}
 use native.Mathlib.Omega.{arith}
 use lib.ListN.{length, take, getD, length-append}
-use lib.Seq.{sets}
+use lib.Seq.{sets, getD-append-add}
 use Rattle.laws.specs.Lists.{concat}
 use Rattle.form.specs.declared.separators.Separators.{Separators}
 use Rattle.order.specs.Owners.{owner, owners}
@@ -24,9 +24,9 @@ getD-map f (a ∷ s) zero d h = refl
 getD-map f (a ∷ s) (suc i) d h = getD-map f s i d (le-of-suc-le-suc h)
 
 -- past one row
-module _ (kind owner first leaves : ℕ) (rows : List ℕ) where
-  past-row : (m n : ℕ) → m ≡ suc (suc (suc (suc n))) → getD (kind ∷ owner ∷ first ∷ leaves ∷ rows) m 0 ≡ getD rows n 0
-  past-row m n e = ap (λ (i : ℕ). getD (kind ∷ owner ∷ first ∷ leaves ∷ rows) i 0) e
+past-row : (row rows : List ℕ) → length row ≡ segmentRowSize → (m n : ℕ) → m ≡ segmentRowSize + n → getD (row ++ rows) m 0 ≡ getD rows n 0
+past-row row rows size m n e =
+    ap (λ (i : ℕ). getD (row ++ rows) i 0) (let at : m ≡ length row + n = omega arith in at) ∙ getD-append-add row rows n 0
 
 -- the row of the columns at i
 pub rows-at : (first : ℕ) (ks os : List ℕ) (ls : List (List Leaf)) (i : ℕ) → length os ≡ length ks → length ls ≡ length ks → i < length ks
@@ -38,7 +38,7 @@ rows-at first (k ∷ ks) (o ∷ os) [] i eo el h = absurd (omega arith)
 rows-at first (k ∷ ks) (o ∷ os) (l ∷ ls) zero eo el h = record { kind-is = refl; owner-is = refl; first-is = omega arith; count-is = refl }
 rows-at first (k ∷ ks) (o ∷ os) (l ∷ ls) (suc i) eo el h =
     let w = rows-at (first + length l) ks os ls i (omega arith) (omega arith) (le-of-suc-le-suc h) in
-    let past = past-row k o first (length l) (segmentRowsFrom (first + length l) ks os ls) in
+    let past = past-row (segmentRow k o first (length l)) (segmentRowsFrom (first + length l) ks os ls) refl in
     record {
       kind-is = past (suc i * segmentRowSize) (i * segmentRowSize) (omega arith) ∙ w .kind-is;
       owner-is = past (suc i * segmentRowSize + 1) (i * segmentRowSize + 1) (omega arith) ∙ w .owner-is;

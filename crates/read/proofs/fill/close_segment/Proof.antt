@@ -35,7 +35,9 @@ owner-of-requires : tie.Need-owner-of-requires
 owner-of-requires c κs = search needs
 
 cast-put-segment : tie.Need-cast-put-segment
-cast-put-segment c = search needs
+cast-put-segment c =
+    let pre = start (put (c .before .before .before)) .pre in
+    omega (arith, pre .leaf .next .few, pre .some)
 
 sub-put-segment : tie.Need-sub-put-segment
 sub-put-segment c = omega (arith, start (put (c .before .before .before .before)) .pre)

@@ -83,11 +83,9 @@ put-leaf-requires c κs =
 
 next-leaf-requires : tie.Need-next-leaf-requires Inv-loop μ-loop
 next-leaf-requires c κs =
-    let at-put = c .before .before in
-    let put = sorted at-put in
-    let at-text = copied put in
+    let at-text = copied (sorted (c .before .before)) in
     let stopped = going-text (turn at-text .loop .inv) (at-text .copy-text .ensures) in
-    (omega arith, stopped .asked .counted)
+    record { few = omega arith; counted = stopped .asked .counted }
 
 add-i : tie.Need-add-i Inv-loop μ-loop
 add-i c =

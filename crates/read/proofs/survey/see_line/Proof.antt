@@ -43,12 +43,12 @@ scanned c =
     let a = at-args in
     let part : List ℕ = take (at-text-stop .result - a .from) (drop (a .from) (a .message .now)) in
     record {
-      one = at-pre .0;
-      begun = at-pre .2;
+      one = at-pre .one;
+      begun = at-pre .begun;
       bytes = bytes-known (a .message .now) (at-shared-slice-known .given);
       stopped = at-text-stop .ensures;
-      scanned = at-scan .ensures .0 ∙ ap (λ (class : List ℕ). a .from + run class part) (at-pre .1);
-      marked = at-scan .ensures .1 ∙ ap (λ (class : List ℕ). marks class part) (at-pre .1);
+      scanned = at-scan .ensures .0 ∙ ap (λ (class : List ℕ). a .from + run class part) (at-pre .classes);
+      marked = at-scan .ensures .1 ∙ ap (λ (class : List ℕ). marks class part) (at-pre .classes);
     }
 
 with-text-requires : tie.Need-with-text-requires

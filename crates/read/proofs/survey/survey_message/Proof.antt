@@ -61,7 +61,7 @@ loop-holds c =
     (sound-header m (a .separators) (pre .header)))
 
 see-line-requires : tie.Need-see-line-requires Inv-loop μ-loop
-see-line-requires c κs = let pre = start c .pre in (omega (arith, pre .lawful .header), pre .classes, c .loop .inv .begun)
+see-line-requires c κs = let pre = start c .pre in record { one = omega (arith, pre .lawful .header); classes = pre .classes; begun = c .loop .inv .begun }
 
 enum-known-more : tie.Need-enum-known-more Inv-loop μ-loop
 enum-known-more c = search needs
