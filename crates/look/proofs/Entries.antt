@@ -25,7 +25,7 @@ use Rattle.look.specs.Looking.{
   fits,
   soughtFrom,
   soughtIn,
-  handedOut,
+  soughtPart,
   lookedUp,
   segmentsFit,
   hasKindAndOwner,
@@ -135,8 +135,8 @@ partIn T substitute (At start n) = take n (drop start (T .text))
 partIn T substitute Nothing = substitute
 
 part-by-entries : (t : Lent) (substitute : List ℕ) (s : Sought) → Within (t .card .text) s
-    → handedOut t substitute s ≡ partIn (counted t) substitute s
-unfolding handedOut partIn counted
+    → soughtPart t substitute s ≡ partIn (counted t) substitute s
+unfolding soughtPart partIn counted
 part-by-entries t substitute (At start n) h = sym (part-taken (t .text) start n (t .card .text) h)
 part-by-entries t substitute Nothing h = refl
 

@@ -32,12 +32,12 @@ unfoldable pub soughtIn : Lent → Place → Sought
 soughtIn t p = elim (withinBuffers t) [ true ↦ soughtFrom (t .leafRows) (t .card .text) p 0 (t .card .leaves) | false ↦ Nothing ]
 
 -- "back comes that part of the text area, or the caller's substitute where no such leaf exists"
-unfoldable pub handedOut : Lent → List ℕ → Sought → List ℕ
-handedOut t substitute (At start n) = take n (drop start (t .text))
-handedOut t substitute Nothing = substitute
+unfoldable pub soughtPart : Lent → List ℕ → Sought → List ℕ
+soughtPart t substitute (At start n) = take n (drop start (t .text))
+soughtPart t substitute Nothing = substitute
 
 unfoldable pub lookedUp : Lent → Place → List ℕ → List ℕ
-lookedUp t p substitute = handedOut t substitute (soughtIn t p)
+lookedUp t p substitute = soughtPart t substitute (soughtIn t p)
 
 -- whether so many rows are within the segment rows
 abbrev pub segmentsFit : List ℕ → ℕ → Bool

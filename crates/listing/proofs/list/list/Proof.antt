@@ -13,12 +13,25 @@ use borrow.Author.Needs.{needs}
 use Rattle.listing.proofs.list.list.Statement.{statement}
 use Rattle.listing.proofs.list.list.Tie as tie
 
+abbrev start-of : tie.Else1 → tie.Start
+start-of c = c .before .before .before .before .before .before
+
+-- where the buffer was found to be long enough, and where the message was read
+abbrev roomy-of : tie.After-read → tie.Else1
+roomy-of c = c .before .before .before .before
+
+abbrev read-of : tie.After-put-answer → tie.After-read
+read-of c = c .before .before .before .before .before .before .before .before
+
+abbrev begun-of : tie.Else2 → tie.After-put-answer
+begun-of c = c .before .before .before .before
+
 returns : tie.Need-returns
 unfolding listingSize
 returns c =
-    let at-args = c .before .before .before .before .before .before .args in
-    let at-if1 = c .if1 in
-    (list-short form (reading form level (roomOf (at-args .text .now) (at-args .segments .now) (at-args .leaves .now)) (at-args .message .now)) (at-args .text .now) (at-args .segments .now) (at-args .leaves .now) (at-args .list .now) (at-if1 .taken), omega arith)
+    let a = c .before .before .before .before .before .before .args in
+    let outcome = reading form level (roomOf (a .text .now) (a .segments .now) (a .leaves .now)) (a .message .now) in
+    (list-short form outcome (a .text .now) (a .segments .now) (a .leaves .now) (a .list .now) (c .if1 .taken), omega arith)
 
 read-requires : tie.Need-read-requires
 read-requires c κs = search needs
@@ -41,22 +54,25 @@ same-length-4 c = search needs
 returns-2 : tie.Need-returns-2
 unfolding listingSize
 returns-2 c =
-    let at-args = c .before .before .before .before .before .before .before .before .before .before .before .before .before .before .before .before .before .before .before .before .before .before .args in
-    let at-read = c .before .before .before .before .before .before .before .before .before .before .before .before .read in
-    let at-if1 = c .before .before .before .before .before .before .before .before .before .before .before .before .before .before .before .before .if1 in
-    let at-if2 = c .if2 in
-    let at-put-answer = c .before .before .before .before .put-answer in
-    (list-refused form level (at-args .message .now) (at-args .text .now) (at-args .segments .now) (at-args .leaves .now) (at-args .list .now) (at-read .ensures) (at-if1 .left) (at-if2 .taken) (at-put-answer .ensures), omega (arith, at-put-answer .ensures .few, at-if1 .left))
+    let begun = c .before .before .before .before in
+    let read = read-of begun in
+    let roomy = roomy-of read in
+    let a = start-of roomy .args in (
+      list-refused form level (a .message .now) (a .text .now) (a .segments .now) (a .leaves .now) (a .list .now)
+          (read .read .ensures) (roomy .if1 .left) (c .if2 .taken) (begun .put-answer .ensures),
+      omega (arith, begun .put-answer .ensures .few, roomy .if1 .left),
+    )
 
 put-table-requires : tie.Need-put-table-requires
 unfolding listingSize
 put-table-requires c κs =
-    let at-args = c .before .before .before .before .before .before .before .before .before .before .before .before .before .before .before .before .before .before .before .before .before .before .before .before .before .before .args in
-    let at-read = c .before .before .before .before .before .before .before .before .before .before .before .before .before .before .before .before .read in
-    let at-if1 = c .before .before .before .before .before .before .before .before .before .before .before .before .before .before .before .before .before .before .before .before .if1 in
-    let at-if2 = c .before .before .before .before .if2 in
-    let at-put-answer = c .before .before .before .before .before .before .before .before .put-answer in
-    let ready = list-ready form level (at-args .message .now) (at-args .text .now) (at-args .segments .now) (at-args .leaves .now) (at-args .list .now) (at-read .ensures) (at-if1 .left) form-lawful (at-if2 .left) (at-put-answer .ensures) in (ready .0, omega (arith, ready .1), ready .2)
+    let accepted = c .before .before .before .before in
+    let begun = begun-of accepted in
+    let read = read-of begun in
+    let roomy = roomy-of read in
+    let a = start-of roomy .args in
+    list-ready form level (a .message .now) (a .text .now) (a .segments .now) (a .leaves .now) (a .list .now)
+    (read .read .ensures) (roomy .if1 .left) form-lawful (omega arith) (accepted .if2 .left) (begun .put-answer .ensures)
 
 same-length-5 : tie.Need-same-length-5
 same-length-5 c = search needs
@@ -73,14 +89,20 @@ same-length-8 c = search needs
 returns-3 : tie.Need-returns-3
 unfolding listingSize
 returns-3 c =
-    let at-args = c .before .before .before .before .before .before .before .before .before .before .before .before .before .before .before .before .before .before .before .before .before .before .before .before .before .before .before .before .before .args in
-    let at-read = c .before .before .before .before .before .before .before .before .before .before .before .before .before .before .before .before .before .before .before .read in
-    let at-if1 = c .before .before .before .before .before .before .before .before .before .before .before .before .before .before .before .before .before .before .before .before .before .before .before .if1 in
-    let at-if2 = c .before .before .before .before .before .before .before .if2 in
-    let at-put-answer = c .before .before .before .before .before .before .before .before .before .before .before .put-answer in
-    let at-put-table = c .before .before .put-table in
-    let ready = list-ready form level (at-args .message .now) (at-args .text .now) (at-args .segments .now) (at-args .leaves .now) (at-args .list .now) (at-read .ensures) (at-if1 .left) form-lawful (at-if2 .left) (at-put-answer .ensures) in
-    (list-accepted form level (at-args .message .now) (at-args .text .now) (at-args .segments .now) (at-args .leaves .now) (at-args .list .now) (at-read .ensures) (at-if1 .left) form-lawful (at-if2 .left) (at-put-answer .ensures) (at-put-table .ensures .put), omega (arith, at-put-table .ensures .few, ready .2, put-length (at-put-answer .ensures .put)))
+    let put = c .before .before in
+    let accepted = put .before .before .before .before .before in
+    let begun = begun-of accepted in
+    let read = read-of begun in
+    let roomy = roomy-of read in
+    let a = start-of roomy .args in
+    let ready =
+    list-ready form level (a .message .now) (a .text .now) (a .segments .now) (a .leaves .now) (a .list .now)
+    (read .read .ensures) (roomy .if1 .left) form-lawful (omega arith) (accepted .if2 .left) (begun .put-answer .ensures) in (
+      list-accepted form level (a .message .now) (a .text .now) (a .segments .now) (a .leaves .now) (a .list .now)
+          (read .read .ensures) (roomy .if1 .left) form-lawful (omega arith) (accepted .if2 .left) (begun .put-answer .ensures)
+          (put .put-table .ensures .put),
+      omega (arith, put .put-table .ensures .few, ready .room, put-length (begun .put-answer .ensures .put)),
+    )
 
 pub list-spec : {M : Type 1} → statement M
 list-spec =
