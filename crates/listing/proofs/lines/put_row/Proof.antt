@@ -25,7 +25,7 @@ put-text-requires : tie.Need-put-text-requires
 put-text-requires c κs = search needs
 
 add-put-number : tie.Need-add-put-number
-add-put-number c = search needs
+add-put-number c = omega arith
 
 put-number-requires : tie.Need-put-number-requires
 put-number-requires c κs =

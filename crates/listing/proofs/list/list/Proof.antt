@@ -1,5 +1,6 @@
 -- `listing::list::list` meets its contract: a short buffer, a refused message, an accepted one.
 -- Assumes nothing.
+use mathlib.Core.Path.{_∙_}
 use native.Mathlib.Omega.{arith}
 use Rattle.form.specs.Limits.{form}
 use Rattle.form.proofs.LineCount.{form-lawful}
@@ -23,8 +24,11 @@ roomy-of c = c .before .before .before .before
 abbrev read-of : tie.After-put-answer → tie.After-read
 read-of c = c .before .before .before .before .before .before .before .before
 
-abbrev begun-of : tie.Else2 → tie.After-put-answer
-begun-of c = c .before .before .before .before
+abbrev begun-of : tie.After-struct-known → tie.After-put-answer
+begun-of c = c .before .before .before
+
+abbrev begun-after : tie.After-put-table → tie.After-put-answer
+begun-after c = begun-of (c .before .before .before .before .before .before)
 
 returns : tie.Need-returns
 unfolding listingSize
@@ -40,21 +44,21 @@ put-answer-requires : tie.Need-put-answer-requires
 put-answer-requires c κs = search needs
 
 same-length : tie.Need-same-length
-same-length c = search needs
+same-length c = read-of (begun-of (c .before)) .read .kept .1 .0
 
 same-length-2 : tie.Need-same-length-2
-same-length-2 c = search needs
+same-length-2 c = read-of (begun-of (c .before)) .read .kept .1 .1 .0
 
 same-length-3 : tie.Need-same-length-3
-same-length-3 c = search needs
+same-length-3 c = read-of (begun-of (c .before)) .read .kept .1 .1 .1 .0
 
 same-length-4 : tie.Need-same-length-4
-same-length-4 c = search needs
+same-length-4 c = begun-of (c .before) .put-answer .kept .1 .1 .0
 
 returns-2 : tie.Need-returns-2
 unfolding listingSize
 returns-2 c =
-    let begun = c .before .before .before .before in
+    let begun = begun-of (c .before) in
     let read = read-of begun in
     let roomy = roomy-of read in
     let a = start-of roomy .args in (
@@ -67,7 +71,7 @@ put-table-requires : tie.Need-put-table-requires
 unfolding listingSize
 put-table-requires c κs =
     let accepted = c .before .before .before .before in
-    let begun = begun-of accepted in
+    let begun = begun-of (accepted .before) in
     let read = read-of begun in
     let roomy = roomy-of read in
     let a = start-of roomy .args in
@@ -75,23 +79,23 @@ put-table-requires c κs =
     (read .read .ensures) (roomy .if1 .left) form-lawful (omega arith) (accepted .if2 .left) (begun .put-answer .ensures)
 
 same-length-5 : tie.Need-same-length-5
-same-length-5 c = search needs
+same-length-5 c = read-of (begun-after (c .before .before)) .read .kept .1 .0
 
 same-length-6 : tie.Need-same-length-6
-same-length-6 c = search needs
+same-length-6 c = read-of (begun-after (c .before .before)) .read .kept .1 .1 .0
 
 same-length-7 : tie.Need-same-length-7
-same-length-7 c = search needs
+same-length-7 c = read-of (begun-after (c .before .before)) .read .kept .1 .1 .1 .0
 
 same-length-8 : tie.Need-same-length-8
-same-length-8 c = search needs
+same-length-8 c = c .before .before .put-table .kept .1 .1 .1 .1 .0 ∙ begun-after (c .before .before) .put-answer .kept .1 .1 .0
 
 returns-3 : tie.Need-returns-3
 unfolding listingSize
 returns-3 c =
     let put = c .before .before in
     let accepted = put .before .before .before .before .before in
-    let begun = begun-of accepted in
+    let begun = begun-of (accepted .before) in
     let read = read-of begun in
     let roomy = roomy-of read in
     let a = start-of roomy .args in

@@ -26,7 +26,7 @@ named c =
     ∙ sym (one-named (a .letters .now) (a .number) (c .before .before .if1 .left) (c .before .if2 .left))
 
 mul-before : tie.Need-mul-before
-mul-before c = search needs
+mul-before c = omega arith
 
 returns : tie.Need-returns
 returns c =
@@ -42,10 +42,10 @@ name-end-requires : tie.Need-name-end-requires
 name-end-requires c κs = search needs
 
 sub-put-text : tie.Need-sub-put-text
-sub-put-text c = search needs
+sub-put-text c = omega arith
 
 part-put-text-start : tie.Need-part-put-text-start
-part-put-text-start c = search needs
+part-put-text-start c = omega arith
 
 part-put-text-end : tie.Need-part-put-text-end
 part-put-text-end c =

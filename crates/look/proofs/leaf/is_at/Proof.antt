@@ -7,13 +7,13 @@ use Rattle.look.proofs.leaf.is_at.Statement.{statement}
 use Rattle.look.proofs.leaf.is_at.Tie as tie
 
 mul-at : tie.Need-mul-at
-mul-at c = search needs
+mul-at c = omega arith
 
 mul-if1 : tie.Need-mul-if1
-mul-if1 c = search needs
+mul-if1 c = omega arith
 
 shared-slice-read-if1 : tie.Need-shared-slice-read-if1
-shared-slice-read-if1 c = search needs
+shared-slice-read-if1 c = omega arith
 
 returns : tie.Need-returns
 returns c =
@@ -22,13 +22,13 @@ returns c =
     segment-differs (a .leaves .now) (a .row) (start .pre) (a .place) (c .if1 .taken)
 
 add-if2 : tie.Need-add-if2
-add-if2 c = search needs
+add-if2 c = omega arith
 
 mul-if2 : tie.Need-mul-if2
-mul-if2 c = search needs
+mul-if2 c = omega arith
 
 shared-slice-read-if2 : tie.Need-shared-slice-read-if2
-shared-slice-read-if2 c = search needs
+shared-slice-read-if2 c = omega arith
 
 returns-2 : tie.Need-returns-2
 returns-2 c =
@@ -38,13 +38,13 @@ returns-2 c =
     field-differs (a .leaves .now) (a .row) (start .pre) (a .place) (segment .if1 .left) (c .if2 .taken)
 
 add-if3 : tie.Need-add-if3
-add-if3 c = search needs
+add-if3 c = omega arith
 
 mul-if3 : tie.Need-mul-if3
-mul-if3 c = search needs
+mul-if3 c = omega arith
 
 shared-slice-read-if3 : tie.Need-shared-slice-read-if3
-shared-slice-read-if3 c = search needs
+shared-slice-read-if3 c = omega arith
 
 returns-3 : tie.Need-returns-3
 returns-3 c =
@@ -55,13 +55,13 @@ returns-3 c =
     repetition-differs (a .leaves .now) (a .row) (start .pre) (a .place) (segment .if1 .left) (field .if2 .left) (c .if3 .taken)
 
 add-if4 : tie.Need-add-if4
-add-if4 c = search needs
+add-if4 c = omega arith
 
 mul-if4 : tie.Need-mul-if4
-mul-if4 c = search needs
+mul-if4 c = omega arith
 
 shared-slice-read-if4 : tie.Need-shared-slice-read-if4
-shared-slice-read-if4 c = search needs
+shared-slice-read-if4 c = omega arith
 
 returns-4 : tie.Need-returns-4
 returns-4 c =
@@ -73,13 +73,13 @@ returns-4 c =
     subfield-differs (a .leaves .now) (a .row) (start .pre) (a .place) (segment .if1 .left) (field .if2 .left) (repetition .if3 .left) (c .if4 .taken)
 
 add-result : tie.Need-add-result
-add-result c = search needs
+add-result c = omega arith
 
 mul-result : tie.Need-mul-result
-mul-result c = search needs
+mul-result c = omega arith
 
 shared-slice-read-result : tie.Need-shared-slice-read-result
-shared-slice-read-result c = search needs
+shared-slice-read-result c = omega arith
 
 returns-5 : tie.Need-returns-5
 returns-5 c =

@@ -42,10 +42,10 @@ returns-3 c =
     row-past (a .segments .now) (a .count) (a .row) (fit-here (some .before)) (some .if2 .left) (c .if3 .taken)
 
 mul-result : tie.Need-mul-result
-mul-result c = search needs
+mul-result c = omega arith
 
 mul-result-2 : tie.Need-mul-result-2
-mul-result-2 c = search needs
+mul-result-2 c = omega arith
 
 shared-slice-read-result : tie.Need-shared-slice-read-result
 shared-slice-read-result c =
