@@ -44,7 +44,7 @@ enum-told : tie.Need-enum-told
 enum-told c = search needs
 
 same-length : tie.Need-same-length
-same-length c = search needs
+same-length c = c .before .before .put-numbers .kept .0
 
 returns : tie.Need-returns
 returns c =

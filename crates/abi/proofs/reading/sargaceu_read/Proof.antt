@@ -5,6 +5,9 @@ use borrow.Author.Needs.{needs}
 use Rattle.abi.proofs.reading.sargaceu_read.Statement.{statement}
 use Rattle.abi.proofs.reading.sargaceu_read.Tie as tie
 
+abbrev read-of : tie.After-put-numbers → tie.After-read
+read-of c = c .before .before .before .before .before .before .before .before .before .before .before .before
+
 returns : tie.Need-returns
 returns c =
     let a = c .before .before .before .before .before .before .args in
@@ -26,21 +29,21 @@ put-numbers-requires : tie.Need-put-numbers-requires
 put-numbers-requires c κs = search needs
 
 same-length : tie.Need-same-length
-same-length c = search needs
+same-length c = read-of (c .before .before) .read .kept .1 .0
 
 same-length-2 : tie.Need-same-length-2
-same-length-2 c = search needs
+same-length-2 c = read-of (c .before .before) .read .kept .1 .1 .0
 
 same-length-3 : tie.Need-same-length-3
-same-length-3 c = search needs
+same-length-3 c = read-of (c .before .before) .read .kept .1 .1 .1 .0
 
 same-length-4 : tie.Need-same-length-4
-same-length-4 c = search needs
+same-length-4 c = c .before .before .put-numbers .kept .0
 
 returns-2 : tie.Need-returns-2
 returns-2 c =
     let put = c .before .before in
-    let read = put .before .before .before .before .before .before .before .before .before .before .before .before in
+    let read = read-of put in
     let roomy = read .before .before .before .before in
     let a = roomy .before .before .before .before .before .before .args in
     read-whole (a .message .now) (a .text .now) (a .segments .now) (a .leaves .now) (a .answer .now)
