@@ -13,11 +13,10 @@ use Rattle.laws.specs.Lists.{same}
 use Rattle.laws.proofs.Lists.{different-same}
 use Rattle.laws.proofs.Parts.{left-cons}
 use Rattle.laws.proofs.Tests.{and-passed, and-both, and-fails-first, and-fails-second}
-use Rattle.table.specs.Leaves.{Leaf}
 use Rattle.table.specs.Back.{leafAt, separatorsAt}
 use Rattle.table.specs.RowTests.{leafText, goOn, goOnFrom}
 use Rattle.write.specs.Local.{thirdPlace}
-use Rattle.write.specs.Tests.{leavesFrom, headerLeavesAt}
+use Rattle.write.specs.Tests.{leavesBetween, headerLeavesAt}
 use Rattle.write.proofs.SegmentTests.{row-length, leaves-cons}
 
 -- the third row: field 3 of the header
@@ -29,13 +28,13 @@ module _ (ps rows text : List ℕ) (count : ℕ) (h : 3 ≤ count) where
   third-text = leafText ps (leafAt rows text 2 .text)
 
   abbrev after-third : Bool
-  after-third = goOn ps (leafAt rows text 2 .place) (leavesFrom rows text 3 count)
+  after-third = goOn ps (leafAt rows text 2 .place) (leavesBetween rows text 3 count)
 
-  begun : (third && third-text && after-third) ≡ goOnFrom ps thirdPlace (leavesFrom rows text 2 count)
+  begun : (third && third-text && after-third) ≡ goOnFrom ps thirdPlace (leavesBetween rows text 2 count)
   unfolding goOnFrom leafAt
   begun = ap (goOnFrom ps thirdPlace) (sym (leaves-cons rows text 2 count (omega arith)))
 
-  pub third-elsewhere : third ≡ false → false ≡ goOnFrom ps thirdPlace (leavesFrom rows text 2 count)
+  pub third-elsewhere : third ≡ false → false ≡ goOnFrom ps thirdPlace (leavesBetween rows text 2 count)
   third-elsewhere e = sym (and-fails-first after-third (and-fails-first third-text e)) ∙ begun
 
 -- the header's two rows

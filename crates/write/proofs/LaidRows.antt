@@ -20,14 +20,14 @@ use Rattle.form.specs.Header.{allAllowed, different, splitting}
 use Rattle.form.specs.Header as header
 use Rattle.line.specs.Lines.{space}
 use Rattle.table.specs.Leaves.{Leaf}
-use Rattle.table.specs.Rows.{leafRowSize, textOf}
+use Rattle.table.specs.Rows.{leafRowSize, textOf, segmentIn, fieldIn, startIn, lengthIn, placeIn}
 use Rattle.table.specs.Flat.{ones}
 use Rattle.table.specs.Back.{leafAt, separatorsAt}
 use Rattle.table.specs.RowTests.{endToEnd, nextPlace, leafText, goOn, goOnFrom}
 use Rattle.table.proofs.EndToEnd.{ends-start, ends-later, ends-last}
 use Rattle.table.proofs.RowTests.{next-same, next-raised}
 use Rattle.write.specs.Local.{thirdPlace}
-use Rattle.write.specs.Tests.{Decides, InText, placeOf, PlacesFollow, Laid, SegmentEnd, finer, leavesFrom, headerLeavesAt, soundLeaves}
+use Rattle.write.specs.Tests.{Decides, InText, PlacesFollow, Laid, SegmentEnd, finer, leavesBetween, headerLeavesAt, soundLeaves}
 use Rattle.write.proofs.LeafTests.{Ending, ending-begins, ending-fails, ending-on, ending-done}
 use Rattle.write.proofs.PlaceTests.{five-at, Next, next-numbers}
 use Rattle.write.proofs.SegmentTests.{row-length, leaves-cons, leaves-none}
@@ -35,10 +35,10 @@ use Rattle.write.proofs.SegmentTests.{row-length, leaves-cons, leaves-n
 -- the starts of rows that lie end to end
 module _ (rows : List ℕ) (count finish : ℕ) (h : endToEnd rows finish 0 count 0 ≡ true) where
   abbrev start : ℕ → ℕ
-  start k = getD rows (k * leafRowSize + 5) 0
+  start k = startIn rows k
 
   abbrev size : ℕ → ℕ
-  size k = getD rows (k * leafRowSize + 6) 0
+  size k = lengthIn rows k
 
   at-row : (k n begin : ℕ) → endToEnd rows finish k (suc n) begin ≡ true → endToEnd rows finish k (suc n) (start k) ≡ true
   at-row k n begin e = subst (λ (b : ℕ). endToEnd rows finish k (suc n) b ≡ true) (sym (ends-start rows finish k n begin e)) e
@@ -75,11 +75,11 @@ module _ (rows : List ℕ) (count finish : ℕ) (h : endToEnd rows finish 0 coun
 -- the bytes of texts that lie end to end: from the first one's start up to the last one's end
 module _ (rows text : List ℕ) (count : ℕ) (w : InText rows text count) (h : endToEnd rows (length text) 0 count 0 ≡ true) where
   span : (n first : ℕ) → first + n < count
-      → length (textOf (leavesFrom rows text first (first + n + 1))) + getD rows (first * leafRowSize + 5) 0
-      ≡ getD rows ((first + n) * leafRowSize + 5) 0 + getD rows ((first + n) * leafRowSize + 6) 0
+      → length (textOf (leavesBetween rows text first (first + n + 1))) + startIn rows first
+      ≡ startIn rows (first + n) + lengthIn rows (first + n)
   unfolding textOf
   span zero first l =
-      let one : length (textOf (leavesFrom rows text first (first + 0 + 1))) ≡ getD rows (first * leafRowSize + 6) 0 =
+      let one : length (textOf (leavesBetween rows text first (first + 0 + 1))) ≡ lengthIn rows first =
       ap (λ (ls : List Leaf). length (textOf ls))
       (leaves-cons rows text first (first + 0 + 1) (omega arith)
       ∙ ap (λ (ls : List Leaf). leafAt rows text first ∷ ls) (leaves-none rows text (first + 1) (first + 0 + 1) (omega arith)))
@@ -87,30 +87,30 @@ module _ (rows text : List ℕ) (count : ℕ) (w : InText rows text count) (h : 
       ∙ omega (arith, row-length rows text first (w .fits first (omega arith))) in
       subst
       (λ (k : ℕ).
-      length (textOf (leavesFrom rows text first (first + 0 + 1))) + getD rows (first * leafRowSize + 5) 0
-      ≡ getD rows (k * leafRowSize + 5) 0 + getD rows (k * leafRowSize + 6) 0)
+      length (textOf (leavesBetween rows text first (first + 0 + 1))) + startIn rows first
+      ≡ startIn rows k + lengthIn rows k)
       (let e : first ≡ first + 0 = omega arith in e) (omega (arith, one))
   span (suc n) first l =
-      let more : length (textOf (leavesFrom rows text first (first + suc n + 1)))
-      ≡ getD rows (first * leafRowSize + 6) 0 + length (textOf (leavesFrom rows text (suc first) (suc first + n + 1))) =
+      let more : length (textOf (leavesBetween rows text first (first + suc n + 1)))
+      ≡ lengthIn rows first + length (textOf (leavesBetween rows text (suc first) (suc first + n + 1))) =
       ap (λ (ls : List Leaf). length (textOf ls)) (leaves-cons rows text first (first + suc n + 1) (omega arith))
-      ∙ length-append (leafAt rows text first .text) (textOf (leavesFrom rows text (first + 1) (first + suc n + 1)))
+      ∙ length-append (leafAt rows text first .text) (textOf (leavesBetween rows text (first + 1) (first + suc n + 1)))
       ∙ ap₂ _+_ (row-length rows text first (w .fits first (omega arith)))
-      (ap₂ (λ (a b : ℕ). length (textOf (leavesFrom rows text a b))) (let e : first + 1 ≡ suc first = omega arith in e) (let e : first + suc n + 1 ≡ suc first + n + 1 = omega arith in e)) in
+      (ap₂ (λ (a b : ℕ). length (textOf (leavesBetween rows text a b))) (let e : first + 1 ≡ suc first = omega arith in e) (let e : first + suc n + 1 ≡ suc first + n + 1 = omega arith in e)) in
       subst
       (λ (k : ℕ).
-      length (textOf (leavesFrom rows text first (first + suc n + 1))) + getD rows (first * leafRowSize + 5) 0
-      ≡ getD rows (k * leafRowSize + 5) 0 + getD rows (k * leafRowSize + 6) 0)
+      length (textOf (leavesBetween rows text first (first + suc n + 1))) + startIn rows first
+      ≡ startIn rows k + lengthIn rows k)
       (let e : suc first + n ≡ first + suc n = omega arith in e)
       (omega (arith, more, span n (suc first) (omega arith), ended-next rows count (length text) h first (omega arith)))
 
   pub texts-span : (first end : ℕ) → first < end → end ≤ count
-      → length (textOf (leavesFrom rows text first end)) + getD rows (first * leafRowSize + 5) 0
-      ≡ getD rows ((end - 1) * leafRowSize + 5) 0 + getD rows ((end - 1) * leafRowSize + 6) 0
+      → length (textOf (leavesBetween rows text first end)) + startIn rows first
+      ≡ startIn rows (end - 1) + lengthIn rows (end - 1)
   texts-span first end from to =
-      ap (λ (k : ℕ). length (textOf (leavesFrom rows text first k)) + getD rows (first * leafRowSize + 5) 0) (let e : end ≡ first + (end - 1 - first) + 1 = omega arith in e)
+      ap (λ (k : ℕ). length (textOf (leavesBetween rows text first k)) + startIn rows first) (let e : end ≡ first + (end - 1 - first) + 1 = omega arith in e)
       ∙ span (end - 1 - first) first (omega arith)
-      ∙ ap (λ (k : ℕ). getD rows (k * leafRowSize + 5) 0 + getD rows (k * leafRowSize + 6) 0) (let e : first + (end - 1 - first) ≡ end - 1 = omega arith in e)
+      ∙ ap (λ (k : ℕ). startIn rows k + lengthIn rows k) (let e : first + (end - 1 - first) ≡ end - 1 = omega arith in e)
 
 -- a row in a field other than the one asked for, and the row after the only leaf of a field: its field tells its place
 pub place-other : (rows : List ℕ) (at field : ℕ) → (getD rows (at + 1) 0 ≡ field → ⊥) → same (take 5 (drop at rows)) (1 ∷ field ∷ 1 ∷ 1 ∷ 1 ∷ []) ≡ false
@@ -157,7 +157,7 @@ leaf-text-append ps (b ∷ s) t =
 -- the texts of rows that are laid out, tested as one stretch
 module _ (ps rows text : List ℕ) where
   pub texts-decide : (j n start : ℕ) → endToEnd rows (length text) (suc j) n start ≡ true
-      → ((k : ℕ) → j ≤ k → k < j + n → nextPlace (placeOf rows k) (placeOf rows (suc k)) ≡ true)
+      → ((k : ℕ) → j ≤ k → k < j + n → nextPlace (placeIn rows k) (placeIn rows (suc k)) ≡ true)
       → leafText ps (drop start text) ≡ goOn ps (leafAt rows text j .place) (values (leafAt rows text) (suc j) n)
   unfolding values goOn leafAt leafText
   texts-decide j zero start h next =
@@ -176,13 +176,13 @@ module _ (ps rows text : List ℕ) where
 
   -- and where leaves go on soundly, their places follow each other
   pub goes-next : (j n : ℕ) → goOn ps (leafAt rows text j .place) (values (leafAt rows text) (suc j) n) ≡ true
-      → (k : ℕ) → j ≤ k → k < j + n → nextPlace (placeOf rows k) (placeOf rows (suc k)) ≡ true
+      → (k : ℕ) → j ≤ k → k < j + n → nextPlace (placeIn rows k) (placeIn rows (suc k)) ≡ true
   unfolding values goOn leafAt
   goes-next j zero h k low high = let z : ⊥ = omega arith in absurd z
   goes-next j (suc n) h k low high = go (equal-or-not j k) (λ e d. goes-next (suc j) n e k d (omega arith))
     where
       next : Bool
-      next = nextPlace (placeOf rows j) (placeOf rows (suc j))
+      next = nextPlace (placeIn rows j) (placeIn rows (suc j))
 
       own : Bool
       own = leafText ps (leafAt rows text (suc j) .text)
@@ -190,9 +190,9 @@ module _ (ps rows text : List ℕ) where
       others : Bool
       others = goOn ps (leafAt rows text (suc j) .place) (values (leafAt rows text) (suc (suc j)) n)
 
-      go : (j ≡ k) ⊎ (j ≡ k → ⊥) → (others ≡ true → suc j ≤ k → nextPlace (placeOf rows k) (placeOf rows (suc k)) ≡ true)
-          → nextPlace (placeOf rows k) (placeOf rows (suc k)) ≡ true
-      go (inl e) ih = subst (λ (m : ℕ). nextPlace (placeOf rows m) (placeOf rows (suc m)) ≡ true) e (and-first next own (and-first (next && own) others h))
+      go : (j ≡ k) ⊎ (j ≡ k → ⊥) → (others ≡ true → suc j ≤ k → nextPlace (placeIn rows k) (placeIn rows (suc k)) ≡ true)
+          → nextPlace (placeIn rows k) (placeIn rows (suc k)) ≡ true
+      go (inl e) ih = subst (λ (m : ℕ). nextPlace (placeIn rows m) (placeIn rows (suc m)) ≡ true) e (and-first next own (and-first (next && own) others h))
       go (inr d) ih = ih (and-second (next && own) others h) (omega arith)
 
 -- the header's places
@@ -213,18 +213,18 @@ module _ (rows text : List ℕ) (h : headerLeavesAt rows text ≡ true) where
   unfolding headerLeavesAt
   three = and-first (first-place && first-text && second-place) second-text h
 
-  pub header-first : same (placeOf rows 0) (1 ∷ 1 ∷ 1 ∷ 1 ∷ 1 ∷ []) ≡ true
+  pub header-first : same (placeIn rows 0) (1 ∷ 1 ∷ 1 ∷ 1 ∷ 1 ∷ []) ≡ true
   unfolding leafAt
   header-first = and-first first-place first-text (and-first (first-place && first-text) second-place three)
 
-  pub header-second : same (placeOf rows 1) (1 ∷ 2 ∷ 1 ∷ 1 ∷ 1 ∷ []) ≡ true
+  pub header-second : same (placeIn rows 1) (1 ∷ 2 ∷ 1 ∷ 1 ∷ 1 ∷ []) ≡ true
   unfolding leafAt
   header-second = and-second (first-place && first-text) second-place three
 
 -- the rows after the header's: their texts, as one stretch, decide
 pub third-decides : (ps rows text : List ℕ) (count : ℕ) → 3 ≤ count → length rows ≡ count * leafRowSize → Laid rows count (length text)
     → headerLeavesAt rows text ≡ true → getD rows 15 0 ≡ 3 → {from : ℕ} → from ≡ getD rows 19 0
-    → leafText ps (take (length text - from) (drop from text)) ≡ goOnFrom ps thirdPlace (leavesFrom rows text 2 count)
+    → leafText ps (take (length text - from) (drop from text)) ≡ goOnFrom ps thirdPlace (leavesBetween rows text 2 count)
 unfolding goOn goOnFrom leafAt
 third-decides ps rows text count many sized laid header third {from} e =
     ap (leafText ps) (take-all (length text - from) (drop from text) (omega (arith, length-drop from text)))
@@ -232,7 +232,7 @@ third-decides ps rows text count many sized laid header third {from} e =
     ∙ texts-decide ps rows text 1 (count - 2) (getD rows 19 0) (ended-from rows count (length text) (laid .ended) 2 (omega arith))
     (λ k low high. laid .next k (omega arith))
     ∙ ap (goOn ps (leafAt rows text 1 .place)) (leaves-cons rows text 2 count (omega arith))
-    ∙ ap (λ (b : Bool). b && leafText ps (leafAt rows text 2 .text) && goOn ps (leafAt rows text 2 .place) (leavesFrom rows text 3 count))
+    ∙ ap (λ (b : Bool). b && leafText ps (leafAt rows text 2 .text) && goOn ps (leafAt rows text 2 .place) (leavesBetween rows text 3 count))
     (laid .next 1 (omega arith) ∙ sym (place-next rows 7 14 2 (omega arith) (omega arith) (header-second rows text header) (laid .next 1 (omega arith)) third))
     ∙ sym (ap (goOnFrom ps thirdPlace) (leaves-cons rows text 2 count (omega arith)))
 
@@ -241,15 +241,15 @@ pub sound-first : (field : ℕ) (rows text : List ℕ) (count : ℕ) → soundLe
 unfolding soundLeaves
 sound-first field rows text count h =
     let ruled = allAllowed (header.five (separatorsAt field rows text)) && different (header.five (separatorsAt field rows text)) in
-    let goes = goOnFrom (splitting (separatorsAt field rows text)) thirdPlace (leavesFrom rows text 2 count) in
+    let goes = goOnFrom (splitting (separatorsAt field rows text)) thirdPlace (leavesBetween rows text 2 count) in
     sym (getD-take 5 rows 1 0 (omega arith))
     ∙ ap (λ (p : List ℕ). getD p 1 0)
-    (same-equal (placeOf rows 0) (1 ∷ 1 ∷ 1 ∷ 1 ∷ 1 ∷ [])
+    (same-equal (placeIn rows 0) (1 ∷ 1 ∷ 1 ∷ 1 ∷ 1 ∷ [])
     (header-first rows text (and-first (headerLeavesAt rows text) ruled (and-first (headerLeavesAt rows text && ruled) goes h))))
 
 -- rows that pass the tests of leaves stand each at the next place
 pub sound-next : (field : ℕ) (rows text : List ℕ) (count : ℕ) → 3 ≤ count → soundLeaves field rows text count ≡ true
-    → (k : ℕ) → suc k < count → nextPlace (placeOf rows k) (placeOf rows (suc k)) ≡ true
+    → (k : ℕ) → suc k < count → nextPlace (placeIn rows k) (placeIn rows (suc k)) ≡ true
 unfolding soundLeaves goOnFrom leafAt nextPlace same ones
 sound-next field rows text count many h k l = go k l
   where
@@ -259,41 +259,41 @@ sound-next field rows text count many h k l = go k l
     ruled : Bool
     ruled = allAllowed (header.five (separatorsAt field rows text)) && different (header.five (separatorsAt field rows text))
 
-    goes : goOnFrom ps thirdPlace (leavesFrom rows text 2 count) ≡ true
-    goes = and-second (headerLeavesAt rows text && ruled) (goOnFrom ps thirdPlace (leavesFrom rows text 2 count)) h
+    goes : goOnFrom ps thirdPlace (leavesBetween rows text 2 count) ≡ true
+    goes = and-second (headerLeavesAt rows text && ruled) (goOnFrom ps thirdPlace (leavesBetween rows text 2 count)) h
 
     header : headerLeavesAt rows text ≡ true
-    header = and-first (headerLeavesAt rows text) ruled (and-first (headerLeavesAt rows text && ruled) (goOnFrom ps thirdPlace (leavesFrom rows text 2 count)) h)
+    header = and-first (headerLeavesAt rows text) ruled (and-first (headerLeavesAt rows text && ruled) (goOnFrom ps thirdPlace (leavesBetween rows text 2 count)) h)
 
-    begun : (same (placeOf rows 2) thirdPlace && leafText ps (leafAt rows text 2 .text) && goOn ps (leafAt rows text 2 .place) (leavesFrom rows text 3 count)) ≡ true
+    begun : (same (placeIn rows 2) thirdPlace && leafText ps (leafAt rows text 2 .text) && goOn ps (leafAt rows text 2 .place) (leavesBetween rows text 3 count)) ≡ true
     begun = ap (goOnFrom ps thirdPlace) (sym (leaves-cons rows text 2 count (omega arith))) ∙ goes
 
-    first : placeOf rows 0 ≡ 1 ∷ 1 ∷ 1 ∷ 1 ∷ 1 ∷ []
-    first = same-equal (placeOf rows 0) (1 ∷ 1 ∷ 1 ∷ 1 ∷ 1 ∷ []) (header-first rows text header)
+    first : placeIn rows 0 ≡ 1 ∷ 1 ∷ 1 ∷ 1 ∷ 1 ∷ []
+    first = same-equal (placeIn rows 0) (1 ∷ 1 ∷ 1 ∷ 1 ∷ 1 ∷ []) (header-first rows text header)
 
-    second : placeOf rows 1 ≡ 1 ∷ 2 ∷ 1 ∷ 1 ∷ 1 ∷ []
-    second = same-equal (placeOf rows 1) (1 ∷ 2 ∷ 1 ∷ 1 ∷ 1 ∷ []) (header-second rows text header)
+    second : placeIn rows 1 ≡ 1 ∷ 2 ∷ 1 ∷ 1 ∷ 1 ∷ []
+    second = same-equal (placeIn rows 1) (1 ∷ 2 ∷ 1 ∷ 1 ∷ 1 ∷ []) (header-second rows text header)
 
     own : Bool
     own = leafText ps (leafAt rows text 2 .text)
 
     others : Bool
-    others = goOn ps (leafAt rows text 2 .place) (leavesFrom rows text 3 count)
+    others = goOn ps (leafAt rows text 2 .place) (leavesBetween rows text 3 count)
 
-    third : placeOf rows 2 ≡ thirdPlace
-    third = same-equal (placeOf rows 2) thirdPlace (and-first (same (placeOf rows 2) thirdPlace) own (and-first (same (placeOf rows 2) thirdPlace && own) others begun))
+    third : placeIn rows 2 ≡ thirdPlace
+    third = same-equal (placeIn rows 2) thirdPlace (and-first (same (placeIn rows 2) thirdPlace) own (and-first (same (placeIn rows 2) thirdPlace && own) others begun))
 
-    go : (k : ℕ) → suc k < count → nextPlace (placeOf rows k) (placeOf rows (suc k)) ≡ true
+    go : (k : ℕ) → suc k < count → nextPlace (placeIn rows k) (placeIn rows (suc k)) ≡ true
     go zero l = ap₂ nextPlace first second
     go (suc zero) l = ap₂ nextPlace second third
     go (suc (suc k)) l =
-        goes-next ps rows text 2 (count - 3) (and-second (same (placeOf rows 2) thirdPlace && own) others begun) (suc (suc k)) (omega arith) (omega arith)
+        goes-next ps rows text 2 (count - 3) (and-second (same (placeIn rows 2) thirdPlace && own) others begun) (suc (suc k)) (omega arith) (omega arith)
 
 -- the loop over the rows: those up to i are laid out
 pub record Laying (rows : List ℕ) (finish count i start : ℕ) : Type 0 where
   pub ending : Ending rows finish count i start
   pub some : 1 ≤ i
-  pub next : (k : ℕ) → suc k < i → nextPlace (placeOf rows k) (placeOf rows (suc k)) ≡ true
+  pub next : (k : ℕ) → suc k < i → nextPlace (placeIn rows k) (placeIn rows (suc k)) ≡ true
 
 pub laying-begins : (rows : List ℕ) (finish count : ℕ) → 1 ≤ count → getD rows 5 0 ≡ 0 → {size : ℕ} → size ≡ getD rows 6 0 → size < 65536
     → Laying rows finish count 1 size
@@ -310,27 +310,27 @@ pub laying-never : (rows : List ℕ) (finish count : ℕ) → 1 ≤ count → (g
 laying-never rows finish count many n l = n (ended-first rows count finish (l .ended) many)
 
 module _ {rows : List ℕ} {finish count i start : ℕ} (w : Laying rows finish count i start) where
-  pub laying-elsewhere : i < count → (getD rows (i * leafRowSize + 5) 0 ≡ start → ⊥) → Laid rows count finish → ⊥
+  pub laying-elsewhere : i < count → (startIn rows i ≡ start → ⊥) → Laid rows count finish → ⊥
   laying-elsewhere h n l = never-both (l .ended) (sym (ending-fails (w .ending) h n))
 
   module _ (h : i < count) where
-    here : nextPlace (take 5 (drop (i * leafRowSize - leafRowSize) rows)) (take 5 (drop (i * leafRowSize) rows)) ≡ nextPlace (placeOf rows (i - 1)) (placeOf rows (suc (i - 1)))
+    here : nextPlace (take 5 (drop (i * leafRowSize - leafRowSize) rows)) (placeIn rows i) ≡ nextPlace (placeIn rows (i - 1)) (placeIn rows (suc (i - 1)))
     here =
         ap₂ (λ (a b : ℕ). nextPlace (take 5 (drop a rows)) (take 5 (drop b rows)))
         (let e : i * leafRowSize - leafRowSize ≡ (i - 1) * leafRowSize = omega (arith, w .some) in e)
         (let e : i * leafRowSize ≡ suc (i - 1) * leafRowSize = omega (arith, w .some) in e)
 
-    pub laying-misplaced : nextPlace (take 5 (drop (i * leafRowSize - leafRowSize) rows)) (take 5 (drop (i * leafRowSize) rows)) ≡ false → Laid rows count finish → ⊥
+    pub laying-misplaced : nextPlace (take 5 (drop (i * leafRowSize - leafRowSize) rows)) (placeIn rows i) ≡ false → Laid rows count finish → ⊥
     laying-misplaced e l = never-both (l .next (i - 1) (omega (arith, w .some))) (sym here ∙ e)
 
-    pub laying-on : getD rows (i * leafRowSize + 5) 0 ≡ start → getD rows (i * leafRowSize + 5) 0 < 65536
-        → nextPlace (take 5 (drop (i * leafRowSize - leafRowSize) rows)) (take 5 (drop (i * leafRowSize) rows)) ≡ true
-        → {size : ℕ} → size ≡ getD rows (i * leafRowSize + 6) 0 → size < 65536 → Laying rows finish count (i + 1) (start + size)
+    pub laying-on : startIn rows i ≡ start → startIn rows i < 65536
+        → nextPlace (take 5 (drop (i * leafRowSize - leafRowSize) rows)) (placeIn rows i) ≡ true
+        → {size : ℕ} → size ≡ lengthIn rows i → size < 65536 → Laying rows finish count (i + 1) (start + size)
     laying-on e low n {size} s few =
         record { ending = ending-on (w .ending) h e low s few; some = omega arith; next = λ k l. go k l (equal-or-not k (i - 1)) }
       where
-        go : (k : ℕ) → suc k < i + 1 → (k ≡ i - 1) ⊎ (k ≡ i - 1 → ⊥) → nextPlace (placeOf rows k) (placeOf rows (suc k)) ≡ true
-        go k l (inl q) = subst (λ (m : ℕ). nextPlace (placeOf rows m) (placeOf rows (suc m)) ≡ true) (sym q) (sym here ∙ n)
+        go : (k : ℕ) → suc k < i + 1 → (k ≡ i - 1) ⊎ (k ≡ i - 1 → ⊥) → nextPlace (placeIn rows k) (placeIn rows (suc k)) ≡ true
+        go k l (inl q) = subst (λ (m : ℕ). nextPlace (placeIn rows m) (placeIn rows (suc m)) ≡ true) (sym q) (sym here ∙ n)
         go k l (inr d) = w .next k (omega (arith, w .some))
 
   pub laying-done : count ≤ i → Decides (eqb start finish) (Laid rows count finish)
@@ -342,12 +342,12 @@ module _ {rows : List ℕ} {finish count i start : ℕ} (w : Laying rows finish 
 -- segment numbers never fall along places that follow each other, so the last leaf of a stretch tells whether it is one segment
 module _ (rows : List ℕ) (count : ℕ) (sized : length rows ≡ count * leafRowSize) (next : PlacesFollow rows count) where
   abbrev segment : ℕ → ℕ
-  segment k = getD rows (k * leafRowSize) 0
+  segment k = segmentIn rows k
 
   segment-step : (k : ℕ) → suc k < count → segment k ≤ segment (suc k)
   segment-step k l = go (equal-or-not (segment k) (segment (suc k)))
     where
-      numbers : Next (segment k ∷ finer rows (k * leafRowSize) 1) (segment (suc k) ∷ finer rows (suc k * leafRowSize) 1) (nextPlace (placeOf rows k) (placeOf rows (suc k)))
+      numbers : Next (segment k ∷ finer rows (k * leafRowSize) 1) (segment (suc k) ∷ finer rows (suc k * leafRowSize) 1) (nextPlace (placeIn rows k) (placeIn rows (suc k)))
       numbers = next-numbers rows (k * leafRowSize) (suc k * leafRowSize) (omega arith) (omega arith)
 
       go : (segment k ≡ segment (suc k)) ⊎ (segment k ≡ segment (suc k) → ⊥) → segment k ≤ segment (suc k)
@@ -378,10 +378,10 @@ module _ (rows : List ℕ) (count : ℕ) (sized : length rows ≡ count * leafRo
       (and-second (eqb (suc (segment k)) (segment (suc k))) (same (ones (finer rows (k * leafRowSize) 1)) (finer rows (suc k * leafRowSize) 1))
       (sym (next-raised (segment k) (finer rows (k * leafRowSize) 1) (segment (suc k)) (finer rows (suc k * leafRowSize) 1) d) ∙ numbers .so ∙ next k l))))
 
-  pub segment-head : {first end : ℕ} → SegmentEnd rows count first end → end < count → getD rows (end * leafRowSize + 1) 0 ≡ 1
+  pub segment-head : {first end : ℕ} → SegmentEnd rows count first end → end < count → fieldIn rows end ≡ 1
   segment-head {first} {end} w l =
       let e : suc (end - 1) ≡ end = omega (arith, w .from) in
-      subst (λ (j : ℕ). getD rows (j * leafRowSize + 1) 0 ≡ 1) e
+      subst (λ (j : ℕ). fieldIn rows j ≡ 1) e
       (head-after (end - 1) (omega (arith, w .from))
       (λ q. w .other l
       (sym (ap segment e) ∙ sym q ∙ w .within (end - 1) (omega (arith, w .from)) (omega (arith, w .from)))))

@@ -4,10 +4,10 @@ use mathlib.Core.Bool.{true, false}
 use mathlib.Core.List.{List, [], _∷_, _++_, append-assoc}
 use mathlib.Core.Logic.{_⊎_, inl, inr}
 use mathlib.Core.Path.{_≡_, refl, sym, ap, ap₂, _∙_, subst}
-use Prim.Native.Nat.{ℕ, suc, _+_, _*_, _-_, _≤_, _<_}
+use Prim.Native.Nat.{ℕ, suc, _+_, _-_, _≤_, _<_}
 use native.Mathlib.Omega.{arith}
 use lib.Dec.{eqb}
-use lib.ListN.{length, getD, take, drop}
+use lib.ListN.{length, take, drop}
 use lib.Seq.{sets}
 use borrow.Author.Tests.{eq-eqb, ne-eqb}
 use Rattle.laws.specs.Tables.{values}
@@ -22,10 +22,11 @@ use Rattle.line.specs.Cutting.{unlines}
 use Rattle.table.specs.Leaves.{Leaf}
 use Rattle.table.specs.Back.{leafAt, between, unsplitFrom, unsplit}
 use Rattle.write.specs.declared.lines.Going.{Going}
-use Rattle.write.specs.Filling.{Stand, stand, closed, puts, Fits, InSegment}
+use Rattle.write.specs.Filling.{Stand, stand, segmentClosed, puts, Fits, InSegment}
 use Rattle.write.specs.Passing.{LeafWithin, linesOfRows, leading, Writable, WrittenOut}
 use Rattle.write.proofs.Filling.{going, puts-append, puts-kept, fits-first, fits-next, close-fits, closed-one}
 use Rattle.write.proofs.LinesFilled.{lines-filled}
+use Rattle.table.specs.Rows.{startIn, lengthIn}
 
 -- the separator after the leaf of a row: the one that leads to the next leaf, and CR after the last
 unfoldable pub separatorAfter : Separators → List ℕ → ℕ → ℕ → ℕ
@@ -48,13 +49,13 @@ module _ (ps : Separators) (rows : List ℕ) (count row : ℕ) where
 
 -- the text of a leaf, by the start and the length that its row states
 module _ (rows text : List ℕ) (i : ℕ) where
-  pub leaf-part : {start size : ℕ} → start ≡ getD rows (i * 7 + 5) 0 → size ≡ getD rows (i * 7 + 6) 0
+  pub leaf-part : {start size : ℕ} → start ≡ startIn rows i → size ≡ lengthIn rows i
       → take (start + size - start) (drop start text) ≡ leafAt rows text i .text
   unfolding leafAt
   leaf-part {start} {size} a b =
-      ap₂ (λ (n k : ℕ). take n (drop k text)) (let e : start + size - start ≡ getD rows (i * 7 + 6) 0 = omega arith in e) a
+      ap₂ (λ (n k : ℕ). take n (drop k text)) (let e : start + size - start ≡ lengthIn rows i = omega arith in e) a
 
-  pub leaf-asked : {L : Limits} {f : ℕ} {s : Stand} {start size : ℕ} → start ≡ getD rows (i * 7 + 5) 0 → size ≡ getD rows (i * 7 + 6) 0
+  pub leaf-asked : {L : Limits} {f : ℕ} {s : Stand} {start size : ℕ} → start ≡ startIn rows i → size ≡ lengthIn rows i
       → Lawful L → LeafWithin rows text i → Fits L f s (leafAt rows text i .text)
       → Lawful L × (start ≤ start + size) × (start + size ≤ length text) × InSegment (take (start + size - start) (drop start text))
       × Fits L f s (take (start + size - start) (drop start text))
@@ -131,11 +132,11 @@ module _ (ps : Separators) (rows : List ℕ) (count : ℕ) (text : List ℕ) whe
       pub fits : Fits L (ps .field) s (ahead row)
       pub same : length (s .output) ≡ length (s₀ .output)
       pub gives : puts L (ps .field) s (ahead row) ≡ puts L (ps .field) s₀ (ahead 0)
-      pub here : row < count → from ≡ getD rows (row * 7 + 5) 0
+      pub here : row < count → from ≡ startIn rows row
 
     -- one turn: a leaf, and the separator after it
     module _ {output₀ : List ℕ} (a : Writable L ps rows count text output₀) {s₀ s : Stand} {row from : ℕ} (w : LeavesLeft s₀ s row from) (less : row < count)
-        {size : ℕ} (is : size ≡ getD rows (row * 7 + 6) 0) where
+        {size : ℕ} (is : size ≡ lengthIn rows row) where
       own : List ℕ
       own = leafAt rows text row .text
 
@@ -193,7 +194,7 @@ module _ (ps : Separators) (rows : List ℕ) (count : ℕ) (text : List ℕ) whe
           pub last-fits : (suc (t .going .out) ≤ length (t .output)) × (t .going .lines ≤ t .going .out)
           last-fits = close-fits L f t CR refl (separator-fits (sym (last-separator ps rows count row last)))
 
-          pub last-turn : {u : Stand} → u ≡ closed L t → LeavesLeft s₀ u (row + 1) (from + size)
+          pub last-turn : {u : Stand} → u ≡ segmentClosed L t → LeavesLeft s₀ u (row + 1) (from + size)
           last-turn c = separator-turn (sym (last-separator ps rows count row last)) (closed-one L f t CR refl c)
 
         -- another: a separator leads to the next

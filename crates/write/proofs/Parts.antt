@@ -17,7 +17,7 @@ use Rattle.table.specs.Back.{leafAt, separatorsAt}
 use Rattle.table.specs.BySegment.{bySegment, contextAmong}
 use Rattle.table.specs.RowTests.{goOnFrom}
 use Rattle.write.specs.Local.{thirdPlace}
-use Rattle.write.specs.Tests.{leavesFrom, headerLeavesAt, kindColumn, soundLeaves, inOrder}
+use Rattle.write.specs.Tests.{leavesBetween, headerLeavesAt, kindColumn, soundLeaves, inOrder}
 
 -- the second leaf of a header has four bytes
 pub header-four : (rows text : List ℕ) → headerLeavesAt rows text ≡ true → length (leafAt rows text 1 .text) ≡ 4
@@ -34,7 +34,7 @@ module _ (field : ℕ) (rows text : List ℕ) (count : ℕ) where
   rule s = allAllowed (five s) && different (five s)
 
   abbrev others : Separators → Bool
-  others s = goOnFrom (splitting s) thirdPlace (leavesFrom rows text 2 count)
+  others s = goOnFrom (splitting s) thirdPlace (leavesBetween rows text 2 count)
 
   pub no-header : headerLeavesAt rows text ≡ false → false ≡ soundLeaves field rows text count
   unfolding soundLeaves

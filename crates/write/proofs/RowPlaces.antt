@@ -21,6 +21,7 @@ use Rattle.table.proofs.Places.{between-here, between-later}
 use Rattle.table.proofs.RowTests.{next-same}
 use Rattle.write.specs.Filling.{InSegment}
 use Rattle.write.specs.Passing.{NextAfter}
+use Rattle.table.specs.Rows.{leafRowSize, segmentIn, placeIn}
 
 -- some numbers of a list in a row
 numbers : (rows : List ℕ) (k n : ℕ) → k + n ≤ length rows → take n (drop k rows) ≡ values (λ (j : ℕ). getD rows j 0) k n
@@ -53,43 +54,43 @@ never-next (m ∷ p) = next-same m p m p refl ∙ never-next p
 
 module _ (ps : Separators) (rows : List ℕ) (row : ℕ) where
   abbrev at : ℕ → ℕ
-  at j = getD rows (row * 7 + j) 0
+  at j = getD rows (row * leafRowSize + j) 0
 
   abbrev first : ℕ
-  first = getD rows (row * 7) 0
+  first = segmentIn rows row
 
-  number-at : (k j : ℕ) → k ≡ row * 7 + j → getD rows k 0 ≡ at j
+  number-at : (k j : ℕ) → k ≡ row * leafRowSize + j → getD rows k 0 ≡ at j
   number-at k j e = ap (λ (i : ℕ). getD rows i 0) e
 
-  place-here : (row + 2) * 7 ≤ length rows → take 5 (drop (row * 7) rows) ≡ first ∷ at 1 ∷ at 2 ∷ at 3 ∷ at 4 ∷ []
+  place-here : (row + 2) * leafRowSize ≤ length rows → placeIn rows row ≡ first ∷ at 1 ∷ at 2 ∷ at 3 ∷ at 4 ∷ []
   unfolding values
   place-here h =
-      numbers rows (row * 7) 5 (omega arith)
+      numbers rows (row * leafRowSize) 5 (omega arith)
       ∙ five-same refl
-      (number-at (suc (row * 7)) 1 (omega arith))
-      (number-at (suc (suc (row * 7))) 2 (omega arith))
-      (number-at (suc (suc (suc (row * 7)))) 3 (omega arith))
-      (number-at (suc (suc (suc (suc (row * 7))))) 4 (omega arith))
+      (number-at (suc (row * leafRowSize)) 1 (omega arith))
+      (number-at (suc (suc (row * leafRowSize))) 2 (omega arith))
+      (number-at (suc (suc (suc (row * leafRowSize)))) 3 (omega arith))
+      (number-at (suc (suc (suc (suc (row * leafRowSize))))) 4 (omega arith))
 
-  place-next : (row + 2) * 7 ≤ length rows → take 5 (drop ((row + 1) * 7) rows) ≡ at 7 ∷ at 8 ∷ at 9 ∷ at 10 ∷ at 11 ∷ []
+  place-next : (row + 2) * leafRowSize ≤ length rows → placeIn rows (row + 1) ≡ at 7 ∷ at 8 ∷ at 9 ∷ at 10 ∷ at 11 ∷ []
   unfolding values
   place-next h =
-      ap (λ (k : ℕ). take 5 (drop k rows)) (let e : (row + 1) * 7 ≡ row * 7 + 7 = omega arith in e)
-      ∙ numbers rows (row * 7 + 7) 5 (omega arith)
+      ap (λ (k : ℕ). take 5 (drop k rows)) (let e : (row + 1) * leafRowSize ≡ row * leafRowSize + 7 = omega arith in e)
+      ∙ numbers rows (row * leafRowSize + 7) 5 (omega arith)
       ∙ five-same refl
-      (number-at (suc (row * 7 + 7)) 8 (omega arith))
-      (number-at (suc (suc (row * 7 + 7))) 9 (omega arith))
-      (number-at (suc (suc (suc (row * 7 + 7)))) 10 (omega arith))
-      (number-at (suc (suc (suc (suc (row * 7 + 7))))) 11 (omega arith))
+      (number-at (suc (row * leafRowSize + 7)) 8 (omega arith))
+      (number-at (suc (suc (row * leafRowSize + 7))) 9 (omega arith))
+      (number-at (suc (suc (suc (row * leafRowSize + 7)))) 10 (omega arith))
+      (number-at (suc (suc (suc (suc (row * leafRowSize + 7))))) 11 (omega arith))
 
   -- the separator that leads from one row to the next
   abbrev pub Between : ℕ → Type 0
-  Between b = b ≡ between (CR ∷ splitting ps) (take 5 (drop (row * 7) rows)) (take 5 (drop ((row + 1) * 7) rows))
+  Between b = b ≡ between (CR ∷ splitting ps) (placeIn rows row) (placeIn rows (row + 1))
 
   abbrev four : List ℕ
   four = ps .field ∷ ps .repeater ∷ ps .subfield ∷ ps .subsubfield ∷ []
 
-  module _ (long : (row + 2) * 7 ≤ length rows) where
+  module _ (long : (row + 2) * leafRowSize ≤ length rows) where
     by-numbers : {b : ℕ}
         → between (CR ∷ four) (first ∷ at 1 ∷ at 2 ∷ at 3 ∷ at 4 ∷ []) (at 7 ∷ at 8 ∷ at 9 ∷ at 10 ∷ at 11 ∷ []) ≡ b
         → Between b

@@ -1,25 +1,23 @@
 -- The bytes that are written for a lent table, counted without writing them.
 -- Assumes nothing.
 use mathlib.Core.Bool.{true, false}
-use mathlib.Core.List.{List}
 use mathlib.Core.Path.{_≡_, sym, ap, subst, _∙_}
 use Prim.Native.Nat.{ℕ, _*_, _≤_}
 use native.Mathlib.Omega.{arith}
-use lib.Dec.{ltb}
 use lib.ListN.{length, take}
 use borrow.Author.Tests.{le-ltb}
 use Rattle.laws.specs.Sums.{sumOf}
 use Rattle.laws.specs.Tables.{values}
 use Rattle.form.specs.declared.limits.Limits.{Limits}
 use Rattle.form.specs.Limits.{Lawful}
-use Rattle.table.specs.Rows.{Table, segmentRowSize, leafRowSize}
-use Rattle.table.specs.Back.{leafAt, leavesOf, linesOf, written}
+use Rattle.table.specs.Rows.{segmentRowSize, leafRowSize}
+use Rattle.table.specs.Back.{leafAt, leavesOf}
 use Rattle.table.specs.RowTests.{endToEnd}
 use Rattle.table.specs.BySegment.{bySegment, writtenBytes}
 use Rattle.table.specs.Lent.{Lent, counted}
 use Rattle.write.specs.Local.{groupsOf}
 use Rattle.write.specs.Tests.{InText, groupsStated}
-use Rattle.write.specs.Writing.{isTable, writing}
+use Rattle.write.specs.Writing.{isTable}
 use Rattle.write.specs.Answer.{answer, writtenSize}
 use Rattle.write.proofs.LocalTables.{local-bytes}
 use Rattle.write.proofs.RowByRow.{rows-local}

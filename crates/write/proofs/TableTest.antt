@@ -24,7 +24,7 @@ use Rattle.order.specs.Place.{misplaced}
 use Rattle.order.specs.Owners.{owners}
 use Rattle.order.proofs.Owner.{length-owners}
 use Rattle.table.specs.Leaves.{Leaf}
-use Rattle.table.specs.Rows.{Table, segmentRowSize, leafRowSize, segmentRowsFrom}
+use Rattle.table.specs.Rows.{Table, segmentRowSize, leafRowSize, segmentRowsFrom, kindIn, startIn, lengthIn}
 use Rattle.table.specs.Back.{leafAt, leavesOf}
 use Rattle.table.specs.BySegment.{bySegment, fieldOf, goesOn, numberOfField, kindAmong, contextAmong, writtenBytes}
 use Rattle.table.specs.RowTests.{endToEnd}
@@ -40,18 +40,18 @@ use Rattle.write.proofs.Passing.{Stated, stated-rows, Again, rows-again
 
 -- rows that lie end to end state parts of the text
 pub fits-from : (rows : List ℕ) (finish i n start : ℕ) → endToEnd rows finish i n start ≡ true → (k : ℕ) → k < n
-    → getD rows ((i + k) * leafRowSize + 5) 0 + getD rows ((i + k) * leafRowSize + 6) 0 ≤ finish
+    → startIn rows (i + k) + lengthIn rows (i + k) ≤ finish
 fits-from rows finish i zero start h k l = absurd (not-suc-le-zero l)
 fits-from rows finish i (suc n) start h zero l =
-    subst (λ (j : ℕ). getD rows (j * leafRowSize + 5) 0 + getD rows (j * leafRowSize + 6) 0 ≤ finish) (let e : i ≡ i + 0 = omega arith in e)
+    subst (λ (j : ℕ). startIn rows j + lengthIn rows j ≤ finish) (let e : i ≡ i + 0 = omega arith in e)
     (omega (
       arith,
       ends-start rows finish i n start h,
-      ends-within rows finish (suc i) n (start + getD rows (i * leafRowSize + 6) 0) (ends-later rows finish i n start h),
+      ends-within rows finish (suc i) n (start + lengthIn rows i) (ends-later rows finish i n start h),
     ))
 fits-from rows finish i (suc n) start h (suc k) l =
-    subst (λ (j : ℕ). getD rows (j * leafRowSize + 5) 0 + getD rows (j * leafRowSize + 6) 0 ≤ finish) (let e : suc i + k ≡ i + suc k = omega arith in e)
-    (fits-from rows finish (suc i) n (start + getD rows (i * leafRowSize + 6) 0) (ends-later rows finish i n start h) k (le-of-suc-le-suc l))
+    subst (λ (j : ℕ). startIn rows j + lengthIn rows j ≤ finish) (let e : suc i + k ≡ i + suc k = omega arith in e)
+    (fits-from rows finish (suc i) n (start + lengthIn rows i) (ends-later rows finish i n start h) k (le-of-suc-le-suc l))
 
 pub laid-in-text : (rows text : List ℕ) (count finish : ℕ) → length rows ≡ count * leafRowSize → count ≤ 65535 → length text ≡ finish
     → endToEnd rows finish 0 count 0 ≡ true → InText rows text count
@@ -61,7 +61,7 @@ laid-in-text rows text count finish sized few e h =
       few = few;
       fits =
           λ k l.
-          subst (λ (j : ℕ). getD rows (j * leafRowSize + 5) 0 + getD rows (j * leafRowSize + 6) 0 ≤ length text) (let q : 0 + k ≡ k = omega arith in q)
+          subst (λ (j : ℕ). startIn rows j + lengthIn rows j ≤ length text) (let q : 0 + k ≡ k = omega arith in q)
           (omega (arith, fits-from rows finish 0 count 0 h k l));
     }
 
@@ -198,7 +198,7 @@ grouped-kinds segments many groups sized few h =
           λ i l.
           subst (λ (n : ℕ). n ≤ 12)
           (ap (λ (ks : List ℕ). getD ks i 0) (sym (stated-rows segments 0 many 1 groups (omega arith) h .kinds))
-          ∙ getD-values-zero (λ (k : ℕ). getD segments (k * segmentRowSize) 0) many i 0 l)
+          ∙ getD-values-zero (λ (k : ℕ). kindIn segments k) many i 0 l)
           (kinds-few groups i);
     }
 

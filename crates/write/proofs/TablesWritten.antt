@@ -34,25 +34,25 @@ use Rattle.write.specs.RowByRow.{RowByRow}
 use Rattle.write.specs.Writing.{isTable}
 use Rattle.write.specs.Filling.{InSegment}
 use Rattle.write.specs.Passing.{linesOfRows, FourWithin, NextAfter, Writable, WrittenOut}
-use Rattle.write.specs.Tests.{placeOf}
 use Rattle.write.proofs.LocalTables.{headed-leaves, local-accepted}
 use Rattle.write.proofs.RowByRow.{rows-local}
 use Rattle.write.proofs.LaidRows.{ended-first, ended-next, sound-next}
 use Rattle.write.proofs.Passing.{three-leaves, header-sound}
 use Rattle.write.proofs.LentTables.{within-buffers, counted-sized, is-table-rows}
+use Rattle.table.specs.Rows.{leafRowSize, lengthIn, placeIn, startIn}
 
 -- a counted leaf of the lent rows and text
 module _ (rows text : List ℕ) (count size : ℕ) where
-  row-counted : (i k : ℕ) → i < count → k < 7 → getD (take (count * 7) rows) (i * 7 + k) 0 ≡ getD rows (i * 7 + k) 0
-  row-counted i k less small = getD-take (count * 7) rows (i * 7 + k) 0 (omega arith)
+  row-counted : (i k : ℕ) → i < count → k < 7 → getD (take (count * leafRowSize) rows) (i * leafRowSize + k) 0 ≡ getD rows (i * leafRowSize + k) 0
+  row-counted i k less small = getD-take (count * leafRowSize) rows (i * leafRowSize + k) 0 (omega arith)
 
-  pub leaf-counted : (i : ℕ) → i < count → getD rows (i * 7 + 5) 0 + getD rows (i * 7 + 6) 0 ≤ size
-      → leafAt (take (count * 7) rows) (take size text) i ≡ leafAt rows text i
+  pub leaf-counted : (i : ℕ) → i < count → startIn rows i + lengthIn rows i ≤ size
+      → leafAt (take (count * leafRowSize) rows) (take size text) i ≡ leafAt rows text i
   unfolding leafAt
   leaf-counted i less fits =
-      ap₂ leaf (part-taken rows (i * 7) 5 (count * 7) (omega arith))
+      ap₂ leaf (part-taken rows (i * leafRowSize) 5 (count * leafRowSize) (omega arith))
       (ap₂ (λ (n k : ℕ). take n (drop k (take size text))) (row-counted i 6 less (omega arith)) (row-counted i 5 less (omega arith))
-      ∙ part-taken text (getD rows (i * 7 + 5) 0) (getD rows (i * 7 + 6) 0) size fits)
+      ∙ part-taken text (startIn rows i) (lengthIn rows i) size fits)
 
 -- a part of a text that is all text has no CR in it
 in-segment : {s : List ℕ} (start size : ℕ) → All (λ (b : ℕ). space ≤ b) s → InSegment (take size (drop start s))
@@ -111,14 +111,14 @@ module _ (L : Limits) (lawful : Lawful L) (levels : ℕ → ℕ → ℕ) (l : Le
         length-values (leafAt (counted l .leafRows) (counted l .text)) 0 (l .card .leaves),
       )
 
-  ends : (i : ℕ) → i < l .card .leaves → getD (l .leafRows) (i * 7 + 5) 0 + getD (l .leafRows) (i * 7 + 6) 0 ≤ l .card .text
+  ends : (i : ℕ) → i < l .card .leaves → startIn (l .leafRows) i + lengthIn (l .leafRows) i ≤ l .card .text
   unfolding counted
   ends i less =
       omega (
         arith,
         subst
             (λ (j : ℕ).
-            getD (take (l .card .leaves * 7) (l .leafRows)) (j * 7 + 5) 0 + getD (take (l .card .leaves * 7) (l .leafRows)) (j * 7 + 6) 0
+            startIn (take (l .card .leaves * leafRowSize) (l .leafRows)) j + lengthIn (take (l .card .leaves * leafRowSize) (l .leafRows)) j
             ≤ l .card .text)
             (zero-add i)
             (ends-each (counted l .leafRows) (l .card .text) 0 (l .card .leaves) 0 (rows .laid) i less),
@@ -127,7 +127,7 @@ module _ (L : Limits) (lawful : Lawful L) (levels : ℕ → ℕ → ℕ) (l : Le
       )
 
   next-start : (i : ℕ) → i + 1 < l .card .leaves
-      → getD (l .leafRows) ((i + 1) * 7 + 5) 0 ≡ getD (l .leafRows) (i * 7 + 5) 0 + getD (l .leafRows) (i * 7 + 6) 0
+      → startIn (l .leafRows) (i + 1) ≡ startIn (l .leafRows) i + lengthIn (l .leafRows) i
   unfolding counted
   next-start i less =
       let there = row-counted (l .leafRows) (l .text) (l .card .leaves) (l .card .text) in
@@ -135,8 +135,8 @@ module _ (L : Limits) (lawful : Lawful L) (levels : ℕ → ℕ → ℕ) (l : Le
         arith,
         subst
             (λ (j : ℕ).
-            getD (take (l .card .leaves * 7) (l .leafRows)) (j * 7 + 5) 0
-            ≡ getD (take (l .card .leaves * 7) (l .leafRows)) (i * 7 + 5) 0 + getD (take (l .card .leaves * 7) (l .leafRows)) (i * 7 + 6) 0)
+            startIn (take (l .card .leaves * leafRowSize) (l .leafRows)) j
+            ≡ startIn (take (l .card .leaves * leafRowSize) (l .leafRows)) i + lengthIn (take (l .card .leaves * leafRowSize) (l .leafRows)) i)
             (let e : suc i ≡ i + 1 = omega arith in e)
             (ended-next (counted l .leafRows) (l .card .leaves) (l .card .text) (rows .laid) i (omega arith)),
         there (i + 1) 5 less (omega arith),
@@ -147,9 +147,9 @@ module _ (L : Limits) (lawful : Lawful L) (levels : ℕ → ℕ → ℕ) (l : Le
   next-place : (i : ℕ) → i + 1 < l .card .leaves → NextAfter (l .leafRows) i
   unfolding counted
   next-place i less =
-      ap₂ nextPlace (sym (part-taken (l .leafRows) (i * 7) 5 (l .card .leaves * 7) (omega arith)))
-      (sym (part-taken (l .leafRows) ((i + 1) * 7) 5 (l .card .leaves * 7) (omega arith)))
-      ∙ subst (λ (j : ℕ). nextPlace (placeOf (counted l .leafRows) i) (placeOf (counted l .leafRows) j) ≡ true) (let e : suc i ≡ i + 1 = omega arith in e)
+      ap₂ nextPlace (sym (part-taken (l .leafRows) (i * leafRowSize) 5 (l .card .leaves * leafRowSize) (omega arith)))
+      (sym (part-taken (l .leafRows) ((i + 1) * leafRowSize) 5 (l .card .leaves * leafRowSize) (omega arith)))
+      ∙ subst (λ (j : ℕ). nextPlace (placeIn (counted l .leafRows) i) (placeIn (counted l .leafRows) j) ≡ true) (let e : suc i ≡ i + 1 = omega arith in e)
       (sound-next (l .card .separator) (counted l .leafRows) (counted l .text) (l .card .leaves) (three-leaves (counted l) (rows .others))
       (header-sound (counted l) (rows .header) (rows .others)) i (omega arith))
 
@@ -223,7 +223,7 @@ module _ (L : Limits) (lawful : Lawful L) (levels : ℕ → ℕ → ℕ) (l : Le
                 within = omega (arith, ends i less, within-buffers l .0 within .text);
                 inSegment =
                     subst (λ (m : Leaf). InSegment (m .text)) (leaf-same i less)
-                    (in-segment (getD (counted l .leafRows) (i * 7 + 5) 0) (getD (counted l .leafRows) (i * 7 + 6) 0) (local .bytes));
+                    (in-segment (startIn (counted l .leafRows) i) (lengthIn (counted l .leafRows) i) (local .bytes));
               };
           first = sym (row-counted (l .leafRows) (l .text) (l .card .leaves) (l .card .text) 0 5 (omega (arith, some-leaves)) (omega arith)) ∙ ended-first (counted l .leafRows) (l .card .leaves) (l .card .text) (rows .laid) (omega (arith, some-leaves));
           next = next-start;

@@ -14,7 +14,7 @@ use Rattle.laws.proofs.Parts.{left-cons, part-cons}
 use Rattle.laws.proofs.Stores.{sets-first}
 use Rattle.form.specs.declared.limits.Limits.{Limits}
 use Rattle.line.specs.Lines.{CR}
-use Rattle.write.specs.Filling.{Stand, stand, broken, opened, puts, Fits, InSegment}
+use Rattle.write.specs.Filling.{Stand, stand, broken, lineOpened, puts, Fits, InSegment}
 use Rattle.write.proofs.Filling.{going, same-going, puts-append, puts-opened, puts-room, opened-kept, opened-full, puts-kept, fits-first, fits-next, open-fits, break-fits}
 
 -- copying: what is left to copy from i on gives the whole
@@ -143,7 +143,7 @@ module _ {L : Limits} {f : ℕ} {text : List ℕ} {end : ℕ} {s₀ : Stand} {wh
     pub text-room : s .going .out + count + 3 ≤ length (s₀ .output)
     text-room = omega (arith, text-broken .0, kept)
 
-    opens : opened L f full ≡ broken L f full
+    opens : lineOpened L f full ≡ broken L f full
     unfolding full
     opens = opened-full L f full refl
 
@@ -153,7 +153,7 @@ module _ {L : Limits} {f : ℕ} {text : List ℕ} {end : ℕ} {s₀ : Stand} {wh
     text-turn {t} e =
         let same-puts : puts L f t others ≡ puts L f full others =
         ap (λ (u : Stand). puts L f u others) (e ∙ sym opens)
-        ∙ ap (puts L f (opened L f full)) first
+        ∙ ap (puts L f (lineOpened L f full)) first
         ∙ puts-opened L f some full (getD text (at + count) 0) (part text (at + count + 1) end) no-CR
         ∙ ap (puts L f full) (sym first) in
         let same-size : length (t .output) ≡ length output = ap (λ (u : Stand). length (u .output)) (e ∙ sym opens) ∙ opened-kept L f full .same-length in

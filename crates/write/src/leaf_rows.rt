@@ -13,7 +13,7 @@ ghost use Rattle.form.specs.Header.{splitting};
 ghost use Rattle.table.specs.Back.{leafAt, separatorsAt};
 ghost use Rattle.table.specs.RowTests.{nextPlace, leafText, goOnFrom};
 ghost use Rattle.write.specs.Local.{thirdPlace};
-ghost use Rattle.write.specs.Tests.{Decides, InText, Laid, finer, classTable, headerLeavesAt};
+ghost use Rattle.write.specs.Tests.{Decides, InText, Laid, finer, textClasses, headerLeavesAt};
 
 // Numbers of a leaf row, and where its start and its length stand.
 pub(crate) const SIZE: usize = 7;
@@ -156,7 +156,7 @@ fn stands_at(rows: &[u16], at: usize, field: u16) -> bool
 // Whether the bytes from `from` up to `end` may be a leaf's text under the separators that the classes are of.
 fn leaf_text(class: &[u8; 256], text: &[u8], from: usize, end: usize) -> bool
     requires { ⌜ (from ≤ end) × (end ≤ length (now text)) ⌝ }
-    ensures { λ r. ⌜ ((ps : List ℕ) → now (class .entry) ≡ classTable ps → r ≡ leafText ps (take (end - from) (drop from (now (text .entry))))) ⌝ }
+    ensures { λ r. ⌜ ((ps : List ℕ) → now (class .entry) ≡ textClasses ps → r ≡ leafText ps (take (end - from) (drop from (now (text .entry))))) ⌝ }
 {
     let mut i = from;
     while i < end {

@@ -7,7 +7,7 @@ ghost use lib.ListN.{length, take, drop};
 ghost use lib.Seq.{sets};
 ghost use Rattle.form.specs.Limits.{Lawful};
 ghost use Rattle.line.specs.Lines as lines;
-ghost use Rattle.write.specs.Filling.{stand, placed, closed, broken, opened, puts, Fits, InSegment};
+ghost use Rattle.write.specs.Filling.{stand, placed, segmentClosed, broken, lineOpened, puts, Fits, InSegment};
 
 // CR ends a line.
 pub(crate) const CR: u8 = 13;
@@ -36,7 +36,7 @@ fn place(going: Going, byte: u8, output: &mut [u8]) -> Going
 // The line begun ends, and its segment with it.
 pub(crate) fn close(limits: Limits, going: Going, output: &mut [u8]) -> Going
     requires { ⌜ (going .out < length (now output)) × (going .lines ≤ going .out) ⌝ }
-    ensures { λ r. ⌜ stand (now (output .exit)) r ≡ closed limits (stand (now (output .entry)) going) ⌝ }
+    ensures { λ r. ⌜ stand (now (output .exit)) r ≡ segmentClosed limits (stand (now (output .entry)) going) ⌝ }
 {
     let at = going.out;
     output[at] = CR;
@@ -65,8 +65,8 @@ fn break_line(limits: Limits, field: u8, going: Going, output: &mut [u8]) -> Goi
 
 // A line with room for one more byte of the segment: the line begun, or an addendum where that is full.
 fn open_line(limits: Limits, field: u8, going: Going, output: &mut [u8]) -> Going
-    requires { ⌜ (opened limits field (stand (now output) going) .going .out ≤ length (now output)) × (going .lines ≤ going .out) ⌝ }
-    ensures { λ r. ⌜ stand (now (output .exit)) r ≡ opened limits field (stand (now (output .entry)) going) ⌝ }
+    requires { ⌜ (lineOpened limits field (stand (now output) going) .going .out ≤ length (now output)) × (going .lines ≤ going .out) ⌝ }
+    ensures { λ r. ⌜ stand (now (output .exit)) r ≡ lineOpened limits field (stand (now (output .entry)) going) ⌝ }
 {
     if going.room == 0 {
         return break_line(limits, field, going, output);

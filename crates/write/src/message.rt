@@ -8,7 +8,7 @@ ghost use mathlib.Core.Path.{_≡_};
 ghost use Prim.Native.Nat.{_≤_};
 ghost use lib.ListN.{length};
 ghost use Rattle.form.specs.Limits.{Lawful};
-ghost use Rattle.write.specs.Answer.{answer, outputAfter, message, Tested};
+ghost use Rattle.write.specs.Answer.{answer, outputAfter, messageWritten, Tested};
 
 // Writes the message at the front of the output, which has the bytes that a message may have.
 pub(crate) fn write_message(
@@ -19,8 +19,8 @@ pub(crate) fn write_message(
     output: &mut [u8],
 ) -> Written
     requires { ⌜ Lawful limits × Tested limits card (now leaves) (now text) × (limits .bytes ≤ length (now output)) ⌝ }
-    ensures { λ r. ⌜ (r ≡ answer (message limits card (now (leaves .entry)) (now (text .entry))))
-        × (now (output .exit) ≡ outputAfter (now (output .entry)) (message limits card (now (leaves .entry)) (now (text .entry)))) ⌝ }
+    ensures { λ r. ⌜ (r ≡ answer (messageWritten limits card (now (leaves .entry)) (now (text .entry))))
+        × (now (output .exit) ≡ outputAfter (now (output .entry)) (messageWritten limits card (now (leaves .entry)) (now (text .entry)))) ⌝ }
 {
     let separators = separators_in(card.separator, leaves, text);
     let going = put_leaves(limits, separators, leaves, card.leaves, text, output);

@@ -25,7 +25,7 @@ ghost use Rattle.table.specs.Rows.{textOf};
 ghost use Rattle.table.specs.Back.{leafAt};
 ghost use Rattle.table.specs.RowTests.{endToEnd};
 ghost use Rattle.table.specs.BySegment.{bySegment, kindAmong, contextAmong, writtenBytes};
-ghost use Rattle.write.specs.Tests.{Decides, Small, InText, PlacesFollow, leavesFrom, SegmentEnd, FieldLeaf, rowStates, groupsStated, kindColumn, ownerColumn, KindsStated};
+ghost use Rattle.write.specs.Tests.{Decides, Small, InText, PlacesFollow, leavesBetween, SegmentEnd, FieldLeaf, rowStates, groupsStated, kindColumn, ownerColumn, KindsStated};
 
 // Numbers of a segment row and of a leaf row.
 const SIZE: usize = 4;
@@ -104,7 +104,7 @@ fn field_leaf(rows: &[u16], field: u16, first: usize, end: usize) -> usize
 // The kind of the segment of the leaves from `first` up to `end`, or 0. Its first leaf is of field 1, as each segment's is.
 fn kind_of(rows: &[u16], text: &[u8], count: usize, first: usize, end: usize) -> u8
     requires { ⌜ InText (now rows) (now text) count × (first < end) × (end ≤ count) × (getD (now rows) (first * 7 + 1) 0 ≡ 1) ⌝ }
-    ensures { λ r. ⌜ r ≡ kindAmong (leavesFrom (now (rows .entry)) (now (text .entry)) first end) ⌝ }
+    ensures { λ r. ⌜ r ≡ kindAmong (leavesBetween (now (rows .entry)) (now (text .entry)) first end) ⌝ }
 {
     let leaf = alone(rows, 1, first, end);
     if leaf == end {
@@ -224,7 +224,7 @@ pub(crate) fn owned(table: &[u8; 84], context: u8, segments: &[u16], many: usize
 // The bytes of the texts of the leaves from `first` up to `end`, which lie end to end: from the first one's start up to the last one's end.
 fn text_bytes(rows: &[u16], text: &[u8], count: usize, first: usize, end: usize) -> usize
     requires { ⌜ InText (now rows) (now text) count × (first < end) × (end ≤ count) × (endToEnd (now rows) (length (now text)) 0 count 0 ≡ true) ⌝ }
-    ensures { λ r. ⌜ (r ≡ length (textOf (leavesFrom (now (rows .entry)) (now (text .entry)) first end))) × (r ≤ 4294836225) ⌝ }
+    ensures { λ r. ⌜ (r ≡ length (textOf (leavesBetween (now (rows .entry)) (now (text .entry)) first end))) × (r ≤ 4294836225) ⌝ }
 {
     let last = (end - 1) * LEAF;
     let finish = wide(rows[last + START]) + wide(rows[last + LENGTH]);
@@ -243,7 +243,7 @@ fn segment_bytes(
 ) -> usize
     requires { ⌜ Lawful limits × InText (now rows) (now text) count × (first < end) × (end ≤ count)
         × (endToEnd (now rows) (length (now text)) 0 count 0 ≡ true) ⌝ }
-    ensures { λ r. ⌜ (r ≡ writtenBytes limits (leavesFrom (now (rows .entry)) (now (text .entry)) first end)) × (r ≤ 4294967296 * 4) ⌝ }
+    ensures { λ r. ⌜ (r ≡ writtenBytes limits (leavesBetween (now (rows .entry)) (now (text .entry)) first end)) × (r ≤ 4294967296 * 4) ⌝ }
 {
     let bytes = text_bytes(rows, text, count, first, end) + (end - first - 1);
     bytes + 3 * limits.lines(bytes) - 2

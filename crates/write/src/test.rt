@@ -14,7 +14,7 @@ ghost use Rattle.form.specs.Limits.{form, Lawful};
 ghost use Rattle.order.specs.Levels.{levelIn};
 ghost use Rattle.order.specs.Owners.{level};
 ghost use Rattle.write.specs.Writing.{isTable, readsBack};
-ghost use Rattle.write.specs.Tests.{Small, Counted, InText, Laid, KindsStated, countsWithin, soundLeaves, inOrder};
+ghost use Rattle.write.specs.Tests.{Small, CountedTable, InText, Laid, KindsStated, countsWithin, soundLeaves, inOrder};
 
 // Yes exactly where some message within the form's limits reads to the table that the card counts in the lent buffers, whatever these hold.
 pub fn is_table(card: Card, segments: &[u16], leaves: &[u16], text: &[u8]) -> bool
@@ -84,7 +84,7 @@ fn reads_back(
     leaves: &[u16],
     text: &[u8],
 ) -> bool
-    requires { ⌜ Counted limits (levelIn (now levels)) (record { card = card; segmentRows = now segments; leafRows = now leaves; text = now text }) ⌝ }
+    requires { ⌜ CountedTable limits (levelIn (now levels)) (record { card = card; segmentRows = now segments; leafRows = now leaves; text = now text }) ⌝ }
     ensures { λ r. ⌜ r ≡ readsBack limits (levelIn (now (levels .entry))) (record { card = card; segmentRows = now (segments .entry); leafRows = now (leaves .entry); text = now (text .entry) }) ⌝ }
 {
     let count = card.leaves;

@@ -1,8 +1,7 @@
 -- `write::write` meets its contract: each return is one branch of `writing`.
 -- Assumes nothing.
 use mathlib.Core.Path.{sym, ap, _∙_, subst⁻¹}
-use mathlib.Core.List.{List}
-use Prim.Native.Nat.{ℕ, _≤_}
+use Prim.Native.Nat.{_≤_}
 use lib.ListN.{length}
 use borrow.Author.Needs.{needs}
 use borrow.Author.Tests.{lt-ltb, le-ltb}
@@ -11,7 +10,7 @@ use Rattle.form.specs.Limits.{form, Lawful}
 use Rattle.form.proofs.LineCount.{form-lawful}
 use Rattle.order.specs.Owners.{level}
 use Rattle.table.specs.Lent.{lent}
-use Rattle.write.specs.Answer.{answer, outputAfter, message, Tested}
+use Rattle.write.specs.Answer.{answer, outputAfter, messageWritten, Tested}
 use Rattle.write.proofs.Answers.{writing-message, tested-lent}
 use Rattle.write.proofs.LentTables.{short-refused, no-table-refused}
 use Rattle.write.proofs.write.Statement.{statement}
@@ -56,7 +55,7 @@ returns-2 c =
     let at-limits = c .before .before .before .before .limits in
     let at-write-message = c .before .before .write-message in
     let wrote = writing-message form form-lawful level (lent (at-args .card) (at-args .segments .now) (at-args .leaves .now) (at-args .text .now)) (length (at-args .output .now)) (le-ltb (length (at-args .output .now)) (form .bytes) (at-if1 .left)) (sym (at-is-table .ensures) ∙ at-if2 .taken) in
-    let same = ap (λ (L : Limits). message L (at-args .card) (at-args .leaves .now) (at-args .text .now)) (at-limits .ensures) ∙ sym wrote in
+    let same = ap (λ (L : Limits). messageWritten L (at-args .card) (at-args .leaves .now) (at-args .text .now)) (at-limits .ensures) ∙ sym wrote in
     (at-write-message .ensures .0 ∙ ap answer same, at-write-message .ensures .1 ∙ ap (outputAfter (at-args .output .now)) same)
 
 refusal-requires-2 : tie.Need-refusal-requires-2

@@ -1,7 +1,6 @@
 -- `write::leaf_rows::go_on_from` meets its contract. One law a return.
 -- Assumes nothing.
-use mathlib.Core.Path.{_≡_, _∙_}
-use Prim.Native.Nat.{_≤_}
+use mathlib.Core.Path.{_∙_}
 use Rattle.form.specs.Header.{splitting}
 use Rattle.write.proofs.GoingOn.{third-elsewhere}
 use Rattle.write.proofs.LaidRows.{place-other, third-decides}

@@ -1,7 +1,7 @@
 -- `write::leaf_rows::laid` meets its contract. The loop's invariant: the rows up to here are laid out.
 -- Assumes nothing.
 use mathlib.Core.Bool.{false≢true}
-use mathlib.Core.Path.{_≡_, sym, _∙_}
+use mathlib.Core.Path.{sym, _∙_}
 use Prim.Native.Nat.{_-_}
 use borrow.Author.Tests.{not-true, not-false}
 use Rattle.write.proofs.LaidRows.{Laying, laying-begins, laying-never, laying-elsewhere, laying-misplaced, laying-on, laying-done}

@@ -1,10 +1,9 @@
 -- `write::leaf_rows::next_subfield` meets its contract. Two places whose last two numbers are left.
 -- Assumes nothing.
-use mathlib.Core.Path.{refl, sym, _∙_}
+use mathlib.Core.Path.{sym, _∙_}
 use lib.ListN.{getD}
 use Prim.Native.Nat.{_+_}
 use borrow.Author.Tests.{not-true, not-false}
-use Rattle.laws.specs.Tables.{values}
 use Rattle.table.specs.Flat.{ones}
 use Rattle.write.proofs.PlaceTests.{one-left, next-here, next-goes-on, next-fails, next-rises, next-last}
 use borrow.Author.Needs.{needs}

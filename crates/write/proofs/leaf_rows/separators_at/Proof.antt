@@ -1,9 +1,6 @@
 -- `write::leaf_rows::separators_at` meets its contract. The second leaf has four bytes.
 -- Assumes nothing.
-use mathlib.Core.Path.{sym, ap, _∙_}
-use borrow.Author.Tests.{not-true, not-false}
-use Prim.Native.Nat.{ℕ, _-_}
-use lib.ListN.{getD}
+use Prim.Native.Nat.{_-_}
 use Rattle.write.proofs.GoingOn.{four-bytes, separators-read}
 use native.Mathlib.Omega.{arith}
 use borrow.Author.Needs.{needs}

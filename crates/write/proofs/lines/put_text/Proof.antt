@@ -3,7 +3,6 @@
 use mathlib.Core.Path.{refl}
 use Prim.Native.Nat.{_+_, _-_, _*_}
 use native.Mathlib.Omega.{arith}
-use borrow.Author.Needs.{needs}
 use Rattle.form.proofs.RoundedUp.{some-more}
 use Rattle.write.specs.Filling.{stand}
 use Rattle.write.proofs.TextLeft.{part, TextLeft, text-fits, text-broken, text-room, text-turn, text-less, rest-fits, rest-room, text-done, text-kept}

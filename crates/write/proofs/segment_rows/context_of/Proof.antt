@@ -1,9 +1,7 @@
 -- `write::segment_rows::context_of` meets its contract. The leaf of the first segment's field 7 names the context.
 -- Assumes nothing.
-use mathlib.Core.Path.{_≡_, sym, ap, _∙_}
-use borrow.Author.Tests.{not-true, not-false}
-use Prim.Native.Nat.{ℕ, _+_, _-_}
-use lib.ListN.{getD}
+use mathlib.Core.Path.{ap, _∙_}
+use Prim.Native.Nat.{_-_}
 use Rattle.form.specs.Names.{contextNames, contextOf}
 use Rattle.write.proofs.SegmentTests.{row-part}
 use Rattle.write.proofs.Groups.{field-missing, field-found, context-first}

@@ -3,7 +3,6 @@
 use Prim.Native.Nat.{_-_}
 use Rattle.write.proofs.SegmentTests.{Seeking, seeking-begins, seeking-found, seeking-on, seeking-done}
 use native.Mathlib.Omega.{arith}
-use borrow.Author.Needs.{needs}
 use Rattle.write.proofs.segment_rows.field_leaf.Statement.{statement}
 use Rattle.write.proofs.segment_rows.field_leaf.Tie as tie
 

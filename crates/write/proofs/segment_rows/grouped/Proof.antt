@@ -1,10 +1,9 @@
 -- `write::segment_rows::grouped` meets its contract. The loop's invariant: the rows that are left give the whole, and the next segment begins in
 -- field 1.
 -- Assumes nothing.
-use mathlib.Core.Path.{_≡_, sym, ap, ap₂, _∙_}
+use mathlib.Core.Path.{_≡_, sym, ap₂, _∙_}
 use borrow.Author.Tests.{not-true, not-false}
 use Prim.Native.Nat.{ℕ, _+_, _-_}
-use lib.ListN.{getD}
 use Rattle.write.specs.Tests.{rowStates}
 use Rattle.write.proofs.LaidRows.{segment-head}
 use Rattle.write.proofs.Groups.{Grouping, Headed, grouping-begins, grouping-otherwise, grouping-fails, grouping-on, grouping-done}

@@ -1,11 +1,8 @@
 -- `write::segment_rows::has_leaves` meets its contract. One law a return.
 -- Assumes nothing.
 use mathlib.Core.Bool.{false≢true, true≢false}
-use mathlib.Core.Path.{_≡_, sym, _∙_}
 use Prim.Native.Nat.{_+_, _-_}
-use borrow.Author.Tests.{not-true, not-false, eqb-true, eqb-false}
 use native.Mathlib.Omega.{arith}
-use borrow.Author.Needs.{needs}
 use Rattle.write.proofs.LaidRows.{segment-whole, segment-decides}
 use Rattle.write.proofs.segment_rows.has_leaves.Statement.{statement}
 use Rattle.write.proofs.segment_rows.has_leaves.Tie as tie

@@ -1,9 +1,7 @@
 -- `write::segment_rows::kind_of` meets its contract. The first leaf names the kind.
 -- Assumes nothing.
-use mathlib.Core.Path.{_≡_, sym, ap, _∙_}
-use borrow.Author.Tests.{not-true, not-false}
-use Prim.Native.Nat.{ℕ, _+_, _-_}
-use lib.ListN.{getD}
+use mathlib.Core.Path.{ap, _∙_}
+use Prim.Native.Nat.{_-_}
 use Rattle.form.specs.Names.{kindNames, kindOf}
 use Rattle.table.specs.BySegment.{kindAmong}
 use Rattle.write.proofs.SegmentTests.{row-part}

@@ -1,9 +1,8 @@
 -- `write::segment_rows::ordered` meets its contract. The loop's invariant: the watcher has said yes to the kinds so far.
 -- Assumes nothing.
-use mathlib.Core.Path.{_≡_, sym, ap, _∙_}
+use mathlib.Core.Path.{_∙_}
 use borrow.Author.Tests.{not-true, not-false}
-use Prim.Native.Nat.{ℕ, _+_, _-_}
-use lib.ListN.{getD}
+use Prim.Native.Nat.{_-_}
 use Rattle.order.proofs.Watching.{by-this-table}
 use Rattle.write.proofs.Columns.{Ordering, ordering-begins, ordered-on, ordered-fails, ordered-done}
 use mathlib.Core.Path.{refl}

@@ -1,9 +1,7 @@
 -- `write::segment_rows::owned` meets its contract. The loop's invariant: what is known of the rows so far, and their owners are right.
 -- Assumes nothing.
-use mathlib.Core.Path.{_≡_, sym, ap, _∙_}
-use borrow.Author.Tests.{not-true, not-false}
-use Prim.Native.Nat.{ℕ, _+_, _-_}
-use lib.ListN.{getD}
+use mathlib.Core.Path.{sym}
+use Prim.Native.Nat.{ℕ, _-_}
 use mathlib.Core.Path.{refl, subst}
 use mathlib.Core.List.{List}
 use Rattle.order.specs.Levels.{levelIn}

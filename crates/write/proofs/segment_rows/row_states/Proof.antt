@@ -4,7 +4,6 @@ use mathlib.Core.Path.{sym, ap, _∙_}
 use Prim.Native.Nat.{ℕ}
 use lib.Dec.{eqb}
 use Rattle.write.proofs.SegmentTests.{states-unknown, states-kind, states-first, states-count}
-use native.Mathlib.Omega.{arith}
 use borrow.Author.Needs.{needs}
 use Rattle.write.proofs.segment_rows.row_states.Statement.{statement}
 use Rattle.write.proofs.segment_rows.row_states.Tie as tie

@@ -1,9 +1,6 @@
 -- `write::segment_rows::segment_bytes` meets its contract. The lines of lawful limits are few.
 -- Assumes nothing.
-use mathlib.Core.Path.{_≡_, sym, ap, _∙_}
-use borrow.Author.Tests.{not-true, not-false}
-use Prim.Native.Nat.{ℕ, _+_, _-_}
-use lib.ListN.{getD}
+use Prim.Native.Nat.{_+_, _-_}
 use Rattle.form.proofs.LineCount.{lines-lawful}
 use Rattle.write.proofs.Groups.{few-lines, some-lines, segment-written}
 use native.Mathlib.Omega.{arith}

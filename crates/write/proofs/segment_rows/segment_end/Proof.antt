@@ -3,7 +3,6 @@
 use Prim.Native.Nat.{_-_}
 use Rattle.write.proofs.SegmentTests.{Running, running-begins, running-on, running-stops, running-done}
 use native.Mathlib.Omega.{arith}
-use borrow.Author.Needs.{needs}
 use Rattle.write.proofs.segment_rows.segment_end.Statement.{statement}
 use Rattle.write.proofs.segment_rows.segment_end.Tie as tie
 

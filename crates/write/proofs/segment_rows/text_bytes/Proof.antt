@@ -1,6 +1,5 @@
 -- `write::segment_rows::text_bytes` meets its contract.
 -- Assumes nothing.
-use mathlib.Core.Path.{_≡_}
 use native.Mathlib.Omega.{arith}
 use borrow.Author.Needs.{needs}
 use Rattle.write.proofs.LaidRows.{texts-span}

@@ -2,7 +2,6 @@
 -- Assumes nothing.
 use Rattle.write.proofs.CountTests.{many-segments, many-leaves, many-bytes, segments-past, leaves-past, text-decides}
 use native.Mathlib.Omega.{arith}
-use borrow.Author.Needs.{needs}
 use Rattle.write.proofs.test.counts_within.Statement.{statement}
 use Rattle.write.proofs.test.counts_within.Tie as tie
 

@@ -1,9 +1,7 @@
 -- `write::test::in_order` meets its contract. One law a return.
 -- Assumes nothing.
-use mathlib.Core.Path.{_≡_, sym, _∙_}
-use borrow.Author.Tests.{not-true, not-false}
+use mathlib.Core.Path.{sym, _∙_}
 use Rattle.write.proofs.Parts.{no-context, other-context, order-decides}
-use native.Mathlib.Omega.{arith}
 use borrow.Author.Needs.{needs}
 use Rattle.write.proofs.test.in_order.Statement.{statement}
 use Rattle.write.proofs.test.in_order.Tie as tie

@@ -1,15 +1,12 @@
 -- `write::test::is_table` meets its contract. Document 01's limits are lawful and small, its levels are below 8.
 -- Assumes nothing.
-use mathlib.Core.Path.{_≡_, sym, ap, ap₂, _∙_, subst, subst⁻¹}
+use mathlib.Core.Path.{_∙_, subst⁻¹}
 use Prim.Native.Nat.{ℕ, _<_}
-use Rattle.form.specs.Limits.{form, Lawful}
-use Rattle.form.specs.declared.limits.Limits.{Limits}
+use Rattle.form.specs.Limits.{Lawful}
 use Rattle.form.proofs.LineCount.{form-lawful}
 use Rattle.write.specs.Tests.{Small}
-use Rattle.order.specs.Levels.{levelIn}
 use Rattle.order.proofs.LevelTable.{level-in-this, level-few}
 use Rattle.write.proofs.LentTest.{form-small, form-table}
-use native.Mathlib.Omega.{arith}
 use borrow.Author.Needs.{needs}
 use Rattle.write.proofs.test.is_table.Statement.{statement}
 use Rattle.write.proofs.test.is_table.Tie as tie

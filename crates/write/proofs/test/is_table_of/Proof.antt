@@ -1,6 +1,6 @@
 -- `write::test::is_table_of` meets its contract. The counts, and then the counted entries.
 -- Assumes nothing.
-use mathlib.Core.Path.{_≡_, sym, _∙_}
+use mathlib.Core.Path.{sym, _∙_}
 use borrow.Author.Tests.{not-true, not-false}
 use lib.ListN.{length}
 use Rattle.order.specs.Levels.{levelIn}

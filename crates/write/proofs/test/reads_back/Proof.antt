@@ -14,7 +14,6 @@ use Rattle.write.specs.Tests.{Laid}
 use Rattle.write.proofs.LaidRows.{sound-first}
 use Rattle.write.proofs.TableTest.{passed-laid, laid-in-text, grouped-kinds, refused-so, short-decides}
 use native.Mathlib.Omega.{arith}
-use borrow.Author.Needs.{needs}
 use Rattle.write.proofs.test.reads_back.Statement.{statement}
 use Rattle.write.proofs.test.reads_back.Tie as tie
 

@@ -1,9 +1,8 @@
 -- `write::test::sound_leaves` meets its contract. One law a return.
 -- Assumes nothing.
-use mathlib.Core.Path.{_≡_, sym, _∙_}
+use mathlib.Core.Path.{sym, _∙_}
 use borrow.Author.Tests.{not-true, not-false}
 use Rattle.write.proofs.Parts.{header-four, no-header, no-rule, others-decide}
-use native.Mathlib.Omega.{arith}
 use borrow.Author.Needs.{needs}
 use Rattle.write.proofs.test.sound_leaves.Statement.{statement}
 use Rattle.write.proofs.test.sound_leaves.Tie as tie
