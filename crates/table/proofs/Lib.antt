@@ -25,3 +25,4 @@ pub mod SegmentRows
 pub mod SoundRows
 pub mod SegmentTurns
 pub mod Lent
+pub mod Width

@@ -13,13 +13,13 @@ use Rattle.laws.proofs.Parts.{left-cons}
 use Rattle.laws.proofs.Tables.{length-values, getD-values-zero}
 use Rattle.laws.proofs.Tests.{Tested, passed, failed, tested, and-passed, and-fails-first}
 use Rattle.order.specs.Owners.{owners}
-use Rattle.order.specs.Owning.{Owned}
+use Rattle.order.specs.Owning.{Owned, noRows}
 use Rattle.order.specs.Place.{misplaced}
 use Rattle.order.specs.Watcher.{begun, tellOf}
 use Rattle.order.specs.declared.watcher.Watcher.{Watcher}
 use Rattle.order.specs.declared.watcher.Told.{Told}
 use Rattle.order.proofs.Checking.{Checked, check-begins, check-yes, check-no, check-whole, check-short}
-use Rattle.order.proofs.Owner.{RowsKnown, row-read, length-owners}
+use Rattle.order.proofs.Owner.{RowsKnown, row-read, length-owners, rows-begin}
 use Rattle.table.specs.Rows.{kindIn, ownerIn}
 use Rattle.write.specs.Tests.{kindColumn, ownerColumn}
 
@@ -78,8 +78,9 @@ pub record Owning (lv : ℕ → ℕ) (rows : List ℕ) (n i : ℕ) (near : List 
   pub known : RowsKnown lv (kindColumn rows n) i near
   pub so : same (drop i (ownerColumn rows n)) (drop i (owners lv (kindColumn rows n))) ≡ same (ownerColumn rows n) (owners lv (kindColumn rows n))
 
-pub owning-begins : {lv : ℕ → ℕ} {rows : List ℕ} {n : ℕ} {near : List ℕ} → RowsKnown lv (kindColumn rows n) 0 near → Owning lv rows n 0 near
-owning-begins w = record { within = omega arith; known = w; so = refl }
+pub owning-begins : (lv : ℕ → ℕ) (rows : List ℕ) (n : ℕ) {near : List ℕ} → near ≡ noRows → Owning lv rows n 0 near
+owning-begins lv rows n e =
+    record { within = omega arith; known = subst (RowsKnown lv (kindColumn rows n) 0) (sym e) (rows-begin lv (kindColumn rows n)); so = refl }
 
 module _ {lv : ℕ → ℕ} {rows : List ℕ} {n i : ℕ} {near : List ℕ} (w : Owning lv rows n i near) (few : (j : ℕ) → lv j < 8) (h : i < n)
     {after : List ℕ} {row k l o : ℕ} (e : row ≡ i + 1) (f : k ≡ kindIn rows i) (g : l ≡ lv k) (v : Owned near after row k l o) where

@@ -16,6 +16,8 @@ use Rattle.form.specs.declared.limits.Limits.{Limits}
 use Rattle.line.specs.Lines.{CR}
 use Rattle.line.specs.Joining.{letterA}
 use Rattle.write.specs.declared.lines.Going.{Going}
+use Rattle.form.proofs.RoundedUp.{some-more}
+use Rattle.write.specs.Asked.{Opens, RoomForByte, RoomForEnd, ByteInside}
 use Rattle.write.specs.Filling.{Stand, stand, placed, segmentClosed, broken, lineOpened, putByte, puts, Fits, InSegment}
 
 -- how far an output is written, from its three numbers
@@ -167,52 +169,59 @@ module _ (L : Limits) (f : ℕ) where
       ∙ ap₂ stand (sym (sets-first (t .output) (t .going .out) a s)) (same-going (omega arith) (omega arith) refl)
 
   -- what the steps of one byte ask, where it fits
-  pub break-fits : (s : Stand) (n : ℕ) → s .going .room ≡ 0 → lineOpened L f s .going .out ≤ n → s .going .out + 3 ≤ n
+  pub break-fits : (s : Stand) → s .going .room ≡ 0 → Opens L f s → RoomForEnd (s .going) (s .output) 3
   unfolding broken
-  break-fits s n h w = omega (arith, ap (λ (t : Stand). t .going .out) (opened-full s (eq-eqb (s .going .room) 0 h)))
+  break-fits s h w =
+      record { within = omega (arith, w .holds, ap (λ (t : Stand). t .going .out) (opened-full s (eq-eqb (s .going .room) 0 h))); lines = w .lines }
 
   module _ (s : Stand) (b : ℕ) where
-    pub close-fits : b ≡ CR → Fits L f s (b ∷ []) → (suc (s .going .out) ≤ length (s .output)) × (s .going .lines ≤ s .going .out)
-    unfolding segmentClosed
-    close-fits h w = (
-      omega (arith, ap (λ (t : Stand). t .going .out) (puts-one s b ∙ put-close s b (eq-eqb b CR h)), w .holds),
-      w .lines,
-    )
-
     put-wide : (b ≡ CR → ⊥) → putByte L f s b .going .out ≡ suc (lineOpened L f s .going .out)
     unfolding placed
     put-wide h = omega (arith, ap (λ (t : Stand). t .going .out) (put-open s b (ne-eqb b CR h)))
 
-    pub open-fits : {x : List ℕ} → (b ≡ CR → ⊥) → Fits L f s (b ∷ x)
-        → (lineOpened L f s .going .out ≤ length (s .output)) × (s .going .lines ≤ s .going .out)
-    open-fits {x} h w = (
-      omega (
-        arith,
-        put-wide h,
-        puts-kept (putByte L f s b) x .onward,
-        ap (λ (t : Stand). t .going .out) (puts-more s b x),
-        w .holds,
-      ),
-      w .lines,
-    )
+    pub open-fits : {x : List ℕ} → (b ≡ CR → ⊥) → Fits L f s (b ∷ x) → Opens L f s
+    open-fits {x} h w =
+        record {
+          holds =
+              omega (
+                arith,
+                put-wide h,
+                puts-kept (putByte L f s b) x .onward,
+                ap (λ (t : Stand). t .going .out) (puts-more s b x),
+                w .holds,
+              );
+          lines = w .lines;
+        }
 
-    pub place-fits : {t : Stand} → 1 ≤ L .more → (b ≡ CR → ⊥) → Fits L f s (b ∷ []) → t ≡ lineOpened L f s
-        → (suc (t .going .out) ≤ length (t .output)) × (1 ≤ t .going .room)
-    place-fits {t} some h w e =
-        subst (λ (u : Stand). (suc (u .going .out) ≤ length (u .output)) × (1 ≤ u .going .room)) (sym e) (
-          omega (
-            arith,
-            put-wide h,
-            ap (λ (u : Stand). u .going .out) (puts-one s b),
-            opened-kept s .same-length,
-            w .holds,
-          ),
-          opened-some some s,
-        )
+    pub close-fits : b ≡ CR → Fits L f s (b ∷ []) → RoomForEnd (s .going) (s .output) 1
+    unfolding segmentClosed
+    close-fits h w =
+        record { within = omega (arith, ap (λ (t : Stand). t .going .out) (puts-one s b ∙ put-close s b (eq-eqb b CR h)), w .holds); lines = w .lines }
 
     -- and what they give
     pub closed-one : {t : Stand} → b ≡ CR → t ≡ segmentClosed L s → t ≡ puts L f s (b ∷ [])
     closed-one h e = e ∙ sym (puts-one s b ∙ put-close s b (eq-eqb b CR h))
 
-    pub placed-one : {t u : Stand} → (b ≡ CR → ⊥) → t ≡ lineOpened L f s → u ≡ placed t b → u ≡ puts L f s (b ∷ [])
-    placed-one h e d = d ∙ ap (λ (t : Stand). placed t b) e ∙ sym (puts-one s b ∙ put-open s b (ne-eqb b CR h))
+-- a byte inside a segment
+module _ {L : Limits} {f : ℕ} {s : Stand} {b : ℕ} (w : ByteInside L f s b) where
+  pub inside-opens : Opens L f s
+  inside-opens = open-fits L f s b (w .inside) (w .fits)
+
+  module _ {t : Stand} (e : t ≡ lineOpened L f s) where
+    pub place-fits : RoomForByte (t .going) (t .output)
+    place-fits =
+        subst (λ (u : Stand). RoomForByte (u .going) (u .output)) (sym e)
+        (record {
+          within =
+              omega (
+                arith,
+                put-wide L f s b (w .inside),
+                ap (λ (u : Stand). u .going .out) (puts-one L f s b),
+                opened-kept L f s .same-length,
+                w .fits .holds,
+              );
+          room = opened-some L f (some-more L (w .lawful)) s;
+        })
+
+    pub placed-one : {u : Stand} → u ≡ placed t b → u ≡ puts L f s (b ∷ [])
+    placed-one d = d ∙ ap (λ (t : Stand). placed t b) e ∙ sym (puts-one L f s b ∙ put-open L f s b (ne-eqb b CR (w .inside)))

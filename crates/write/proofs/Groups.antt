@@ -4,31 +4,27 @@ use mathlib.Core.Bool.{Bool, true, false, not, _&&_, cond}
 use mathlib.Core.List.{List, [], _∷_, _++_}
 use mathlib.Core.Logic.{_⊎_, inl, inr}
 use mathlib.Core.Path.{_≡_, refl, sym, ap, ap₂, _∙_, subst}
-use Prim.Native.Nat.{ℕ, zero, suc, _+_, _-_, _*_, _≤_, _<_}
-use native.Mathlib.Nat.{div-le-self}
+use Prim.Native.Nat.{ℕ, zero, suc, _+_, _-_, _≤_, _<_}
 use native.Mathlib.Omega.{arith}
 use native.Mathlib.Numerals.{add-one}
 use lib.Dec.{eqb}
 use lib.ListN.{length, getD}
 use borrow.Author.Tests.{eqb-true, eq-eqb, ne-eqb, lt-ltb, le-ltb}
 use Rattle.laws.specs.Every.{All}
-use Rattle.laws.specs.Sums.{sumOf}
 use Rattle.laws.specs.Tables.{values}
 use Rattle.laws.proofs.Cases.{less-or-not}
 use Rattle.laws.proofs.Every.{all-of}
 use Rattle.laws.proofs.Tables.{length-values, getD-values}
 use Rattle.laws.proofs.Tests.{Tested, passed, failed, tested, never-both, and-first, and-second, and-passed, and-fails-first, and-fails-second}
-use Rattle.form.specs.declared.limits.Limits.{Limits}
-use Rattle.form.specs.Limits.{Lawful, lineCount, linesUnder, roundedUp}
-use Rattle.form.proofs.LineCount.{one-line, more-lines, lines-lawful}
 use Rattle.form.specs.Names.{numberAmong, contextNames}
 use Rattle.table.specs.Leaves.{Leaf}
-use Rattle.table.specs.Rows.{textOf, kindIn, firstIn, countIn, segmentIn, fieldIn}
+use Rattle.table.specs.Rows.{kindIn, firstIn, countIn, segmentIn, fieldIn}
 use Rattle.table.specs.Flat.{leaf}
 use Rattle.table.specs.Back.{leafAt}
-use Rattle.table.specs.BySegment.{segmentOf, withLeaf, bySegment, kindAmong, numberOfField, contextAmong, segmentBytes, writtenBytes}
+use Rattle.table.specs.BySegment.{segmentOf, withLeaf, bySegment, kindAmong, numberOfField, contextAmong}
 use Rattle.table.proofs.BySegment.{InSegment, Ended, group-first}
 use Rattle.write.specs.Tests.{leavesBetween, SegmentEnd, FieldLeaf, rowStates, groupsStated}
+use Rattle.write.proofs.Said.{answered-no, answered-yes}
 use Rattle.write.proofs.SegmentTests.{row-segment, leaves-cons, leaves-none, SomeEnd, segment-ends}
 
 -- all the leaves
@@ -93,7 +89,7 @@ context-first rows text {count} w =
     ap (λ (gs : List (List Leaf)). numberOfField contextNames 7 (getD gs 0 [])) (sym (first-segment rows text w) ∙ ap bySegment (leaves-all rows text count))
 
 -- the leaf at which a segment begins is of field 1
-pub record Headed (rows : List ℕ) (count first : ℕ) : Type 0 where
+pub record FieldOne (rows : List ℕ) (count first : ℕ) : Type 0 where
   pub head : first < count → fieldIn rows first ≡ 1
 
 -- segment rows: the first i state the segments of the leaves up to `first`
@@ -160,6 +156,19 @@ module _ {segments : List ℕ} {many : ℕ} {rows text : List ℕ} {count i firs
     pub grouping-on : stated ≡ true → Grouping segments many rows text count (i + 1) end
     grouping-on e = record { within = omega arith; to = v .to; so = sym (and-passed others e) ∙ grouping-turn }
 
+  -- as the code tests it
+  module _ (h : i < many) (leaves : ℕ) (v : SegmentEnd rows count first (first + leaves)) {kind : ℕ} {r : Bool}
+      (is : kind ≡ kindAmong (leavesBetween rows text first (first + leaves))) (said : r ≡ rowStates segments i kind (first + 1) leaves) where
+    said-so : r ≡ stated h v
+    said-so =
+        said ∙ ap₂ (λ (k n : ℕ). rowStates segments i k (first + 1) n) is (let e : leaves ≡ first + leaves - first = omega arith in e)
+
+    pub stated-wrong : not r ≡ true → false ≡ Whole
+    stated-wrong e = grouping-fails h v (answered-no said-so e)
+
+    pub stated-right : not r ≡ false → Grouping segments many rows text count (i + 1) (first + leaves)
+    stated-right e = grouping-on h v (answered-yes said-so e)
+
   grouping-over : (first < count) ⊎ (count ≤ first) → eqb first count ≡ groupsStated segments i 0 (first + 1) (bySegment (leavesBetween rows text first count))
   unfolding groupsStated bySegment
   grouping-over (inl h) =
@@ -175,36 +184,6 @@ module _ {segments : List ℕ} {many : ℕ} {rows text : List ℕ} {count i firs
       grouping-over (less-or-not first count)
       ∙ ap (λ (n : ℕ). groupsStated segments i n (first + 1) (bySegment (leavesBetween rows text first count))) (let q : 0 ≡ many - i = omega arith in q)
       ∙ w .so
-
--- written bytes: those of the segments of the leaves up to `first` have been counted; a segment has less than 2^34 of them
-pub record Counting (L : Limits) (rows text : List ℕ) (count first total : ℕ) : Type 0 where
-  pub to : first ≤ count
-  pub few : total ≤ first * 17179869184
-  pub so : total + sumOf (writtenBytes L) (bySegment (leavesBetween rows text first count))
-      ≡ sumOf (writtenBytes L) (bySegment (values (leafAt rows text) 0 count))
-
-pub counting-begins : {L : Limits} {rows text : List ℕ} {count : ℕ} → Counting L rows text count 0 0
-counting-begins {L} {rows} {text} {count} =
-    record {
-      to = omega arith;
-      few = omega arith;
-      so = omega (arith, ap (λ (ls : List Leaf). sumOf (writtenBytes L) (bySegment ls)) (leaves-all rows text count));
-    }
-
-module _ {L : Limits} {rows text : List ℕ} {count first total : ℕ} (w : Counting L rows text count first total) where
-  pub counting-on : {end : ℕ} → SegmentEnd rows count first end → {bytes : ℕ} → bytes ≡ writtenBytes L (leavesBetween rows text first end)
-      → bytes ≤ 17179869184 → Counting L rows text count end (total + bytes)
-  unfolding sumOf
-  counting-on v e h =
-      record {
-        to = v .to;
-        few = omega (arith, w .few, v .from);
-        so = omega (arith, e, w .so, ap (sumOf (writtenBytes L)) (first-segment rows text v));
-      }
-
-  pub counting-done : count ≤ first → total ≡ sumOf (writtenBytes L) (bySegment (values (leafAt rows text) 0 count))
-  unfolding sumOf bySegment
-  counting-done h = omega (arith, w .so, ap (λ (ls : List Leaf). sumOf (writtenBytes L) (bySegment ls)) (leaves-none rows text first count h))
 
 -- a row that states another count than its segment has
 pub grouping-otherwise : {segments : List ℕ} {many : ℕ} {rows text : List ℕ} {count i first : ℕ} → Grouping segments many rows text count i first → i < many
@@ -261,29 +240,3 @@ grouping-ends {segments} {many} {rows} {text} {count} {i} {first} w h all {state
 pub grouping-all : {segments : List ℕ} {many : ℕ} {rows text : List ℕ} {count i first : ℕ} → Grouping segments many rows text count i first → many ≤ i
     → groupsStated segments 0 many 1 (bySegment (values (leafAt rows text) 0 count)) ≡ true → first ≡ count
 grouping-all {count = count} {first = first} w h all = eqb-true first count (grouping-done w h ∙ all)
-
--- the bytes of one segment, within what a count holds
-pub few-lines : (L : Limits) → Lawful L → (n : ℕ) → lineCount L n ≤ n + 1
-unfolding roundedUp
-few-lines L lawful n = go (less-or-not (L .line) n)
-  where
-    go : (L .line < n) ⊎ (n ≤ L .line) → lineCount L n ≤ n + 1
-    go (inl h) = omega (arith, more-lines L n h, div-le-self (n - L .line + (L .more - 1)) (L .more), lawful .addendum)
-    go (inr h) = omega (arith, one-line L n h)
-
-pub segment-written : (L : Limits) → Lawful L → (rows text : List ℕ) (first end : ℕ) → first < end → {bytes lines : ℕ}
-    → bytes ≡ length (textOf (leavesBetween rows text first end)) → lines ≡ linesUnder L (bytes + (end - first - 1))
-    → bytes + (end - first - 1) + 3 * lines - 2 ≡ writtenBytes L (leavesBetween rows text first end)
-unfolding writtenBytes segmentBytes
-segment-written L lawful rows text first end h {bytes} {lines} e f =
-    ap₂ (λ (n k : ℕ). n + 3 * k - 2) size (f ∙ lines-lawful L (bytes + (end - first - 1)) (lawful .addendum) (lawful .header) ∙ ap (lineCount L) size)
-  where
-    size : bytes + (end - first - 1) ≡ length (textOf (leavesBetween rows text first end)) + (length (leavesBetween rows text first end) - 1)
-    size = omega (arith, e, length-values (leafAt rows text) first (end - first))
-
-pub some-lines : (L : Limits) (n : ℕ) → 1 ≤ lineCount L n
-some-lines L n = go (less-or-not (L .line) n)
-  where
-    go : (L .line < n) ⊎ (n ≤ L .line) → 1 ≤ lineCount L n
-    go (inl h) = omega (arith, more-lines L n h)
-    go (inr h) = omega (arith, one-line L n h)

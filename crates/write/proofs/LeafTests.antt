@@ -3,7 +3,7 @@
 use mathlib.Core.Bool.{true, false, _&&_}
 use mathlib.Core.List.{List}
 use mathlib.Core.Path.{_≡_, refl, sym, ap, _∙_}
-use Prim.Native.Nat.{ℕ, suc, _+_, _-_, _≤_, _<_}
+use Prim.Native.Nat.{ℕ, suc, _+_, _-_, _≤_, _<_, _*_}
 use native.Mathlib.Omega.{arith}
 use native.Mathlib.Numerals.{add-one}
 use lib.Dec.{eqb}
@@ -11,14 +11,14 @@ use lib.ListN.{length, take, drop, getD}
 use borrow.Author.Tests.{eq-eqb, ne-eqb}
 use Rattle.laws.proofs.Parts.{part-cons, part-none}
 use Rattle.laws.proofs.Tests.{and-passed, and-fails-first}
-use Rattle.table.specs.Rows.{startIn, lengthIn}
+use Rattle.table.specs.Rows.{startIn, lengthIn, width}
 use Rattle.table.specs.RowTests.{endToEnd, leafText}
 use Rattle.write.specs.Tests.{leafByte}
 
 -- texts end to end: i rows have been passed, and the next one is to begin at `start`
 pub record Ending (rows : List ℕ) (finish count i start : ℕ) : Type 0 where
   pub within : i ≤ count
-  pub small : start < 131072
+  pub small : start < 2 * width
   pub so : endToEnd rows finish i (count - i) start ≡ endToEnd rows finish 0 count 0
 
 pub ending-begins : (rows : List ℕ) (finish count : ℕ) → Ending rows finish count 0 0
@@ -41,8 +41,8 @@ module _ {rows : List ℕ} {finish count i start : ℕ} (w : Ending rows finish 
       sym (and-fails-first (endToEnd rows finish (i + 1) (count - (i + 1)) (start + lengthIn rows i)) (ne-eqb (startIn rows i) start n))
       ∙ ending-turn h
 
-  pub ending-on : i < count → startIn rows i ≡ start → startIn rows i < 65536
-      → {size : ℕ} → size ≡ lengthIn rows i → size < 65536 → Ending rows finish count (i + 1) (start + size)
+  pub ending-on : i < count → startIn rows i ≡ start → startIn rows i < width
+      → {size : ℕ} → size ≡ lengthIn rows i → size < width → Ending rows finish count (i + 1) (start + size)
   ending-on h e low {size} s few =
       record {
         within = omega arith;

@@ -1,22 +1,20 @@
 -- The tests that the code makes are passed exactly where the table is sound row by row.
 -- Assumes nothing.
-use mathlib.Core.Bool.{Bool, true, not, _&&_}
+use mathlib.Core.Bool.{true, not, _&&_}
 use mathlib.Core.List.{List, [], _∷_, map}
 use mathlib.Core.Logic.{_⊎_, inl, inr}
-use mathlib.Core.Path.{_≡_, refl, sym, ap, ap₂, _∙_, subst}
+use mathlib.Core.Path.{_≡_, refl, sym, ap, ap₂, _∙_}
 use Prim.Native.Nat.{ℕ, zero, suc, _+_, _-_, _*_, _≤_, _<_}
 use native.Mathlib.Omega.{arith}
 use lib.Dec.{eqb}
 use lib.ListN.{length, drop, drop-of-length-le}
 use borrow.Author.Tests.{eqb-true, eqb-false, eq-eqb, ne-eqb, not-true}
 use Rattle.laws.specs.Every.{All, none, also}
-use Rattle.laws.specs.Lists.{same}
 use Rattle.laws.specs.Tables.{values}
 use Rattle.laws.proofs.Cases.{less-or-not}
-use Rattle.laws.proofs.Lists.{same-equal, same-self}
 use Rattle.laws.proofs.Tests.{never-both, and-first, and-second, and-both}
 use Rattle.form.specs.declared.separators.Separators.{Separators}
-use Rattle.form.specs.Header.{allAllowed, different, five, splitting}
+use Rattle.form.specs.Header.{splitting}
 use Rattle.table.specs.Leaves.{Leaf}
 use Rattle.table.specs.Flat.{leaf}
 use Rattle.table.specs.Rows.{Table, segmentRowSize, segmentRowsFrom, kindIn, ownerIn, firstIn, countIn}
@@ -25,7 +23,9 @@ use Rattle.table.specs.BySegment.{kindAmong}
 use Rattle.table.specs.RowTests.{goOnFrom}
 use Rattle.table.proofs.SegmentRows.{row-states}
 use Rattle.write.specs.Local.{HeaderRows, thirdPlace}
-use Rattle.write.specs.Tests.{leavesBetween, headerLeavesAt, rowStates, groupsStated, soundLeaves}
+use Rattle.write.proofs.HeaderTest.{header-leaves, leaves-header}
+use Rattle.write.proofs.GoingOn.{sound-parts}
+use Rattle.write.specs.Tests.{leavesBetween, rowStates, groupsStated, soundLeaves}
 
 -- segment rows against their columns
 module _ (segs : List ℕ) where
@@ -107,59 +107,31 @@ module _ (t : Table) where
   abbrev seps : Separators
   seps = separatorsAt (t .card .separator) (t .leafRows) (t .text)
 
-  abbrev ruled : Bool
-  ruled = allAllowed (five seps) && different (five seps)
-
-  abbrev goes : Bool
-  goes = goOnFrom (splitting seps) thirdPlace (leavesBetween (t .leafRows) (t .text) 2 (t .card .leaves))
-
   -- the leaf rows
   pub sound-header : soundLeaves (t .card .separator) (t .leafRows) (t .text) (t .card .leaves) ≡ true → HeaderRows t
-  unfolding soundLeaves headerLeavesAt separatorsAt
+  unfolding separatorsAt leafAt
   sound-header h =
-      let hr = and-first (headerLeavesAt (t .leafRows) (t .text) && ruled) goes h in
-      let head = and-first (headerLeavesAt (t .leafRows) (t .text)) ruled hr in
-      let rule = and-second (headerLeavesAt (t .leafRows) (t .text)) ruled hr in
-      let a = same (leafAt (t .leafRows) (t .text) 0 .place) (1 ∷ 1 ∷ 1 ∷ 1 ∷ 1 ∷ []) in
-      let b = same (leafAt (t .leafRows) (t .text) 0 .text) (72 ∷ []) in
-      let d = same (leafAt (t .leafRows) (t .text) 1 .place) (1 ∷ 2 ∷ 1 ∷ 1 ∷ 1 ∷ []) in
-      let e = eqb (length (leafAt (t .leafRows) (t .text) 1 .text)) 4 in
-      let abd = and-first (a && b && d) e head in
-      let ab = and-first (a && b) d abd in
-      record {
-        allowed = and-first (allAllowed (five seps)) (different (five seps)) rule;
-        distinct = and-second (allAllowed (five seps)) (different (five seps)) rule;
-        first =
-            ap₂ (λ (p q : List ℕ). leaf p q) (same-equal (leafAt (t .leafRows) (t .text) 0 .place) (1 ∷ 1 ∷ 1 ∷ 1 ∷ 1 ∷ []) (and-first a b ab))
-            (same-equal (leafAt (t .leafRows) (t .text) 0 .text) (72 ∷ []) (and-second a b ab));
-        second = same-equal (leafAt (t .leafRows) (t .text) 1 .place) (1 ∷ 2 ∷ 1 ∷ 1 ∷ 1 ∷ []) (and-second (a && b) d abd);
-        four = eqb-true (length (leafAt (t .leafRows) (t .text) 1 .text)) 4 (and-second (a && b && d) e head);
-      }
-
-  same-of : (s u : List ℕ) → s ≡ u → same s u ≡ true
-  same-of s u e = subst (λ (v : List ℕ). same s v ≡ true) e (same-self s)
+      let w = sound-parts (t .card .separator) (t .leafRows) (t .text) (t .card .leaves) h in
+      let head = header-leaves (t .leafRows) (t .text) (w .header) in
+      record { allowed = w .allowed; distinct = w .distinct; first = ap₂ leaf (head .first) (head .letter); second = head .second; four = head .four }
 
   pub header-sound : HeaderRows t → goOnFrom (splitting (separatorsIn t)) thirdPlace (drop 2 (leavesOf t)) ≡ true
       → soundLeaves (t .card .separator) (t .leafRows) (t .text) (t .card .leaves) ≡ true
-  unfolding soundLeaves headerLeavesAt separatorsAt leavesOf
+  unfolding soundLeaves separatorsAt leavesOf leafAt
   header-sound w o =
       and-both
       (and-both
-      (and-both
-      (and-both
-      (and-both (same-of (leafAt (t .leafRows) (t .text) 0 .place) (1 ∷ 1 ∷ 1 ∷ 1 ∷ 1 ∷ []) (ap (λ (l : Leaf). l .place) (w .first)))
-      (same-of (leafAt (t .leafRows) (t .text) 0 .text) (72 ∷ []) (ap (λ (l : Leaf). l .text) (w .first))))
-      (same-of (leafAt (t .leafRows) (t .text) 1 .place) (1 ∷ 2 ∷ 1 ∷ 1 ∷ 1 ∷ []) (w .second)))
-      (eq-eqb (length (leafAt (t .leafRows) (t .text) 1 .text)) 4 (w .four)))
+      (sym (leaves-header (t .leafRows) (t .text) (ap (λ (l : Leaf). l .place) (w .first)) (ap (λ (l : Leaf). l .text) (w .first)) (w .second))
+      ∙ eq-eqb (length (leafAt (t .leafRows) (t .text) 1 .text)) 4 (w .four))
       (and-both (w .allowed) (w .distinct)))
       (ap (goOnFrom (splitting seps) thirdPlace) (sym (drop-two (t .leafRows) (t .text) (t .card .leaves))) ∙ o)
 
   pub sound-others : soundLeaves (t .card .separator) (t .leafRows) (t .text) (t .card .leaves) ≡ true
       → goOnFrom (splitting (separatorsIn t)) thirdPlace (drop 2 (leavesOf t)) ≡ true
-  unfolding soundLeaves separatorsAt leavesOf
+  unfolding separatorsAt leavesOf
   sound-others h =
       ap (goOnFrom (splitting seps) thirdPlace) (drop-two (t .leafRows) (t .text) (t .card .leaves))
-      ∙ and-second (headerLeavesAt (t .leafRows) (t .text) && ruled) goes h
+      ∙ sound-parts (t .card .separator) (t .leafRows) (t .text) (t .card .leaves) h .goes
 
   pub three-leaves : goOnFrom (splitting (separatorsIn t)) thirdPlace (drop 2 (leavesOf t)) ≡ true → 3 ≤ t .card .leaves
   unfolding goOnFrom leavesOf values

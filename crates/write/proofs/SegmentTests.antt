@@ -19,6 +19,7 @@ use Rattle.table.specs.Rows.{leafRowSize, kindIn, firstIn, countIn, segmentIn, 
 use Rattle.table.specs.Back.{leafAt}
 use Rattle.table.specs.BySegment.{segmentOf, fieldOf, goesOn, numberOfField}
 use Rattle.table.proofs.FieldNames.{number-one, number-more, number-later}
+use Rattle.write.specs.Asked.{FieldThere, TextStated}
 use Rattle.write.specs.Tests.{leavesBetween, SegmentEnd, FieldLeaf, rowStates}
 
 -- what a row states: its segment, its field, its text
@@ -41,12 +42,11 @@ module _ (rows text : List ℕ) (i : ℕ) where
       length-take-le (lengthIn rows i) (drop (startIn rows i) text)
       (omega (arith, length-drop (startIn rows i) text))
 
-  pub row-part : {start size : ℕ} → start ≡ startIn rows i → size ≡ lengthIn rows i
-      → take (start + size - start) (drop start text) ≡ leafAt rows text i .text
+  -- its text, by where it lies
+  pub stated-text : {start end : ℕ} → TextStated rows i start end → take (end - start) (drop start text) ≡ leafAt rows text i .text
   unfolding leafAt
-  row-part {start} {size} e f =
-      ap (λ (n : ℕ). take n (drop start text)) (let g : start + size - start ≡ size = omega arith in g)
-      ∙ ap₂ (λ (n k : ℕ). take n (drop k text)) f e
+  stated-text {start} {end} w =
+      ap₂ (λ (n k : ℕ). take n (drop k text)) (let e : end - start ≡ lengthIn rows i = omega (arith, w .ends) in e) (w .starts)
 
 -- the leaves from one on, one by one
 pub leaves-cons : (rows text : List ℕ) (i end : ℕ) → i < end → leavesBetween rows text i end ≡ leafAt rows text i ∷ leavesBetween rows text (i + 1) end
@@ -106,7 +106,13 @@ pub segment-ends : (rows : List ℕ) (count first : ℕ) → first < count → S
 segment-ends rows count first h = running-ends rows count first (count - (first + 1)) (first + 1) refl (running-begins h)
 
 -- the leaf of a field
-module _ (rows : List ℕ) (field at end : ℕ) (h : at < end) (e : fieldIn rows at ≡ field) where
+module _ {rows : List ℕ} {field at end : ℕ} (w : FieldThere rows field at end) where
+  h : at < end
+  h = w .within
+
+  e : fieldIn rows at ≡ field
+  e = w .there
+
   field-one : ((text : List ℕ) → goesOn field (leavesBetween rows text (at + 1) end) ≡ false) → FieldLeaf rows field at end at
   field-one g =
       record {

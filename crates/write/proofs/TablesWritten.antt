@@ -4,11 +4,10 @@ use mathlib.Core.Bool.{true, false}
 use mathlib.Core.List.{List, _∷_}
 use mathlib.Core.Path.{_≡_, sym, ap, ap₂, _∙_, subst}
 use Prim.Native.Nat.{ℕ, suc, _+_, _*_, _≤_, _<_}
-use native.Mathlib.Nat.{zero-add}
 use native.Mathlib.Omega.{arith}
 use lib.Dec.{eqb}
 use lib.ListN.{length, getD, take, drop, length-take, length-drop, take-append-drop}
-use lib.Seq.{sets, getD-take, getD-drop}
+use lib.Seq.{sets, getD-take}
 use borrow.Author.Tests.{ne-eqb}
 use Rattle.laws.specs.Every.{All, none, also}
 use Rattle.laws.specs.Tables.{values}
@@ -26,17 +25,18 @@ use Rattle.table.specs.Leaves.{Leaf, split}
 use Rattle.table.specs.Flat.{leaf}
 use Rattle.table.specs.Back.{leafAt, leavesOf, separatorsAt, separatorsIn, unsplit, segmentsOf, linesOf, written}
 use Rattle.table.specs.RowTests.{nextPlace}
-use Rattle.table.proofs.EndToEnd.{ends-each}
+use Rattle.table.proofs.EndToEnd.{ended-within, ended-first, ended-next}
 use Rattle.write.specs.declared.lines.Going.{Going}
 use Rattle.table.specs.Lent.{Lent, withinBuffers, counted}
 use Rattle.write.specs.Local.{Local}
 use Rattle.write.specs.RowByRow.{RowByRow}
 use Rattle.write.specs.Writing.{isTable}
 use Rattle.write.specs.Filling.{InSegment}
-use Rattle.write.specs.Passing.{linesOfRows, FourWithin, NextAfter, Writable, WrittenOut}
+use Rattle.write.specs.Asked.{FourWithin}
+use Rattle.write.specs.Passing.{linesOfRows, NextAfter, Writable, WrittenOut}
 use Rattle.write.proofs.LocalTables.{headed-leaves, local-accepted}
 use Rattle.write.proofs.RowByRow.{rows-local}
-use Rattle.write.proofs.LaidRows.{ended-first, ended-next, sound-next}
+use Rattle.write.proofs.GoingOn.{sound-next}
 use Rattle.write.proofs.Passing.{three-leaves, header-sound}
 use Rattle.write.proofs.LentTables.{within-buffers, counted-sized, is-table-rows}
 use Rattle.table.specs.Rows.{leafRowSize, lengthIn, placeIn, startIn}
@@ -66,32 +66,6 @@ in-segment {s} start size w =
         all-left (take size (drop start s)) (drop size (drop start s))
         (subst (All (λ (b : ℕ). space ≤ b)) (sym (take-append-drop size (drop start s))) (all-drop start w))
 
--- the four bytes of the second leaf, where its row says that they lie
-module _ (field : ℕ) (rows text : List ℕ) (w : FourWithin rows text) {at : ℕ} (e : at ≡ getD rows 12 0) where
-  byte-of : (k : ℕ) → k < 4 → getD text (at + k) 0 ≡ getD (leafAt rows text 1 .text) k 0
-  unfolding leafAt
-  byte-of k less =
-      sym (ap₂ (λ (n j : ℕ). getD (take n (drop j text)) k 0) (w .four) (sym e)
-      ∙ getD-take 4 (drop at text) k 0 less
-      ∙ getD-drop at text k 0)
-
-  pub separators-read : _≡_ {A = Separators}
-      (record {
-        field = field;
-        subfield = getD text at 0;
-        repeater = getD text (at + 1) 0;
-        escape = getD text (at + 2) 0;
-        subsubfield = getD text (at + 3) 0;
-      })
-      (separatorsAt field rows text)
-  unfolding separatorsAt
-  separators-read =
-      let first = ap (λ (j : ℕ). getD text j 0) (let z : at ≡ at + 0 = omega arith in z) ∙ byte-of 0 (omega arith) in
-      let second = byte-of 1 (omega arith) in
-      let third = byte-of 2 (omega arith) in
-      let fourth = byte-of 3 (omega arith) in
-      cc
-
 module _ (L : Limits) (lawful : Lawful L) (levels : ℕ → ℕ → ℕ) (l : Lent) (test : isTable L levels l ≡ true) where
   within : withinBuffers l ≡ true
   within = is-table-rows L lawful levels l .0 test .0
@@ -116,12 +90,7 @@ module _ (L : Limits) (lawful : Lawful L) (levels : ℕ → ℕ → ℕ) (l : Le
   ends i less =
       omega (
         arith,
-        subst
-            (λ (j : ℕ).
-            startIn (take (l .card .leaves * leafRowSize) (l .leafRows)) j + lengthIn (take (l .card .leaves * leafRowSize) (l .leafRows)) j
-            ≤ l .card .text)
-            (zero-add i)
-            (ends-each (counted l .leafRows) (l .card .text) 0 (l .card .leaves) 0 (rows .laid) i less),
+        ended-within (counted l .leafRows) (l .card .text) (l .card .leaves) (rows .laid) i less,
         row-counted (l .leafRows) (l .text) (l .card .leaves) (l .card .text) i 5 less (omega arith),
         row-counted (l .leafRows) (l .text) (l .card .leaves) (l .card .text) i 6 less (omega arith),
       )
@@ -138,7 +107,7 @@ module _ (L : Limits) (lawful : Lawful L) (levels : ℕ → ℕ → ℕ) (l : Le
             startIn (take (l .card .leaves * leafRowSize) (l .leafRows)) j
             ≡ startIn (take (l .card .leaves * leafRowSize) (l .leafRows)) i + lengthIn (take (l .card .leaves * leafRowSize) (l .leafRows)) i)
             (let e : suc i ≡ i + 1 = omega arith in e)
-            (ended-next (counted l .leafRows) (l .card .leaves) (l .card .text) (rows .laid) i (omega arith)),
+            (ended-next (counted l .leafRows) (l .card .text) (l .card .leaves) (rows .laid) i (omega arith)),
         there (i + 1) 5 less (omega arith),
         there i 5 (omega arith) (omega arith),
         there i 6 (omega arith) (omega arith),
@@ -150,8 +119,8 @@ module _ (L : Limits) (lawful : Lawful L) (levels : ℕ → ℕ → ℕ) (l : Le
       ap₂ nextPlace (sym (part-taken (l .leafRows) (i * leafRowSize) 5 (l .card .leaves * leafRowSize) (omega arith)))
       (sym (part-taken (l .leafRows) ((i + 1) * leafRowSize) 5 (l .card .leaves * leafRowSize) (omega arith)))
       ∙ subst (λ (j : ℕ). nextPlace (placeIn (counted l .leafRows) i) (placeIn (counted l .leafRows) j) ≡ true) (let e : suc i ≡ i + 1 = omega arith in e)
-      (sound-next (l .card .separator) (counted l .leafRows) (counted l .text) (l .card .leaves) (three-leaves (counted l) (rows .others))
-      (header-sound (counted l) (rows .header) (rows .others)) i (omega arith))
+      (sound-next (l .card .separator) (counted l .leafRows) (counted l .text) (l .card .leaves) (header-sound (counted l) (rows .header) (rows .others))
+      (three-leaves (counted l) (rows .others)) i (omega arith))
 
   leaf-same : (i : ℕ) → i < l .card .leaves → leafAt (counted l .leafRows) (counted l .text) i ≡ leafAt (l .leafRows) (l .text) i
   unfolding counted
@@ -183,12 +152,12 @@ module _ (L : Limits) (lawful : Lawful L) (levels : ℕ → ℕ → ℕ) (l : Le
       let held = within-buffers l .0 within .text in
       let some = some-leaves in
       let ended = ends 1 some-leaves in
-      let size : getD (l .leafRows) 13 0 ≡ 4 =
+      let size : lengthIn (l .leafRows) 1 ≡ 4 =
       omega (
         arith,
         sym (ap (λ (m : Leaf). length (m .text)) (leaf-same 1 some-leaves)) ∙ local .header .four,
-        length-take (getD (l .leafRows) 13 0) (drop (getD (l .leafRows) 12 0) (l .text)),
-        length-drop (getD (l .leafRows) 12 0) (l .text),
+        length-take (lengthIn (l .leafRows) 1) (drop (startIn (l .leafRows) 1) (l .text)),
+        length-drop (startIn (l .leafRows) 1) (l .text),
       ) in
       record { row = omega arith; four = size; within = omega arith }
 
@@ -225,7 +194,7 @@ module _ (L : Limits) (lawful : Lawful L) (levels : ℕ → ℕ → ℕ) (l : Le
                     subst (λ (m : Leaf). InSegment (m .text)) (leaf-same i less)
                     (in-segment (startIn (counted l .leafRows) i) (lengthIn (counted l .leafRows) i) (local .bytes));
               };
-          first = sym (row-counted (l .leafRows) (l .text) (l .card .leaves) (l .card .text) 0 5 (omega (arith, some-leaves)) (omega arith)) ∙ ended-first (counted l .leafRows) (l .card .leaves) (l .card .text) (rows .laid) (omega (arith, some-leaves));
+          first = sym (row-counted (l .leafRows) (l .text) (l .card .leaves) (l .card .text) 0 5 (omega (arith, some-leaves)) (omega arith)) ∙ ended-first (counted l .leafRows) (l .card .text) (l .card .leaves) (rows .laid) (omega (arith, some-leaves));
           next = next-start;
           splits = splits-clear;
           places = next-place;

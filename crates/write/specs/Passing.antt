@@ -4,7 +4,7 @@ use mathlib.Core.Bool.{true}
 use mathlib.Core.List.{List, _∷_}
 use mathlib.Core.Path.{_≡_}
 use Prim.Native.Nat.{ℕ, _+_, _*_, _≤_, _<_}
-use lib.ListN.{length, getD}
+use lib.ListN.{length}
 use lib.Seq.{sets}
 use Rattle.laws.specs.Tables.{values}
 use Rattle.form.specs.declared.limits.Limits.{Limits}
@@ -30,12 +30,6 @@ unfoldable pub linesOfRows : Limits → Separators → List ℕ → ℕ → List
 linesOfRows L ps rows count text =
     cuts L (ps .field) (split CR (unsplit (CR ∷ splitting ps) (values (leafAt rows text) 0 count)))
 
--- what finding them asks: there is such a row, of four bytes, and these lie in the text area
-pub record FourWithin (rows text : List ℕ) : Type 0 where
-  pub row : 14 ≤ length rows
-  pub four : getD rows 13 0 ≡ 4
-  pub within : getD rows 12 0 + 4 ≤ length text
-
 -- the separator that leads from the leaf of a row to the next one
 abbrev pub leading : Separators → List ℕ → ℕ → ℕ
 leading ps rows row = between (CR ∷ splitting ps) (placeIn rows row) (placeIn rows (row + 1))
@@ -51,7 +45,7 @@ pub record Writable (L : Limits) (ps : Separators) (rows : List ℕ) (count : �
   pub long : count * leafRowSize ≤ length rows
   pub leaves : (i : ℕ) → i < count → LeafWithin rows text i
   -- the texts lie end to end
-  pub first : getD rows 5 0 ≡ 0
+  pub first : startIn rows 0 ≡ 0
   pub next : (i : ℕ) → i + 1 < count → startIn rows (i + 1) ≡ startIn rows i + lengthIn rows i
   -- no separator is CR
   pub splits : InSegment (splitting ps)

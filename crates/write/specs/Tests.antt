@@ -9,42 +9,28 @@ use lib.Dec.{leb, ltb, eqb}
 use lib.ListN.{length, getD}
 use Rattle.laws.specs.Lists.{same, among}
 use Rattle.laws.specs.Tables.{values}
-use Rattle.form.specs.declared.limits.Limits.{Limits}
 use Rattle.form.specs.Header.{allAllowed, different, five, splitting}
 use Rattle.form.specs.Names.{numberAmong}
 use Rattle.line.specs.Lines.{space}
 use Rattle.table.specs.declared.Card.{Card}
 use Rattle.table.specs.Leaves.{Leaf}
-use Rattle.form.specs.Limits.{Lawful}
-use Rattle.write.specs.RowByRow.{Sized}
-use Rattle.table.specs.Rows.{Table, segmentRowSize, leafRowSize, kindIn, ownerIn, firstIn, countIn, segmentIn, placeIn, startIn, lengthIn}
+use Rattle.table.specs.Rows.{Table, segmentRowSize, leafRowSize, kindIn, ownerIn, firstIn, countIn, segmentIn, placeIn, width}
 use Rattle.table.specs.Back.{leafAt, separatorsAt}
 use Rattle.order.specs.Place.{misplaced}
 use Rattle.table.specs.BySegment.{bySegment, kindAmong, contextAmong, numberOfField}
 use Rattle.table.specs.RowTests.{endToEnd, nextPlace, goOnFrom}
 use Rattle.write.specs.Local.{thirdPlace}
 
--- limits whose numbers fit the rows' numbers, so that no sum wraps
-pub record Small (L : Limits) : Type 0 where
-  pub segments : L .segments ≤ 65535
-  pub leaves : L .leaves ≤ 65535
-  pub bytes : L .bytes ≤ 4294967295
-
 -- a test that is passed exactly where something holds
 abbrev pub Decides : Bool → Type 0 → Type 0
 Decides r holds = (r ≡ true → holds) × (r ≡ false → holds → ⊥)
 
--- counts within the limits and within lent buffers of some lengths
-unfoldable pub countsWithin : Limits → Card → ℕ → ℕ → ℕ → Bool
-countsWithin L c segmentRows leafRows text =
-    leb (c .segments) (L .segments) && leb (c .leaves) (L .leaves) && leb (c .text) (L .bytes)
-    && (leb (c .segments * segmentRowSize) segmentRows && leb (c .leaves * leafRowSize) leafRows && leb (c .text) text)
-
--- so many leaf rows, each of which states a part of the text
+-- so many leaf rows, whose texts lie end to end in a text; both are few enough for a row's number
 pub record InText (rows text : List ℕ) (count : ℕ) : Type 0 where
   pub sized : length rows ≡ count * leafRowSize
-  pub few : count ≤ 65535
-  pub fits : (k : ℕ) → k < count → startIn rows k + lengthIn rows k ≤ length text
+  pub few : count < width
+  pub short : length text < width
+  pub ended : endToEnd rows (length text) 0 count 0 ≡ true
 
 -- leaf rows of which each stands at the place that comes next
 abbrev pub PlacesFollow : List ℕ → ℕ → Type 0
@@ -128,7 +114,7 @@ ownerColumn rows n = values (λ (i : ℕ). ownerIn rows i) 0 n
 -- segment rows that state kinds
 pub record KindsStated (rows : List ℕ) (n : ℕ) : Type 0 where
   pub sized : length rows ≡ n * segmentRowSize
-  pub few : n ≤ 65535
+  pub few : n < width
   pub kinds : (i : ℕ) → i < n → kindIn rows i ≤ 12
 
 -- whether the header's rows keep the header rule and the leaf rows after them go on soundly
@@ -145,11 +131,6 @@ inOrder context segments many rows text count =
     && eqb (contextAmong (bySegment (values (leafAt rows text) 0 count))) context
     && eqb (misplaced context (kindColumn segments many)) 0
 
--- a table of the counted entries, as the table test takes it
-pub record CountedTable (L : Limits) (levels : ℕ → ℕ → ℕ) (t : Table) : Type 0 where
-  pub lawful : Lawful L
-  pub small : Small L
-  pub low : (c k : ℕ) → levels c k < 8
-  pub sized : Sized t
-  pub segments : t .card .segments ≤ L .segments
-  pub leaves : t .card .leaves ≤ L .leaves
+-- a table of some counted entries
+abbrev pub tableWith : Card → (segmentRows leafRows text : List ℕ) → Table
+tableWith card segmentRows leafRows text = record { card = card; segmentRows = segmentRows; leafRows = leafRows; text = text }
