@@ -30,7 +30,6 @@ pub owners-stated : (lv : ℕ → ℕ) (groups : List (List Leaf))
 unfolding owners
 owners-stated lv groups = rows-stated lv 1 [] groups
 
-
 module _ (rows : List ℕ) (j : ℕ) (long : suc j * segmentRowSize ≤ length rows) where
   -- a row and the rows after it
   row-cons : drop (j * segmentRowSize) rows

@@ -107,4 +107,3 @@ module _ {rows : List ℕ} {finish count i start : ℕ} (w : Laying rows finish 
     λ e. record { ended = sym (ending-done (w .ending) h) ∙ e; next = λ k l. w .next k (omega arith) },
     λ e l. never-both (l .ended) (sym (ending-done (w .ending) h) ∙ e),
   )
-

@@ -164,7 +164,12 @@ pub(crate) fn go_on_from(separators: Separators, rows: &[Entry], text: &[u8], co
         return false;
     }
     let class = class::classes(separators);
-    leaf_text(&class, text, rows::wide(rows[2 * rows::LEAF_ROW + rows::START]), text.len())
+    leaf_text(
+        &class,
+        text,
+        rows::wide(rows[2 * rows::LEAF_ROW + rows::START]),
+        text.len(),
+    )
 }
 
 // Whether the first two of leaf rows that are laid out are a header's: `H` in field 1, four bytes in field 2.
