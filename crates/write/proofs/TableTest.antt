@@ -115,7 +115,9 @@ module _ (L : Limits) (levels : ℕ → ℕ → ℕ) (t : Table) (sized : Sized 
               known = st .known;
               context = sym (eqb-true named (t .card .context) (and-second a b ab));
               named = eqb-false (t .card .context) 0 (not-true (eqb (t .card .context) 0) (and-first a b ab));
-              ordered = ap (misplaced (t .card .context)) (sym (st .kinds)) ∙ eqb-true (misplaced (t .card .context) (kindColumn (t .segmentRows) (t .card .segments))) 0 (and-second (a && b) d (w .ordered));
+              ordered =
+                  ap (misplaced (t .card .context)) (sym (st .kinds))
+                  ∙ eqb-true (misplaced (t .card .context) (kindColumn (t .segmentRows) (t .card .segments))) 0 (and-second (a && b) d (w .ordered));
             };
         stated =
             st .rows

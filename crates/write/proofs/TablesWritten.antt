@@ -194,7 +194,9 @@ module _ (L : Limits) (lawful : Lawful L) (levels : ℕ → ℕ → ℕ) (l : Le
                     subst (λ (m : Leaf). InSegment (m .text)) (leaf-same i less)
                     (in-segment (startIn (counted l .leafRows) i) (lengthIn (counted l .leafRows) i) (local .bytes));
               };
-          first = sym (row-counted (l .leafRows) (l .text) (l .card .leaves) (l .card .text) 0 5 (omega (arith, some-leaves)) (omega arith)) ∙ ended-first (counted l .leafRows) (l .card .text) (l .card .leaves) (rows .laid) (omega (arith, some-leaves));
+          first =
+              sym (row-counted (l .leafRows) (l .text) (l .card .leaves) (l .card .text) 0 5 (omega (arith, some-leaves)) (omega arith))
+              ∙ ended-first (counted l .leafRows) (l .card .text) (l .card .leaves) (rows .laid) (omega (arith, some-leaves));
           next = next-start;
           splits = splits-clear;
           places = next-place;
