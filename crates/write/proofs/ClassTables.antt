@@ -18,7 +18,7 @@ use Rattle.laws.proofs.Tables.{changed, changed-here, changed-other, values-as,
 use Rattle.laws.proofs.Tests.{Tested, passed, failed, tested, and-both, and-fails-first, and-fails-second}
 use Rattle.form.specs.declared.separators.Separators.{Separators}
 use Rattle.form.specs.Header.{splitting}
-use Rattle.write.specs.Tests.{leafByte, markOf, classOf, markTable, classTable}
+use Rattle.write.specs.Tests.{leafByte, markOf, textClass, markTable, textClasses}
 
 -- four stores into an empty table give the marks
 pub marks-stored : (ps : Separators)
@@ -94,21 +94,21 @@ module _ (f : ℕ → ℕ) (n : ℕ) where
           (λ q. changed-here (low f b) (0 + b) 1 k (omega arith) ∙ sym (low-below f (b + 1) k (omega arith)))
           (less-or-not b k)
 
-pub classes-stored : (ps : List ℕ) → values (low (markOf ps) 32) 0 256 ≡ classTable ps
-unfolding classTable classOf
+pub classes-stored : (ps : List ℕ) → values (low (markOf ps) 32) 0 256 ≡ textClasses ps
+unfolding textClasses textClass
 classes-stored ps = refl
 
 -- a byte of class 0 may stand in a leaf's text, one of another class may not
 module _ (ps : List ℕ) (b : ℕ) where
-  low-class : b < 32 → classOf ps b ≡ 1
-  unfolding classOf
+  low-class : b < 32 → textClass ps b ≡ 1
+  unfolding textClass
   low-class h = low-below (markOf ps) 32 b h
 
-  high-class : 32 ≤ b → classOf ps b ≡ markOf ps b
-  unfolding classOf
+  high-class : 32 ≤ b → textClass ps b ≡ markOf ps b
+  unfolding textClass
   high-class h = low-above (markOf ps) 32 b h
 
-  class-none : classOf ps b ≡ 0 → leafByte ps b ≡ true
+  class-none : textClass ps b ≡ 0 → leafByte ps b ≡ true
   unfolding leafByte markOf
   class-none e = go (less-or-not b 32) (tested (among ps b))
     where
@@ -119,7 +119,7 @@ module _ (ps : List ℕ) (b : ℕ) where
           let z : ⊥ = omega (arith, e, high-class h, marked) in absurd z
       go (inr h) (failed m) = and-both (le-leb 32 b h) (ap not m)
 
-  class-some : (classOf ps b ≡ 0 → ⊥) → leafByte ps b ≡ false
+  class-some : (textClass ps b ≡ 0 → ⊥) → leafByte ps b ≡ false
   unfolding leafByte markOf
   class-some n = go (less-or-not b 32) (tested (among ps b))
     where
@@ -129,10 +129,10 @@ module _ (ps : List ℕ) (b : ℕ) where
       go (inr h) (failed m) = absurd (n (high-class h ∙ ap (λ (t : Bool). elim t as (λ x. ℕ) [ true ↦ 1 | false ↦ 0 ]) m))
 
 -- as the table has it at a byte's index
-module _ (ps : List ℕ) {table : List ℕ} (e : table ≡ classTable ps) {b i : ℕ} (at : i ≡ b) (few : i < 256) where
-  class-there : getD table i 0 ≡ classOf ps b
-  unfolding classTable
-  class-there = ap (λ (t : List ℕ). getD t i 0) e ∙ getD-values-zero (classOf ps) 256 i 0 few ∙ ap (classOf ps) at
+module _ (ps : List ℕ) {table : List ℕ} (e : table ≡ textClasses ps) {b i : ℕ} (at : i ≡ b) (few : i < 256) where
+  class-there : getD table i 0 ≡ textClass ps b
+  unfolding textClasses
+  class-there = ap (λ (t : List ℕ). getD t i 0) e ∙ getD-values-zero (textClass ps) 256 i 0 few ∙ ap (textClass ps) at
 
   pub text-ends : (getD table i 0 ≡ 0 → ⊥) → leafByte ps b ≡ false
   text-ends n = class-some ps b (λ q. n (class-there ∙ q))

@@ -7,10 +7,10 @@ use mathlib.Core.Logic.{_↔_}
 use mathlib.Core.Path.{_≡_, refl, sym, ap, _∙_, subst}
 use Prim.Native.Nat.{ℕ, _*_, _≤_}
 use native.Mathlib.Omega.{arith}
-use lib.Dec.{leb, ltb}
+use lib.Dec.{ltb}
 use lib.ListN.{length}
 use lib.Seq.{length-take-le}
-use borrow.Author.Tests.{leb-true, le-leb}
+use borrow.Author.Tests.{le-leb}
 use Rattle.laws.proofs.Every.{all-first, all-rest}
 use Rattle.laws.proofs.Tests.{Tested, passed, failed, tested, and-first, and-second, and-both}
 use Rattle.form.specs.declared.limits.Limits.{Limits}
@@ -24,6 +24,7 @@ use Rattle.table.specs.Filed.{headerBytes}
 use Rattle.table.specs.Rows.{Table, segmentRowSize, leafRowSize, textOf}
 use Rattle.table.specs.Reading.{accepted, reading, stated}
 use Rattle.table.specs.Back.{leavesOf, linesOf, written}
+use Rattle.table.proofs.Lent.{segments-within, leaves-within, text-within}
 use Rattle.table.proofs.Accepting.{Accepted, accepting}
 use Rattle.table.proofs.BySegment.{concat-bySegment}
 use Rattle.table.proofs.Filing.{segmentsOfAccepted, accepted-header, accepted-worded}
@@ -46,20 +47,19 @@ pub record Within (l : Lent) : Type 0 where
 pub within-buffers : (l : Lent) → (withinBuffers l ≡ true) ↔ Within l
 unfolding countsFit
 within-buffers l =
-    let a = leb (l .card .segments * segmentRowSize) (length (l .segmentRows)) in
-    let b = leb (l .card .leaves * leafRowSize) (length (l .leafRows)) in
-    let c = leb (l .card .text) (length (l .text)) in (
+    let rows = length (l .segmentRows) in
+    let leaves = length (l .leafRows) in
+    let text = length (l .text) in (
       λ h.
           record {
-            segmentRows = leb-true (l .card .segments * segmentRowSize) (length (l .segmentRows)) (and-first a b (and-first (a && b) c h));
-            leafRows = leb-true (l .card .leaves * leafRowSize) (length (l .leafRows)) (and-second a b (and-first (a && b) c h));
-            text = leb-true (l .card .text) (length (l .text)) (and-second (a && b) c h);
+            segmentRows = segments-within (l .card) rows leaves text h;
+            leafRows = leaves-within (l .card) rows leaves text h;
+            text = text-within (l .card) rows leaves text h;
           },
       λ w.
           and-both
-          (and-both (le-leb (l .card .segments * segmentRowSize) (length (l .segmentRows)) (w .segmentRows))
-          (le-leb (l .card .leaves * leafRowSize) (length (l .leafRows)) (w .leafRows)))
-          (le-leb (l .card .text) (length (l .text)) (w .text)),
+          (and-both (le-leb (l .card .segments * segmentRowSize) rows (w .segmentRows)) (le-leb (l .card .leaves * leafRowSize) leaves (w .leafRows)))
+          (le-leb (l .card .text) text (w .text)),
     )
 
 -- then the counted entries are as many as the card says
@@ -100,6 +100,13 @@ module _ (L : Limits) (lawful : Lawful L) (levels : ℕ → ℕ → ℕ) where
       let b = withinBuffers l in
       let c = readsBack L levels (counted l) in
       (and-second a b (and-first (a && b) c h), and-second (a && b) c h)
+
+  pub table-within : (l : Lent) → isTable L levels l ≡ true → withinLimits L (l .card) ≡ true
+  unfolding isTable
+  table-within l h =
+      let a = withinLimits L (l .card) in
+      let b = withinBuffers l in
+      and-first a b (and-first (a && b) (readsBack L levels (counted l)) h)
 
   tested-so : (l : Lent) → withinBuffers l ≡ true → Local L levels (counted l) → readsBack L levels (counted l) ≡ true → isTable L levels l ≡ true
   unfolding isTable counted

@@ -3,11 +3,11 @@ use form::separators::Separators;
 ghost use mathlib.Core.Path.{_≡_};
 ghost use Prim.Native.Nat.{_<_};
 ghost use Rattle.form.specs.Header.{splitting};
-ghost use Rattle.write.specs.Tests.{markTable, classTable};
+ghost use Rattle.write.specs.Tests.{markTable, textClasses};
 
 // The classes under these separators: 1 below 32 and at each separator that splits, which stand in no leaf's text, and else 0.
 pub(crate) fn classes(separators: Separators) -> [u8; 256]
-    ensures { λ r. ⌜ r ≡ classTable (splitting separators) ⌝ }
+    ensures { λ r. ⌜ r ≡ textClasses (splitting separators) ⌝ }
 {
     let mut class = marks(separators);
     let mut b = 0;
