@@ -53,20 +53,6 @@ finer rows at k = values (λ (j : ℕ). getD rows (at + j) 0) k (5 - k)
 unfoldable pub leafByte : List ℕ → ℕ → Bool
 leafByte ps b = leb space b && not (among ps b)
 
--- the class of a byte, by which a text is tested: 0 where it may stand in a leaf's text, 1 where it is a separator or below 32
-unfoldable pub markOf : List ℕ → ℕ → ℕ
-markOf ps b = elim (among ps b) [ true ↦ 1 | false ↦ 0 ]
-
-unfoldable pub textClass : List ℕ → ℕ → ℕ
-textClass ps b = elim (ltb b space) [ true ↦ 1 | false ↦ markOf ps b ]
-
--- the tables of all bytes
-unfoldable pub markTable : List ℕ → List ℕ
-markTable ps = values (markOf ps) 0 256
-
-unfoldable pub textClasses : List ℕ → List ℕ
-textClasses ps = values (textClass ps) 0 256
-
 -- whether the first two leaf rows are a header's: `H`, and four bytes
 unfoldable pub headerLeavesAt : List ℕ → List ℕ → Bool
 headerLeavesAt rows text =

@@ -1,6 +1,7 @@
 // The tests of leaf rows: each row against the one before it, each text by its bytes.
-use crate::class;
 use form::separators::Separators;
+use table::class::index;
+use table::class::set_classes;
 use table::rows;
 use table::rows::Entry;
 ghost use mathlib.Core.Bool.{true};
@@ -13,9 +14,10 @@ ghost use Rattle.laws.specs.Lists.{same};
 ghost use Rattle.laws.specs.Tables.{values};
 ghost use Rattle.form.specs.Header.{splitting};
 ghost use Rattle.table.specs.Back.{leafAt, separatorsAt};
+ghost use Rattle.table.specs.Classes.{classTable};
 ghost use Rattle.table.specs.RowTests.{nextPlace, leafText, goOnFrom};
 ghost use Rattle.write.specs.Local.{thirdPlace};
-ghost use Rattle.write.specs.Tests.{Decides, Laid, finer, textClasses, headerLeavesAt};
+ghost use Rattle.write.specs.Tests.{Decides, Laid, finer, headerLeavesAt};
 ghost use Rattle.write.specs.Asked.{SomeRows, TwoPlaces, LaidOut, Headed, FourWithin};
 
 // Whether so many leaf rows are laid out: their texts lie end to end, from 0 up to `finish`, and each stands at the next place.
@@ -141,11 +143,11 @@ fn next_in_repetition(rows: &[Entry], from: usize, to: usize) -> bool
 // Whether the bytes from `from` up to `end` may be a leaf's text under the separators that the classes are of.
 fn leaf_text(class: &[u8; 256], text: &[u8], from: usize, end: usize) -> bool
     requires { ⌜ (from ≤ end) × (end ≤ length (now text)) ⌝ }
-    ensures { λ r. ⌜ ((ps : List ℕ) → now (class .entry) ≡ textClasses ps → r ≡ leafText ps (take (end - from) (drop from (now (text .entry))))) ⌝ }
+    ensures { λ r. ⌜ ((ps : Separators) → now (class .entry) ≡ classTable ps → r ≡ leafText (splitting ps) (take (end - from) (drop from (now (text .entry))))) ⌝ }
 {
     let mut i = from;
     while i < end {
-        if class[class::index(text[i])] != 0 {
+        if class[index(text[i])] != 0 {
             return false;
         }
         i += 1;
@@ -163,7 +165,8 @@ pub(crate) fn go_on_from(separators: Separators, rows: &[Entry], text: &[u8], co
     if rows[2 * rows::LEAF_ROW + rows::FIELD] != 3 {
         return false;
     }
-    let class = class::classes(separators);
+    let mut class = [0u8; 256];
+    set_classes(&mut class, separators);
     leaf_text(
         &class,
         text,

@@ -11,7 +11,6 @@ ghost use Rattle.table.specs.Lent.{lent};
 ghost use Rattle.write.specs.Writing.{refuses, writing};
 ghost use Rattle.write.specs.Answer.{answer, outputAfter};
 
-mod class;
 mod leaf_rows;
 mod leaves;
 mod lines;

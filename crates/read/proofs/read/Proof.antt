@@ -8,8 +8,7 @@ use borrow.Author.Needs.{needs}
 use Rattle.form.specs.declared.limits.Limits.{Limits}
 use Rattle.form.specs.Limits.{form}
 use Rattle.form.proofs.LineCount.{form-lawful}
-use Rattle.order.specs.Levels.{LevelsBelow}
-use Rattle.order.proofs.LevelTable.{level-few, levels-are}
+use Rattle.order.proofs.LevelTable.{levels-are, levels-below}
 use Rattle.table.specs.Rows.{FitsRows}
 use Rattle.read.proofs.Answering.{read-same}
 use Rattle.read.proofs.read.Statement.{statement}
@@ -33,7 +32,7 @@ read-within-requires c κs =
     let at-table = at-limits .before in
     record {
       fits = subst⁻¹ FitsRows (at-limits .limits .ensures) form-fits;
-      below = subst⁻¹ LevelsBelow (levels-are (at-table .table .ensures)) level-few;
+      below = levels-below (at-table .table .ensures);
       notes = subst⁻¹ (λ (L : Limits). L .segments ≤ 256) (at-limits .limits .ensures) (omega arith);
     }
 

@@ -2,17 +2,18 @@
 -- Assumes nothing.
 use borrow.Author.Needs.{needs}
 use native.Mathlib.Omega.{arith}
-use mathlib.Core.List.{List}
 use mathlib.Core.Path.{_≡_}
-use Prim.Native.Nat.{ℕ, _-_, _≤_}
-use Rattle.write.specs.Tests.{textClasses}
+use Prim.Native.Nat.{_-_, _≤_}
+use Rattle.form.specs.declared.separators.Separators.{Separators}
+use Rattle.form.specs.Header.{splitting}
+use Rattle.table.specs.Classes.{classTable}
 use Rattle.write.proofs.ClassTables.{text-ends, text-goes-on}
 use Rattle.write.proofs.LeafTests.{Reading, reading-begins, reading-fails, reading-on, reading-done}
 use Rattle.write.proofs.leaf_rows.leaf_text.Statement.{statement}
 use Rattle.write.proofs.leaf_rows.leaf_text.Tie as tie
 
 abbrev Inv-loop : tie.InvT-loop
-Inv-loop class text from end i₀ i = (from ≤ i) × ((ps : List ℕ) → class ≡ textClasses ps → Reading ps text from end i)
+Inv-loop class text from end i₀ i = (from ≤ i) × ((ps : Separators) → class ≡ classTable ps → Reading (splitting ps) text from end i)
 
 abbrev μ-loop : tie.MeasureT-loop
 μ-loop class text from end i₀ i = end - i
