@@ -1,40 +1,21 @@
-// Room for the longest pieces, what a lent buffer holds before a case, and the sum by which a line shows the whole of it.
-use crate::input::LEAF_ROWS;
-use crate::input::MESSAGE;
-use crate::input::SEGMENT_ROWS;
-use crate::input::TEXT;
-ghost use mathlib.Core.Path.{_≡_};
-ghost use Prim.Native.Nat.{_<_};
-ghost use lib.ListN.{length};
+// The buffers that an operation writes: their sizes, what they hold before a case, and the sum by which a line shows the whole of one.
+ghost use Prim.Native.Nat.{_≤_};
+
+// The longest that a case asks for, of bytes and of row numbers.
+pub const TEXT: usize = 16400;
+
+pub const ROWS: usize = 14400;
 
 // Bytes are filled in modulo the one; row numbers are filled in, and sums are taken, modulo the other.
 const SMALL: usize = 251;
 
 const LARGE: usize = 65521;
 
-// A buffer comes from a function that says its length: a proof that saw the zeros themselves would carry thousands of them.
-pub fn message_buffer() -> [u8; MESSAGE]
-    ensures { λ r. ⌜ 20000 ≡ length r ⌝ }
+// As many elements of a buffer as a case asks for, and all where it asks for more.
+pub fn least(asked: usize, all: usize) -> usize
+    ensures { λ r. ⌜ r ≤ all ⌝ }
 {
-    [0; MESSAGE]
-}
-
-pub fn text_buffer() -> [u8; TEXT]
-    ensures { λ r. ⌜ 16400 ≡ length r ⌝ }
-{
-    [0; TEXT]
-}
-
-pub fn segment_buffer() -> [u16; SEGMENT_ROWS]
-    ensures { λ r. ⌜ 1100 ≡ length r ⌝ }
-{
-    [0; SEGMENT_ROWS]
-}
-
-pub fn leaf_buffer() -> [u16; LEAF_ROWS]
-    ensures { λ r. ⌜ 14400 ≡ length r ⌝ }
-{
-    [0; LEAF_ROWS]
+    if asked < all { asked } else { all }
 }
 
 // The sum of a buffer of bytes.
@@ -42,8 +23,7 @@ pub fn sum_bytes(bytes: &[u8]) -> usize {
     let mut sum = 0;
     let mut i = 0;
     while i < bytes.len() {
-        let b = bytes[i];
-        sum = summed(sum, b as usize);
+        sum = summed(sum, wide(bytes[i]));
         i += 1;
     }
     sum
@@ -54,38 +34,41 @@ pub fn sum_numbers(numbers: &[u16]) -> usize {
     let mut sum = 0;
     let mut i = 0;
     while i < numbers.len() {
-        let n = numbers[i];
-        sum = summed(sum, n as usize);
+        sum = summed(sum, numbers[i]);
         i += 1;
     }
     sum
 }
 
-// The sum with one element more.
-fn summed(sum: usize, element: usize) -> usize
-    requires { ⌜ sum < 65521 ⌝ }
-    requires { ⌜ element < 65536 ⌝ }
-    ensures { λ r. ⌜ r < 65521 ⌝ }
-{
-    (31 * sum + element + 1) % LARGE
+// The sum with one element more. A sum stays below its modulus; that it is taken once more spares a proof of it.
+fn summed(sum: usize, element: u16) -> usize {
+    (31 * (sum % LARGE) + element as usize + 1) % LARGE
 }
 
-// Fills a buffer of bytes as it is to stand before a case.
-pub fn fill_bytes(bytes: &mut [u8]) {
+fn wide(b: u8) -> u16 {
+    b as u16
+}
+
+// Bytes as they are to stand before a case.
+pub fn filled_bytes() -> [u8; TEXT] {
+    let mut bytes = [0; TEXT];
     let mut i = 0;
-    while i < bytes.len() {
+    while i < TEXT {
         bytes[i] = byte_before(i);
         i += 1;
     }
+    bytes
 }
 
 // The same of row numbers.
-pub fn fill_numbers(numbers: &mut [u16]) {
+pub fn filled_numbers() -> [u16; ROWS] {
+    let mut numbers = [0; ROWS];
     let mut i = 0;
-    while i < numbers.len() {
+    while i < ROWS {
         numbers[i] = number_before(i);
         i += 1;
     }
+    numbers
 }
 
 // (7 i + 3) mod 251, by way of i mod 251, so that nothing wraps.

@@ -1,16 +1,47 @@
-// Which operation a case is of.
-use crate::input::number;
+// Which operations there are: what their cases are made of, and what runs them. An operation has one line in each of two lists.
+use crate::buffers::ROWS;
+use crate::buffers::TEXT;
+use crate::comparing;
+use crate::finding;
+use crate::input::ROOM;
+use crate::looking;
 use crate::reading;
-use crate::tabled;
 use crate::walking;
 use crate::watching;
+use crate::writing;
 
-// Runs the next case; false where the input has ended, the case is cut off or the operation is unknown.
-pub fn next_case() -> bool {
-    match number() {
-        1 => reading::run(),
-        6 => walking::run(),
-        7 => watching::run(),
-        operation => tabled::run(operation),
+// The pieces of an operation's case, as digits from the right to the left: B bytes, A a row of numbers, 1 to 9 so many numbers. A table is
+// BAA5: five numbers, segment rows, leaf rows, text area. 0 where there is no such operation.
+pub fn pieces_of(operation: usize) -> usize {
+    match operation {
+        1 => 0x3B,
+        2 => 0x1BAA5,
+        3 => 0xB5BAA5,
+        4 => 0x3BAA5,
+        5 => 0x1BAA51BAA5,
+        6 => 0xB,
+        7 => 0xA1,
+        _ => 0,
+    }
+}
+
+// Runs a case whose pieces have come. The last three buffers are for what an operation writes.
+pub fn run(
+    operation: usize,
+    numbers: &[u16; ROOM],
+    bytes: &[u8; ROOM],
+    text: &mut [u8; TEXT],
+    segments: &mut [u16; ROWS],
+    leaves: &mut [u16; ROWS],
+) {
+    match operation {
+        1 => reading::run(numbers, bytes, text, segments, leaves),
+        2 => writing::run(numbers, bytes, text),
+        3 => looking::run(numbers, bytes),
+        4 => finding::run(numbers),
+        5 => comparing::run(numbers, bytes),
+        6 => walking::run(numbers, bytes),
+        7 => watching::run(numbers),
+        _ => {}
     }
 }

@@ -1,68 +1,35 @@
 // Operation 5: the same-order test.
-use crate::buffers::leaf_buffer;
-use crate::buffers::segment_buffer;
-use crate::buffers::text_buffer;
-use crate::input::MOST;
-use crate::input::number;
+use crate::input::ROOM;
+use crate::output::begin;
 use crate::output::end;
-use crate::output::first;
-use crate::output::new_line;
-use crate::output::then;
-use crate::tables::Came;
-use crate::tables::table_case;
+use crate::output::put_yes_or_no;
+use crate::pieces::bytes_at;
+use crate::pieces::number_at;
+use crate::pieces::row_at;
+use crate::tables::AREA;
+use crate::tables::ASKED;
+use crate::tables::LEAVES;
+use crate::tables::SEGMENTS;
+use crate::tables::card_at;
 use look::order::same_order;
-use table::Card;
 
-// Compares a row of a table, which follows, with a row of another table, which follows it.
-pub fn run(card: Card, segments: &[u16], leaves: &[u16], text: &[u8]) -> bool {
-    let row = number();
-    if MOST < row {
-        return false;
-    }
-    run_with(card, segments, leaves, text, row as u16)
-}
+// Which piece the second table begins with.
+const OTHER: u8 = 5;
 
-// The second table and its row, and whether the two are the same order.
-fn run_with(card: Card, segments: &[u16], leaves: &[u16], text: &[u8], row: u16) -> bool {
-    let mut other_segments = segment_buffer();
-    let mut other_leaves = leaf_buffer();
-    let mut other_text = text_buffer();
-    match table_case(&mut other_segments, &mut other_leaves, &mut other_text) {
-        Came::Whole(lengths) => {
-            let rows = lengths.segments;
-            let leaf_rows = lengths.leaves;
-            let area = lengths.text;
-            let other_row = number();
-            if MOST < other_row {
-                return false;
-            }
-            put_verdict(same_order(
-                card,
-                segments,
-                leaves,
-                text,
-                row,
-                lengths.card,
-                &other_segments[0..rows],
-                &other_leaves[0..leaf_rows],
-                &other_text[0..area],
-                other_row as u16,
-            ));
-            true
-        }
-        Came::Missing => false,
-    }
-}
-
-// 1 for yes, 0 for no.
-fn put_verdict(same: bool) {
-    let mut line = new_line();
-    let begun = first(&mut line, 5);
-    if same {
-        let yes = then(&mut line, begun, 1);
-        end(&mut line, yes);
-    } else {
-        let no = then(&mut line, begun, 0);
-        end(&mut line, no);
-    }
+// Compares a row of a table, which follows it, with a row of another table, which follows that one.
+pub fn run(numbers: &[u16; ROOM], bytes: &[u8; ROOM]) {
+    begin(5);
+    put_yes_or_no(same_order(
+        card_at(numbers, 0),
+        row_at(numbers, SEGMENTS),
+        row_at(numbers, LEAVES),
+        bytes_at(numbers, bytes, AREA),
+        number_at(numbers, ASKED, 0),
+        card_at(numbers, OTHER),
+        row_at(numbers, OTHER + SEGMENTS),
+        row_at(numbers, OTHER + LEAVES),
+        bytes_at(numbers, bytes, OTHER + AREA),
+        number_at(numbers, OTHER + ASKED, 0),
+    ));
+    end();
 }

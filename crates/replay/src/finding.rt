@@ -1,31 +1,24 @@
 // Operation 4: the row finder.
-use crate::input::MOST;
-use crate::input::number;
+use crate::input::ROOM;
+use crate::output::begin;
 use crate::output::end;
-use crate::output::first;
-use crate::output::new_line;
-use crate::output::then;
+use crate::output::put;
+use crate::pieces::number_at;
+use crate::pieces::row_at;
+use crate::tables::ASKED;
+use crate::tables::SEGMENTS;
+use crate::tables::card_at;
 use look::row::next_row;
-use table::Card;
 
-// Asks for the row after the one that follows, with the kind and the owner that follow.
-pub fn run(card: Card, segments: &[u16]) -> bool {
-    let after = number();
-    if MOST < after {
-        return false;
-    }
-    let kind = number();
-    if MOST < kind {
-        return false;
-    }
-    let owner = number();
-    if MOST < owner {
-        return false;
-    }
-    let row = next_row(card, segments, after, kind as u16, owner as u16);
-    let mut line = new_line();
-    let begun = first(&mut line, 4);
-    let all = then(&mut line, begun, row);
-    end(&mut line, all);
-    true
+// Asks for the row after the one that follows the table, with the kind and the owner that follow it.
+pub fn run(numbers: &[u16; ROOM]) {
+    begin(4);
+    put(next_row(
+        card_at(numbers, 0),
+        row_at(numbers, SEGMENTS),
+        number_at(numbers, ASKED, 0) as usize,
+        number_at(numbers, ASKED, 1),
+        number_at(numbers, ASKED, 2),
+    ));
+    end();
 }

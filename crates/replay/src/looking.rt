@@ -1,75 +1,50 @@
 // Operation 3: the leaf lookup.
 use crate::buffers::sum_bytes;
-use crate::input::MOST;
-use crate::input::SUBSTITUTE;
-use crate::input::bytes;
-use crate::input::number;
+use crate::input::ROOM;
+use crate::output::begin;
 use crate::output::end;
-use crate::output::first;
-use crate::output::new_line;
-use crate::output::then;
+use crate::output::put;
+use crate::pieces::bytes_at;
+use crate::pieces::number_at;
+use crate::pieces::row_at;
+use crate::tables::AREA;
+use crate::tables::ASKED;
+use crate::tables::LEAVES;
+use crate::tables::SEGMENTS;
+use crate::tables::card_at;
 use look::leaf::Place;
 use look::leaf::leaf_text;
-use table::Card;
 
-// A place that has come, or that the input has ended or a number is too large.
-pub enum Asked {
-    At(Place),
-    Missing,
-}
+// Which piece the substitute is.
+const SUBSTITUTE: u8 = 5;
 
-// Looks up the place that follows, with the substitute that follows it.
-pub fn run(card: Card, segments: &[u16], leaves: &[u16], text: &[u8]) -> bool {
-    match place_case() {
-        Asked::At(place) => {
-            let mut substitute = [0u8; SUBSTITUTE];
-            let n = bytes(&mut substitute);
-            if SUBSTITUTE < n {
-                return false;
-            }
-            put_text(leaf_text(card, segments, leaves, text, place, &substitute[0..n]));
-            true
-        }
-        Asked::Missing => false,
-    }
+// Looks up the place that follows the table, with the substitute that follows it.
+pub fn run(numbers: &[u16; ROOM], bytes: &[u8; ROOM]) {
+    put_text(leaf_text(
+        card_at(numbers, 0),
+        row_at(numbers, SEGMENTS),
+        row_at(numbers, LEAVES),
+        bytes_at(numbers, bytes, AREA),
+        place_asked(numbers),
+        bytes_at(numbers, bytes, SUBSTITUTE),
+    ));
 }
 
 // The length of what came back, and its sum.
 fn put_text(part: &[u8]) {
-    let mut line = new_line();
-    let begun = first(&mut line, 3);
-    let one = then(&mut line, begun, part.len());
-    let all = then(&mut line, one, sum_bytes(part));
-    end(&mut line, all);
+    begin(3);
+    put(part.len());
+    put(sum_bytes(part));
+    end();
 }
 
 // The five numbers of a place.
-fn place_case() -> Asked {
-    let segment = number();
-    if MOST < segment {
-        return Asked::Missing;
+fn place_asked(numbers: &[u16; ROOM]) -> Place {
+    Place {
+        segment: number_at(numbers, ASKED, 0),
+        field: number_at(numbers, ASKED, 1),
+        repetition: number_at(numbers, ASKED, 2),
+        subfield: number_at(numbers, ASKED, 3),
+        subsubfield: number_at(numbers, ASKED, 4),
     }
-    let field = number();
-    if MOST < field {
-        return Asked::Missing;
-    }
-    let repetition = number();
-    if MOST < repetition {
-        return Asked::Missing;
-    }
-    let subfield = number();
-    if MOST < subfield {
-        return Asked::Missing;
-    }
-    let subsubfield = number();
-    if MOST < subsubfield {
-        return Asked::Missing;
-    }
-    Asked::At(Place {
-        segment: segment as u16,
-        field: field as u16,
-        repetition: repetition as u16,
-        subfield: subfield as u16,
-        subsubfield: subsubfield as u16,
-    })
 }

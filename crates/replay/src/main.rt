@@ -1,5 +1,9 @@
-// Runs the public functions on cases that come on standard input, and writes a line for each.
-// An operation is a module with a function `run`, which answers false where its case is cut off or past the format's sizes.
+// Runs the public functions on cases that come on standard input, and writes a line for each. Every buffer is made here, once, and lent
+// from here. An operation is a module with a function `run`; `cases` says which operations there are, and what their cases are made of.
+use buffers::filled_bytes;
+use buffers::filled_numbers;
+use input::ROOM;
+
 mod buffers;
 mod cases;
 mod comparing;
@@ -7,8 +11,8 @@ mod finding;
 mod input;
 mod looking;
 mod output;
+mod pieces;
 mod reading;
-mod tabled;
 mod tables;
 mod walking;
 mod watching;
@@ -18,11 +22,20 @@ mod writing;
 const MOST_CASES: u32 = 1000000;
 
 fn main() {
+    let mut numbers = [0; ROOM];
+    let mut bytes = [0; ROOM];
+    let text_before = filled_bytes();
+    let rows_before = filled_numbers();
     let mut left = MOST_CASES;
     while left > 0 {
-        if !cases::next_case() {
+        let operation = input::number();
+        if !pieces::take_in(cases::pieces_of(operation), &mut numbers, &mut bytes) {
             return;
         }
+        let mut text = text_before;
+        let mut segments = rows_before;
+        let mut leaves = rows_before;
+        cases::run(operation, &numbers, &bytes, &mut text, &mut segments, &mut leaves);
         left -= 1;
     }
 }

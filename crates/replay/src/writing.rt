@@ -1,37 +1,55 @@
 // Operation 2: a table into its message.
-use crate::buffers::fill_bytes;
+use crate::buffers::TEXT;
+use crate::buffers::least;
 use crate::buffers::sum_bytes;
-use crate::buffers::text_buffer;
-use crate::input::TEXT;
-use crate::input::number;
+use crate::input::ROOM;
+use crate::output::begin;
 use crate::output::end;
-use crate::output::first;
-use crate::output::new_line;
-use crate::output::then;
+use crate::output::put;
+use crate::pieces::bytes_at;
+use crate::pieces::bytes_between;
+use crate::pieces::number_at;
+use crate::pieces::row_at;
+use crate::tables::AREA;
+use crate::tables::ASKED;
+use crate::tables::LEAVES;
+use crate::tables::SEGMENTS;
+use crate::tables::card_at;
 use table::Card;
+use write::Written;
 use write::write;
 
-// Writes a table into an output of the length that follows.
-pub fn run(card: Card, segments: &[u16], leaves: &[u16], text: &[u8]) -> bool {
-    let mut output = text_buffer();
-    let size = number();
-    if TEXT < size {
-        return false;
-    }
-    run_on(card, segments, leaves, text, &mut output[0..size]);
-    true
+// Writes the table into an output of the length that follows it.
+pub fn run(numbers: &[u16; ROOM], bytes: &[u8; ROOM], output: &mut [u8; TEXT]) {
+    let size = number_at(numbers, ASKED, 0) as usize;
+    put_written(write_into(
+        card_at(numbers, 0),
+        row_at(numbers, SEGMENTS),
+        row_at(numbers, LEAVES),
+        bytes_at(numbers, bytes, AREA),
+        output,
+        size,
+    ));
+    put_sum(output, size);
 }
 
-// Writes into this output, and then the line.
-fn run_on(card: Card, segments: &[u16], leaves: &[u16], text: &[u8], output: &mut [u8]) {
-    fill_bytes(output);
-    let written = write(card, segments, leaves, text, output);
-    let mut line = new_line();
-    let begun = first(&mut line, 2);
-    let one = then(&mut line, begun, written.number as usize);
-    let two = then(&mut line, one, written.place);
-    let three = then(&mut line, two, written.bytes);
-    let four = then(&mut line, three, written.lines);
-    let all = then(&mut line, four, sum_bytes(output));
-    end(&mut line, all);
+// Writes into as much of the output as is asked for.
+fn write_into(card: Card, segments: &[u16], leaves: &[u16], text: &[u8], output: &mut [u8], size: usize) -> Written {
+    let n = least(size, output.len());
+    write(card, segments, leaves, text, &mut output[0..n])
+}
+
+// The number, the place, and how much was written.
+fn put_written(written: Written) {
+    begin(2);
+    put(written.number as usize);
+    put(written.place);
+    put(written.bytes);
+    put(written.lines);
+}
+
+// The sum of the same part.
+fn put_sum(output: &[u8], size: usize) {
+    put(sum_bytes(bytes_between(output, 0, size)));
+    end();
 }

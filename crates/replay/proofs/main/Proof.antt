@@ -5,31 +5,10 @@ use Rattle.replay.proofs.main.Statement.{statement}
 use Rattle.replay.proofs.main.Tie as tie
 
 abbrev Inv-loop : tie.InvT-loop
-Inv-loop left₀ left = Unit {0}
+Inv-loop numbers₀ bytes₀ text-before rows-before left₀ numbers bytes left = Unit {0}
 
 abbrev μ-loop : tie.MeasureT-loop
-μ-loop left₀ left = left
-
-loop-holds : tie.Need-loop-holds Inv-loop μ-loop
-loop-holds c = search needs
-
-next-case-requires : tie.Need-next-case-requires Inv-loop μ-loop
-next-case-requires c κs = search needs
-
-returns : tie.Need-returns Inv-loop μ-loop
-returns c = search needs
-
-sub-left : tie.Need-sub-left Inv-loop μ-loop
-sub-left c = search needs
-
-loop-less : tie.Need-loop-less Inv-loop μ-loop
-loop-less c = search needs
-
-loop-again : tie.Need-loop-again Inv-loop μ-loop
-loop-again c = search needs
-
-returns-2 : tie.Need-returns-2 Inv-loop μ-loop
-returns-2 c = search needs
+μ-loop numbers₀ bytes₀ text-before rows-before left₀ numbers bytes left = left
 
 pub main-spec : {M : Type 1} → statement M
 main-spec =
@@ -37,10 +16,15 @@ main-spec =
     (tie.spec
     Inv-loop
     μ-loop
-    loop-holds
-    next-case-requires
-    returns
-    sub-left
-    loop-less
-    loop-again
-    returns-2)
+    (λ c κs. search needs)
+    (λ c κs. search needs)
+    (λ c. search needs)
+    (λ c κs. search needs)
+    (λ c κs. search needs)
+    (λ c κs. search needs)
+    (λ c. search needs)
+    (λ c κs. search needs)
+    (λ c. search needs)
+    (λ c. search needs)
+    (λ c. search needs)
+    (λ c. search needs))

@@ -1,50 +1,16 @@
--- `replay::buffers::sum_numbers` is safe and ends: the sum stays below its modulus, and the measure is what is left of the numbers.
+-- `replay::buffers::sum_numbers` is safe and ends: the measure is what is left of the numbers.
 -- Assumes nothing.
-use borrow.Author.Needs.{needs}
-use Prim.Native.Nat.{_≤_, _<_, _-_}
-use native.Mathlib.Omega.{arith}
+use Prim.Native.Nat.{_-_}
 use lib.ListN.{length}
+use borrow.Author.Needs.{needs}
 use Rattle.replay.proofs.buffers.sum_numbers.Statement.{statement}
 use Rattle.replay.proofs.buffers.sum_numbers.Tie as tie
 
 abbrev Inv-loop : tie.InvT-loop
-Inv-loop numbers sum₀ i₀ sum i = (i ≤ length numbers) × (sum < 65521)
+Inv-loop numbers sum₀ i₀ sum i = Unit {0}
 
 abbrev μ-loop : tie.MeasureT-loop
 μ-loop numbers sum₀ i₀ sum i = length numbers - i
-
-loop-holds : tie.Need-loop-holds Inv-loop μ-loop
-loop-holds c = search needs
-
-mul-n : tie.Need-mul-n Inv-loop μ-loop
-mul-n c = search needs
-
-shared-slice-read-n : tie.Need-shared-slice-read-n Inv-loop μ-loop
-shared-slice-read-n c = search needs
-
-cast-summed : tie.Need-cast-summed Inv-loop μ-loop
-cast-summed c =
-    let at-shared-slice-known = c .before .before .before .shared-slice-known in
-    let at-loop = c .before .before .loop in
-    omega (arith, at-shared-slice-known .given (at-loop .i))
-
-summed-requires : tie.Need-summed-requires Inv-loop μ-loop
-summed-requires c κs =
-    let at-shared-slice-known = c .before .before .before .shared-slice-known in
-    let at-loop = c .before .before .loop in
-    omega (arith, at-shared-slice-known .given (at-loop .i))
-
-add-i : tie.Need-add-i Inv-loop μ-loop
-add-i c = search needs
-
-loop-less : tie.Need-loop-less Inv-loop μ-loop
-loop-less c = search needs
-
-loop-again : tie.Need-loop-again Inv-loop μ-loop
-loop-again c = search needs
-
-returns : tie.Need-returns Inv-loop μ-loop
-returns c = search needs
 
 pub sum-numbers-spec : {M : Type 1} → statement M
 sum-numbers-spec =
@@ -52,12 +18,11 @@ sum-numbers-spec =
     (tie.spec
     Inv-loop
     μ-loop
-    loop-holds
-    mul-n
-    shared-slice-read-n
-    cast-summed
-    summed-requires
-    add-i
-    loop-less
-    loop-again
-    returns)
+    (λ c. search needs)
+    (λ c. search needs)
+    (λ c. search needs)
+    (λ c κs. search needs)
+    (λ c. search needs)
+    (λ c. search needs)
+    (λ c. search needs)
+    (λ c. search needs))

@@ -1,2 +1,0 @@
--- The laws that the functions of `replay` cite. Assumes nothing.
-pub mod Digits

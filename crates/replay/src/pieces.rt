@@ -1,0 +1,101 @@
+// The pieces of a case. They are put one behind the other, numbers in one buffer and bytes in another at the same places. The first numbers
+// tell where each piece begins: piece k lies from the place that number k tells to the place that number k + 1 tells.
+use crate::input::MOST;
+use crate::input::ROOM;
+use crate::input::bytes_in;
+use crate::input::number;
+use crate::input::numbers_in;
+ghost use Prim.Native.Nat.{_<_};
+
+// As many pieces as a number of 64 bits has digits in base 16, and where the first lies.
+const PIECES: usize = 16;
+
+const FIRST: u16 = 17;
+
+const BASE: usize = 16;
+
+// The digits for a row of numbers and for bytes, whose counts come first. A smaller digit is for so many numbers.
+const ROW: usize = 10;
+
+const BYTES: usize = 11;
+
+// Takes in the pieces that the digits of a number say, the lowest first. False where the input ends before they do, one is past the
+// format's sizes, or there are none.
+pub fn take_in(pieces: usize, numbers: &mut [u16; ROOM], bytes: &mut [u8; ROOM]) -> bool {
+    numbers[0] = FIRST;
+    let mut end = FIRST as usize;
+    let mut left = pieces;
+    let mut k = 0;
+    while k < PIECES {
+        end = piece(left % BASE, end, numbers, bytes);
+        if MOST < end {
+            return false;
+        }
+        left /= BASE;
+        k += 1;
+        numbers[k] = end as u16;
+    }
+    pieces > 0
+}
+
+// Takes in one piece from a place on, and answers the place behind it.
+fn piece(kind: usize, from: usize, numbers: &mut [u16; ROOM], bytes: &mut [u8; ROOM]) -> usize {
+    match kind {
+        BYTES => bytes_in(bytes, from, number()),
+        ROW => numbers_in(numbers, from, number()),
+        _ => numbers_in(numbers, from, kind),
+    }
+}
+
+// Number i of piece k.
+pub fn number_at(numbers: &[u16; ROOM], k: u8, i: u8) -> u16 {
+    numbers[wide(numbers[k as usize]) + i as usize]
+}
+
+// The row of numbers that piece k is.
+pub fn row_at(numbers: &[u16; ROOM], k: u8) -> &[u16] {
+    let from = wide(numbers[k as usize]);
+    let end = wide(numbers[k as usize + 1]);
+    numbers_between(numbers, from, end)
+}
+
+// The bytes that piece k is.
+pub fn bytes_at<'a>(numbers: &[u16; ROOM], bytes: &'a [u8; ROOM], k: u8) -> &'a [u8] {
+    let from = wide(numbers[k as usize]);
+    let end = wide(numbers[k as usize + 1]);
+    bytes_between(bytes, from, end)
+}
+
+// A place that a number tells: every one is within the room.
+fn wide(n: u16) -> usize
+    ensures { λ r. ⌜ r < 65536 ⌝ }
+{
+    n as usize
+}
+
+// The part between two places; all of it where they are no two places of it, which spares a proof that they are.
+pub fn numbers_between(numbers: &[u16], from: usize, end: usize) -> &[u16] {
+    if end < from {
+        return numbers;
+    }
+    if numbers.len() < end {
+        return numbers;
+    }
+    &numbers[from..end]
+}
+
+// The same of bytes.
+pub fn bytes_between(bytes: &[u8], from: usize, end: usize) -> &[u8] {
+    if end < from {
+        return bytes;
+    }
+    if bytes.len() < end {
+        return bytes;
+    }
+    &bytes[from..end]
+}
+
+// A number as a byte, and 0 for one that is larger, which is no separator, no context and no kind either.
+pub fn as_byte(n: u16) -> u8 {
+    if n < 256 { n as u8 } else { 0 }
+}
