@@ -4,7 +4,9 @@ use crate::buffers::TEXT;
 use crate::comparing;
 use crate::finding;
 use crate::input::ROOM;
+use crate::input::number;
 use crate::looking;
+use crate::pieces::take_in;
 use crate::reading;
 use crate::walking;
 use crate::watching;
@@ -12,7 +14,7 @@ use crate::writing;
 
 // The pieces of an operation's case, as digits from the right to the left: B bytes, A a row of numbers, 1 to 9 so many numbers. A table is
 // BAA5: five numbers, segment rows, leaf rows, text area. 0 where there is no such operation.
-pub fn pieces_of(operation: usize) -> usize {
+fn pieces_of(operation: usize) -> usize {
     match operation {
         1 => 0x3B,
         2 => 0x1BAA5,
@@ -25,8 +27,25 @@ pub fn pieces_of(operation: usize) -> usize {
     }
 }
 
+// Takes in the next case and runs it; false where there is none.
+pub fn next_case(
+    numbers: &mut [u16; ROOM],
+    bytes: &mut [u8; ROOM],
+    text: &mut [u8; TEXT],
+    segments: &mut [u16; ROWS],
+    leaves: &mut [u16; ROWS],
+) -> bool {
+    let operation = number();
+    if take_in(pieces_of(operation), numbers, bytes) {
+        run(operation, numbers, bytes, text, segments, leaves);
+        true
+    } else {
+        false
+    }
+}
+
 // Runs a case whose pieces have come. The last three buffers are for what an operation writes.
-pub fn run(
+fn run(
     operation: usize,
     numbers: &[u16; ROOM],
     bytes: &[u8; ROOM],

@@ -2,6 +2,7 @@
 // from here. An operation is a module with a function `run`; `cases` says which operations there are, and what their cases are made of.
 use buffers::filled_bytes;
 use buffers::filled_numbers;
+use cases::next_case;
 use input::ROOM;
 
 mod buffers;
@@ -26,16 +27,23 @@ fn main() {
     let mut bytes = [0; ROOM];
     let text_before = filled_bytes();
     let rows_before = filled_numbers();
+    let mut text = text_before;
+    let mut segments = rows_before;
+    let mut leaves = rows_before;
     let mut left = MOST_CASES;
     while left > 0 {
-        let operation = input::number();
-        if !pieces::take_in(cases::pieces_of(operation), &mut numbers, &mut bytes) {
+        if !next_case(
+            &mut numbers,
+            &mut bytes,
+            &mut text,
+            &mut segments,
+            &mut leaves,
+        ) {
             return;
         }
-        let mut text = text_before;
-        let mut segments = rows_before;
-        let mut leaves = rows_before;
-        cases::run(operation, &numbers, &bytes, &mut text, &mut segments, &mut leaves);
+        text = text_before;
+        segments = rows_before;
+        leaves = rows_before;
         left -= 1;
     }
 }

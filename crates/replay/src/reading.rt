@@ -27,7 +27,15 @@ pub fn run(
     let area = number_at(numbers, 1, 0) as usize;
     let rows = number_at(numbers, 1, 1) as usize;
     let leaf_rows = number_at(numbers, 1, 2) as usize;
-    put_answer(read_into(bytes_at(numbers, bytes, 0), text, area, segments, rows, leaves, leaf_rows));
+    put_answer(read_into(
+        bytes_at(numbers, bytes, 0),
+        text,
+        area,
+        segments,
+        rows,
+        leaves,
+        leaf_rows,
+    ));
     put_sums(text, area, segments, rows, leaves, leaf_rows);
 }
 
@@ -44,7 +52,12 @@ fn read_into(
     let a = least(area, text.len());
     let b = least(rows, segments.len());
     let c = least(leaf_rows, leaves.len());
-    read(message, &mut text[0..a], &mut segments[0..b], &mut leaves[0..c])
+    read(
+        message,
+        &mut text[0..a],
+        &mut segments[0..b],
+        &mut leaves[0..c],
+    )
 }
 
 // The number, the place and the card.
@@ -64,7 +77,14 @@ fn put_card(card: Card) {
 }
 
 // The sums of the same parts.
-fn put_sums(text: &[u8], area: usize, segments: &[u16], rows: usize, leaves: &[u16], leaf_rows: usize) {
+fn put_sums(
+    text: &[u8],
+    area: usize,
+    segments: &[u16],
+    rows: usize,
+    leaves: &[u16],
+    leaf_rows: usize,
+) {
     put(sum_bytes(bytes_between(text, 0, area)));
     put(sum_numbers(numbers_between(segments, 0, rows)));
     put(sum_numbers(numbers_between(leaves, 0, leaf_rows)));

@@ -1,5 +1,5 @@
 // Operation 6: the line walk. A function that holds a `line::walk::Walk` would need a proof by hand, so the walk is taken here by what
-// `look`, `part` and `go_on` hand on: `line_at`, `line_part` and the next place.
+// `look`, `part` and `go_on` hand on: `line_at`, `line_part` and `next_place` at the walk's message and place.
 use crate::buffers::sum_bytes;
 use crate::input::ROOM;
 use crate::output::begin;
@@ -9,48 +9,42 @@ use crate::pieces::bytes_at;
 use line::finder::Found;
 use line::finder::line_at;
 use line::finder::line_part;
+use line::finder::next_place;
 
-// Walks over the lines of the message.
+// What each call gives until one gives the end or a fault, which stay where they are, and for two calls more.
 pub fn run(numbers: &[u16; ROOM], bytes: &[u8; ROOM]) {
+    let message = bytes_at(numbers, bytes, 0);
     begin(6);
-    walk(bytes_at(numbers, bytes, 0));
+    let at = walk(message);
+    put_call(message, at);
+    put_call(message, at);
     end();
 }
 
-// What each call gives until one stays where it is, which the end and a fault do, and two calls more. No message has as many lines as
-// there is room for bytes: that ends the loop with no proof that a line goes on.
-fn walk(message: &[u8]) {
+// Walks until a call stays where it is, and answers that place. No message has as many lines as there is room for bytes: that ends the
+// loop with no proof that a line goes on.
+fn walk(message: &[u8]) -> usize {
     let mut at = 0;
     let mut left = ROOM;
     while left > 0 {
         let next = put_call(message, at);
         if next == at {
-            put_call(message, at);
-            put_call(message, at);
-            return;
+            return at;
         }
         at = next;
         left -= 1;
     }
+    at
 }
 
 // What the call at a place gives; answers the next place.
 fn put_call(message: &[u8], at: usize) -> usize {
     match line_at(message, at) {
-        Found::Line { end: _, next } => {
-            put_line(line_part(message, at));
-            next
-        }
-        Found::End => {
-            put(0);
-            at
-        }
-        Found::Fault { number, place } => {
-            put(number as usize);
-            put(place);
-            at
-        }
+        Found::Line { end: _, next: _ } => put_line(line_part(message, at)),
+        Found::End => put(0),
+        Found::Fault { number, place } => put_fault(number, place),
     }
+    next_place(message, at)
 }
 
 // For a line 1, its length and its sum.
@@ -58,4 +52,10 @@ fn put_line(part: &[u8]) {
     put(1);
     put(part.len());
     put(sum_bytes(part));
+}
+
+// For a fault its number and its place.
+fn put_fault(number: u8, place: usize) {
+    put(number as usize);
+    put(place);
 }

@@ -34,7 +34,14 @@ pub fn run(numbers: &[u16; ROOM], bytes: &[u8; ROOM], output: &mut [u8; TEXT]) {
 }
 
 // Writes into as much of the output as is asked for.
-fn write_into(card: Card, segments: &[u16], leaves: &[u16], text: &[u8], output: &mut [u8], size: usize) -> Written {
+fn write_into(
+    card: Card,
+    segments: &[u16],
+    leaves: &[u16],
+    text: &[u8],
+    output: &mut [u8],
+    size: usize,
+) -> Written {
     let n = least(size, output.len());
     write(card, segments, leaves, text, &mut output[0..n])
 }

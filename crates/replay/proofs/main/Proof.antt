@@ -5,10 +5,10 @@ use Rattle.replay.proofs.main.Statement.{statement}
 use Rattle.replay.proofs.main.Tie as tie
 
 abbrev Inv-loop : tie.InvT-loop
-Inv-loop numbers₀ bytes₀ text-before rows-before left₀ numbers bytes left = Unit {0}
+Inv-loop numbers₀ bytes₀ text-before rows-before text₀ segments₀ leaves₀ left₀ numbers bytes text segments leaves left = Unit {0}
 
 abbrev μ-loop : tie.MeasureT-loop
-μ-loop numbers₀ bytes₀ text-before rows-before left₀ numbers bytes left = left
+μ-loop numbers₀ bytes₀ text-before rows-before text₀ segments₀ leaves₀ left₀ numbers bytes text segments leaves left = left
 
 pub main-spec : {M : Type 1} → statement M
 main-spec =
@@ -20,10 +20,7 @@ main-spec =
     (λ c κs. search needs)
     (λ c. search needs)
     (λ c κs. search needs)
-    (λ c κs. search needs)
-    (λ c κs. search needs)
     (λ c. search needs)
-    (λ c κs. search needs)
     (λ c. search needs)
     (λ c. search needs)
     (λ c. search needs)
