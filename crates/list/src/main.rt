@@ -26,12 +26,6 @@ fn print_listing(message: &[u8]) {
     let mut segments = [0; SEGMENTS];
     let mut leaves = [0; LEAVES];
     let mut listing = [0; SIZE];
-    let bytes = list(
-        message,
-        &mut text,
-        &mut segments,
-        &mut leaves,
-        &mut listing,
-    );
+    let bytes = list(message, &mut text, &mut segments, &mut leaves, &mut listing);
     io::write_all(STDOUT_FILENO, &listing[0..bytes]);
 }
