@@ -49,34 +49,24 @@ fn wide(b: u8) -> u16 {
     b as u16
 }
 
-// Bytes as they are to stand before a case.
+// Bytes as they are to stand before a case: (7 i + 3) mod 251.
 pub fn filled_bytes() -> [u8; TEXT] {
     let mut bytes = [0; TEXT];
     let mut i = 0;
     while i < TEXT {
-        bytes[i] = byte_before(i);
+        bytes[i] = ((7 * i + 3) % SMALL) as u8;
         i += 1;
     }
     bytes
 }
 
-// The same of row numbers.
+// Row numbers likewise: (13 i + 5) mod 65,521.
 pub fn filled_numbers() -> [u16; ROWS] {
     let mut numbers = [0; ROWS];
     let mut i = 0;
     while i < ROWS {
-        numbers[i] = number_before(i);
+        numbers[i] = ((13 * i + 5) % LARGE) as u16;
         i += 1;
     }
     numbers
-}
-
-// (7 i + 3) mod 251, by way of i mod 251, so that nothing wraps.
-fn byte_before(i: usize) -> u8 {
-    ((7 * (i % SMALL) + 3) % SMALL) as u8
-}
-
-// (13 i + 5) mod 65,521, likewise.
-fn number_before(i: usize) -> u16 {
-    ((13 * (i % LARGE) + 5) % LARGE) as u16
 }

@@ -25,7 +25,13 @@ pub fn run(numbers: &[u16; ROOM], bytes: &[u8; ROOM]) {
         row_at(numbers, SEGMENTS),
         row_at(numbers, LEAVES),
         bytes_at(numbers, bytes, AREA),
-        place_asked(numbers),
+        Place {
+            segment: number_at(numbers, ASKED, 0),
+            field: number_at(numbers, ASKED, 1),
+            repetition: number_at(numbers, ASKED, 2),
+            subfield: number_at(numbers, ASKED, 3),
+            subsubfield: number_at(numbers, ASKED, 4),
+        },
         bytes_at(numbers, bytes, SUBSTITUTE),
     ));
 }
@@ -36,15 +42,4 @@ fn put_text(part: &[u8]) {
     put(part.len());
     put(sum_bytes(part));
     end();
-}
-
-// The five numbers of a place.
-fn place_asked(numbers: &[u16; ROOM]) -> Place {
-    Place {
-        segment: number_at(numbers, ASKED, 0),
-        field: number_at(numbers, ASKED, 1),
-        repetition: number_at(numbers, ASKED, 2),
-        subfield: number_at(numbers, ASKED, 3),
-        subsubfield: number_at(numbers, ASKED, 4),
-    }
 }

@@ -1,5 +1,6 @@
 // The pieces of a case. They are put one behind the other, numbers in one buffer and bytes in another at the same places. The first numbers
 // tell where each piece begins: piece k lies from the place that number k tells to the place that number k + 1 tells.
+use crate::buffers::least;
 use crate::input::MOST;
 use crate::input::ROOM;
 use crate::input::bytes_in;
@@ -15,9 +16,9 @@ const FIRST: u16 = 17;
 const BASE: usize = 16;
 
 // The digits for a row of numbers and for bytes, whose counts come first. A smaller digit is for so many numbers.
-const ROW: usize = 10;
+const ROW: usize = 0xA;
 
-const BYTES: usize = 11;
+const BYTES: usize = 0xB;
 
 // Takes in the pieces that the digits of a number say, the lowest first. False where the input ends before they do, one is past the
 // format's sizes, or there are none.
@@ -73,29 +74,16 @@ fn wide(n: u16) -> usize
     n as usize
 }
 
-// The part between two places; all of it where they are no two places of it, which spares a proof that they are.
+// The part between two places, as far as the buffer goes, so that no place asks for a proof.
 pub fn numbers_between(numbers: &[u16], from: usize, end: usize) -> &[u16] {
-    if end < from {
-        return numbers;
-    }
-    if numbers.len() < end {
-        return numbers;
-    }
-    &numbers[from..end]
+    let b = least(end, numbers.len());
+    let a = least(from, b);
+    &numbers[a..b]
 }
 
 // The same of bytes.
 pub fn bytes_between(bytes: &[u8], from: usize, end: usize) -> &[u8] {
-    if end < from {
-        return bytes;
-    }
-    if bytes.len() < end {
-        return bytes;
-    }
-    &bytes[from..end]
-}
-
-// A number as a byte, and 0 for one that is larger, which is no separator, no context and no kind either.
-pub fn as_byte(n: u16) -> u8 {
-    if n < 256 { n as u8 } else { 0 }
+    let b = least(end, bytes.len());
+    let a = least(from, b);
+    &bytes[a..b]
 }

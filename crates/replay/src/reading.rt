@@ -14,7 +14,6 @@ use crate::pieces::number_at;
 use crate::pieces::numbers_between;
 use read::Answer;
 use read::read;
-use table::Card;
 
 // Reads the message into buffers of the lengths that follow it.
 pub fn run(
@@ -60,15 +59,12 @@ fn read_into(
     )
 }
 
-// The number, the place and the card.
+// The number, the place and the card's five numbers.
 fn put_answer(answer: Answer) {
+    let card = answer.card;
     begin(1);
     put(answer.number as usize);
     put(answer.place);
-    put_card(answer.card);
-}
-
-fn put_card(card: Card) {
     put(card.separator as usize);
     put(card.context as usize);
     put(card.segments);
@@ -78,11 +74,11 @@ fn put_card(card: Card) {
 
 // The sums of the same parts.
 fn put_sums(
-    text: &[u8],
+    text: &[u8; TEXT],
     area: usize,
-    segments: &[u16],
+    segments: &[u16; ROWS],
     rows: usize,
-    leaves: &[u16],
+    leaves: &[u16; ROWS],
     leaf_rows: usize,
 ) {
     put(sum_bytes(bytes_between(text, 0, area)));

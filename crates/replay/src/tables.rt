@@ -1,6 +1,5 @@
 // A table among the pieces of a case: five numbers, the segment rows, the leaf rows, the text area. A case that has one begins with it.
 use crate::input::ROOM;
-use crate::pieces::as_byte;
 use crate::pieces::number_at;
 use table::Card;
 
@@ -13,11 +12,11 @@ pub const AREA: u8 = 3;
 
 pub const ASKED: u8 = 4;
 
-// The card whose five numbers are piece k.
+// The card whose five numbers are piece k. The first two are below 256, which the remainder says to the proof.
 pub fn card_at(numbers: &[u16; ROOM], k: u8) -> Card {
     Card {
-        separator: as_byte(number_at(numbers, k, 0)),
-        context: as_byte(number_at(numbers, k, 1)),
+        separator: (number_at(numbers, k, 0) % 256) as u8,
+        context: (number_at(numbers, k, 1) % 256) as u8,
         segments: number_at(numbers, k, 2) as usize,
         leaves: number_at(numbers, k, 3) as usize,
         text: number_at(numbers, k, 4) as usize,

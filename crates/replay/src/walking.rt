@@ -37,25 +37,21 @@ fn walk(message: &[u8]) -> usize {
     at
 }
 
-// What the call at a place gives; answers the next place.
+// What the call at a place gives: for a line 1, its length and its sum, for the end 0, for a fault its number and its place. Answers the
+// next place.
 fn put_call(message: &[u8], at: usize) -> usize {
     match line_at(message, at) {
-        Found::Line { end: _, next: _ } => put_line(line_part(message, at)),
+        Found::Line { end: _, next: _ } => {
+            let part = line_part(message, at);
+            put(1);
+            put(part.len());
+            put(sum_bytes(part));
+        }
         Found::End => put(0),
-        Found::Fault { number, place } => put_fault(number, place),
+        Found::Fault { number, place } => {
+            put(number as usize);
+            put(place);
+        }
     }
     next_place(message, at)
-}
-
-// For a line 1, its length and its sum.
-fn put_line(part: &[u8]) {
-    put(1);
-    put(part.len());
-    put(sum_bytes(part));
-}
-
-// For a fault its number and its place.
-fn put_fault(number: u8, place: usize) {
-    put(number as usize);
-    put(place);
 }

@@ -3,7 +3,6 @@ use crate::input::ROOM;
 use crate::output::begin;
 use crate::output::end;
 use crate::output::put_yes_or_no;
-use crate::pieces::as_byte;
 use crate::pieces::number_at;
 use crate::pieces::row_at;
 use order::watcher::Watcher;
@@ -11,16 +10,16 @@ use order::watcher::Watcher;
 // Tells a watcher, begun with the context, the kinds that follow it.
 pub fn run(numbers: &[u16; ROOM]) {
     begin(7);
-    tell_all(as_byte(number_at(numbers, 0, 0)), row_at(numbers, 1));
+    tell_all((number_at(numbers, 0, 0) % 256) as u8, row_at(numbers, 1));
     end();
 }
 
-// What the watcher says to each kind.
+// What the watcher says to each kind. Contexts and kinds are below 256, which the remainder says to the proof.
 fn tell_all(context: u8, kinds: &[u16]) {
     let mut watcher = Watcher::begin(context);
     let mut i = 0;
     while i < kinds.len() {
-        let told = watcher.tell(as_byte(kinds[i]));
+        let told = watcher.tell((kinds[i] % 256) as u8);
         watcher = told.watcher;
         put_yes_or_no(told.yes);
         i += 1;

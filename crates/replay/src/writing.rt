@@ -30,7 +30,8 @@ pub fn run(numbers: &[u16; ROOM], bytes: &[u8; ROOM], output: &mut [u8; TEXT]) {
         output,
         size,
     ));
-    put_sum(output, size);
+    put(sum_bytes(bytes_between(output, 0, size)));
+    end();
 }
 
 // Writes into as much of the output as is asked for.
@@ -53,10 +54,4 @@ fn put_written(written: Written) {
     put(written.place);
     put(written.bytes);
     put(written.lines);
-}
-
-// The sum of the same part.
-fn put_sum(output: &[u8], size: usize) {
-    put(sum_bytes(bytes_between(output, 0, size)));
-    end();
 }
