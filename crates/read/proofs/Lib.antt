@@ -10,7 +10,6 @@ pub mod StartLaws
 pub mod SeenLaws
 pub mod UnderwayLaws
 pub mod NotingLaws
-pub mod KindLookup
 pub mod SegmentLaws
 pub mod BegunLaws
 pub mod LeftLaws

@@ -29,7 +29,7 @@ use Rattle.read.specs.Starting.{textFrom}
 use Rattle.read.specs.Laying.{nextSegment, NextFits, Lays}
 use Rattle.read.specs.Filling.{segmentsIn, tableIn, Fillable, Filled}
 use Rattle.read.specs.Segments.{kindNoted, Closable, ClosedBy, begunAfter, lineText, lineAfter, LineFilled, closedRows, Begun, Came, Stands, AtLine}
-use Rattle.read.proofs.KindLookup.{kind-found}
+use Rattle.read.proofs.NotingLaws.{kind-found}
 use Rattle.read.proofs.BegunLaws.{leaves-some, begun-leaves, begun-own, begun-joined, closed-rows, begun-next, begun-ends}
 use Rattle.read.proofs.StartLaws.{begins-segment, carries-on, carried-from, from-past}
 use Rattle.read.proofs.LeftLaws.{Readable, line-clear, addendum-within, segment-within, addendum-left, segment-left, leaves-left, leaves-line}
