@@ -22,7 +22,7 @@ use Rattle.table.proofs.Classes.{class-text, class-sort, class-no-CR}
 use Rattle.table.proofs.Flat.{raised-later}
 use Rattle.table.proofs.Places.{raisedAt, raised-first}
 use Rattle.read.specs.declared.lay.Laying.{Laying}
-use Rattle.read.specs.Scan.{plainRun}
+use Rattle.read.specs.Scanning.{plainRun}
 use Rattle.read.specs.Laying.{leafPlace, nextLeaf}
 use Rattle.read.proofs.PlainLaws.{plain-text, plain-none}
 

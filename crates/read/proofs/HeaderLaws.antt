@@ -26,11 +26,11 @@ use Rattle.table.specs.OnePass.{passOver}
 use Rattle.table.proofs.HeaderBytes.{header-bytes, header-clear}
 use Rattle.table.proofs.Growing.{count-leaves}
 use Rattle.read.specs.declared.fill.Filling.{Filling}
-use Rattle.read.specs.Scan.{run}
+use Rattle.read.specs.Scanning.{run}
 use Rattle.read.specs.Filling.{Prepared}
 use Rattle.read.specs.Segments.{HeaderPut, lineText, lineAfter, closedRows, Begun, AtLine}
 use Rattle.read.proofs.LeftLaws.{no-addendum, line-within, first-line, left-begins, leaves-line}
-use Rattle.read.proofs.StartLaws.{header-text}
+use Rattle.read.proofs.Starting.{header-text}
 use Rattle.read.proofs.StandLaws.{readable}
 
 module _ {m : List ℕ} {ps : Separators} (s : SoundHeader m ps) where

@@ -38,10 +38,10 @@ use Rattle.table.specs.Filed.{Filed}
 use Rattle.table.proofs.Filing.{text-clear}
 use Rattle.table.proofs.Growing.{filed-grows, leaves-grow}
 use Rattle.table.specs.Classes.{classTable}
-use Rattle.read.specs.Scan.{run, marks}
+use Rattle.read.specs.Scanning.{run, marks}
 use Rattle.read.specs.Filling.{segmentsIn}
 use Rattle.read.specs.Segments.{lineText, lineAfter}
-use Rattle.read.proofs.ScanLaws.{run-text, marks-separators}
+use Rattle.read.proofs.Scanning.{run-text, marks-separators}
 
 -- the text that a list begins with has no CR
 run-clear : (s : List ℕ) → Without CR (take (textRun s) s)

@@ -6,7 +6,7 @@ use Prim.Native.Nat.{ℕ, _-_}
 use lib.ListN.{set}
 use borrow.Author.Needs.{needs}
 use Rattle.order.specs.Watcher.{listed}
-use Rattle.read.proofs.SeenLaws.{closed-as}
+use Rattle.read.proofs.Seeing.{closed-as}
 use Rattle.read.proofs.survey.Survey.closed.Statement.{statement}
 use Rattle.read.proofs.survey.Survey.closed.Tie as tie
 

@@ -32,14 +32,14 @@ use Rattle.table.proofs.HeaderBytes.{header-bytes}
 use Rattle.read.specs.declared.survey.Survey.{Survey}
 use Rattle.read.specs.declared.survey.Step.the-variants.{On}
 use Rattle.table.specs.Classes.{classTable}
-use Rattle.read.specs.Scan.{run, marks}
+use Rattle.read.specs.Scanning.{run, marks}
 use Rattle.read.specs.Starting.{textFrom}
 use Rattle.read.specs.Seeing.{nothingSeen, withText, segmentShut, segmentBegun}
 use Rattle.read.specs.Surveying.{Known}
 use Rattle.read.specs.Underway.{Seen, Underway, LineBegun, StepOf}
-use Rattle.read.proofs.ScanLaws.{run-text, marks-separators}
-use Rattle.read.proofs.StartLaws.{addendum-other, addendum-view, begins-segment, carries-on, carried-from, header-text}
-use Rattle.read.proofs.SeenLaws.{seen-begins, seen-text, seen-next, seen-closed}
+use Rattle.read.proofs.Scanning.{run-text, marks-separators}
+use Rattle.read.proofs.Starting.{addendum-other, addendum-view, begins-segment, carries-on, carried-from, header-text}
+use Rattle.read.proofs.Seeing.{seen-begins, seen-text, seen-next, seen-closed}
 
 -- a line at `at` of the message m
 module _ (L : Limits) (ps : Separators) (m : List ℕ) (at : ℕ) (s : Survey) where

@@ -20,7 +20,7 @@ use Rattle.line.specs.Finding.{textRun}
 use Rattle.line.proofs.Runs.{textRun-nil, textRun-more, textRun-stop}
 use Rattle.table.specs.Classes.{classTable}
 use Rattle.table.proofs.Classes.{class-at, class-low, class-high, sort-within, sort-none, sort-some}
-use Rattle.read.specs.Scan.{run, marks}
+use Rattle.read.specs.Scanning.{run, marks}
 use Rattle.read.proofs.PlainLaws.{run-more, run-none as run-stop, marks-text, marks-more, marks-none as marks-stop}
 
 -- of no bytes

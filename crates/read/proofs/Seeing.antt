@@ -43,7 +43,7 @@ use Rattle.read.specs.Naming.{fresh, withBytes}
 use Rattle.read.specs.Seeing.{nothingSeen, contextWith, withText, kindSeen, contextSeen, watching, toldNow, segmentShut, segmentBegun}
 use Rattle.read.specs.Surveying.{placeSeen, Known}
 use Rattle.read.specs.Underway.{Seen}
-use Rattle.read.proofs.NameLaws.{numberPacked, letter-kept, byte-separator, byte-letter, bytes-none, bytes-more, bytes-settled, bytes-append, segment-kind, header-context}
+use Rattle.read.proofs.Naming.{numberPacked, letter-kept, byte-separator, byte-letter, bytes-none, bytes-more, bytes-settled, bytes-append, segment-kind, header-context}
 
 -- the context's letters, and the watcher: only the first segment matters
 module _ (s : Survey) where

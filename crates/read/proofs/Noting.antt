@@ -27,8 +27,8 @@ use Rattle.read.specs.Noting.{Noted}
 use Rattle.read.specs.Seeing.{nothingSeen, kindSeen}
 use Rattle.read.specs.Starting.{textFrom}
 use Rattle.read.specs.Underway.{Underway, LineBegun}
-use Rattle.read.proofs.StartLaws.{begins-segment}
-use Rattle.read.proofs.SeenLaws.{kind-seen}
+use Rattle.read.proofs.Starting.{begins-segment}
+use Rattle.read.proofs.Seeing.{kind-seen}
 
 module _ (ps : Separators) (segments : List (List ℕ)) where
   -- of no segment nothing need be noted
