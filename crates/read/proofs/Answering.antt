@@ -44,7 +44,7 @@ module _ {L : Limits} {message class kinds : List ℕ} {d : Decision} (text segm
     accepts-table : reading L (levelIn table) (roomOf text segments leaves) message ≡ accepted (tableIn L table (d .separators) message)
     accepts-table = w .stands (levelIn table) ∙ decided-accepts L message d (levelIn table) yes
 
-    pub accepted-prepared : LevelsBelow table → Prepared L class kinds table (d .separators) (d .context) message text segments leaves
+    pub accepted-prepared : LevelsBelow (levelIn table) → Prepared L class kinds table (d .separators) (d .context) message text segments leaves
     accepted-prepared below =
         let room = roomOf text segments leaves in
         let roomy = accepting L (levelIn table) room message (tableIn L table (d .separators) message) .0 accepts-table .roomy in

@@ -22,7 +22,7 @@ use Rattle.table.specs.Classes.{classTable}
 use Rattle.read.specs.Filling.{segmentsIn}
 use Rattle.read.specs.Deciding.{refusedAt, acceptedBy, decideIf, decideAt, decisionOf, decided, Accepts, DecidesAs}
 use Rattle.read.specs.Noting.{Noted}
-use Rattle.read.specs.Surveying.{Known, placeSeen}
+use Rattle.read.specs.Surveying.{SegmentsKnown, placeSeen}
 
 -- the place of refusal 10 by what was seen
 module _ (s : Survey) where
@@ -283,7 +283,7 @@ module _ (L : Limits) (ps : Separators) (message class kinds : List ℕ) where
       message-fault L levels message ps (λ e. fault .1 (fault .0 ∙ e)) ∙ ap₂ refused (sym (fault .0)) (sym (fault .2)))
 
   module _ (fits : FitsRows L) (header : headerOf message ≡ Sound ps) (bytes : length message ≤ L .bytes) (notes : L .segments ≤ length kinds)
-      (classes : class ≡ classTable ps) (sound : faultNumber (walk L message) ≡ 0) {s : Survey} (known : Known ps (segmentsIn L ps message) s)
+      (classes : class ≡ classTable ps) (sound : faultNumber (walk L message) ≡ 0) {s : Survey} (known : SegmentsKnown ps (segmentsIn L ps message) s)
       (noted : Noted ps (segmentsIn L ps message) (s .segments) kinds) where
     tests-seen : (levels : ℕ → ℕ → ℕ) → ofMessage L levels message ps ≡ testsSeen L s (tableOf levels ps (segmentsIn L ps message))
     unfolding judged

@@ -29,14 +29,14 @@ use Rattle.read.specs.declared.fill.Filling.{Filling}
 use Rattle.read.specs.Scanning.{run}
 use Rattle.read.specs.Filling.{Prepared}
 use Rattle.read.specs.Segments.{HeaderPut, lineText, lineAfter, closedRows, Begun, AtLine}
-use Rattle.read.proofs.LeftLaws.{no-addendum, line-within, first-line, left-begins, leaves-line}
-use Rattle.read.proofs.Starting.{header-text}
+use Rattle.read.proofs.LeftLaws.{no-addendum, line-fits, first-line, left-begins, leaves-line}
+use Rattle.read.proofs.Starting.{header-seven}
 use Rattle.read.proofs.StandLaws.{readable}
 
 module _ {m : List ℕ} {ps : Separators} (s : SoundHeader m ps) where
   -- all seven header bytes are text
   pub header-run : 7 ≤ textRun m
-  header-run = omega (arith, textRun-take 7 m, ap textRun (header-bytes ps m s), header-text ps m s)
+  header-run = omega (arith, textRun-take 7 m, ap textRun (header-bytes ps m s), header-seven ps m s)
 
   pub header-first : addendum (ps .field) m ≡ false
   header-first = no-addendum (ps .field) m (λ e. let h = s .letter in omega arith)
@@ -61,7 +61,7 @@ module _ {L : Limits} {class kinds levels : List ℕ} {ps : Separators} {context
   first-within : 7 + run class (drop 7 m) < length m
   first-within =
       let s = readable (y .given) bytes in
-      line-within s (first-line s (omega (arith, header .long))) 7 (header-run header)
+      line-fits s (first-line s (omega (arith, header .long))) 7 (header-run header)
 
   -- there is room for the header's bytes and rows
   pub header-fits : (5 ≤ length text₀) × (leafRowSize + leafRowSize ≤ length leaves₀)

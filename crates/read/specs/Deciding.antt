@@ -11,6 +11,7 @@ use Rattle.form.specs.declared.separators.Separators.{Separators}
 use Rattle.form.specs.declared.separators.Header.the-variants.{Sound}
 use Rattle.form.specs.Header.{headerOf}
 use Rattle.form.specs.Numbers.{manySegments, unknownKind, noContext, misplacedKind, manyLeaves}
+use Rattle.order.specs.Levels.{levelIn}
 use Rattle.table.specs.Rows.{FitsRows, allLeaves, tableOf}
 use Rattle.table.specs.Reading.{Outcome, refused, accepted}
 use Rattle.read.specs.declared.decide.Decision.{Decision}
@@ -85,7 +86,7 @@ pub record Decidable (L : Limits) (class kinds : List ℕ) : Type 0 where
   pub notes : L .segments ≤ length kinds
 
 -- the same once tests 1 to 3 are passed
-pub record Headed (L : Limits) (ps : Separators) (message class kinds : List ℕ) : Type 0 where
+pub record HeaderPassed (L : Limits) (ps : Separators) (message class kinds : List ℕ) : Type 0 where
   pub asked : Decidable L class kinds
   pub header : headerOf message ≡ Sound ps
   pub bytes : length message ≤ L .bytes
@@ -93,5 +94,5 @@ pub record Headed (L : Limits) (ps : Separators) (message class kinds : List ℕ
 -- what reading asks: limits that fit the rows, levels below the place above all levels, and room to note the kinds
 pub record ReadsWithin (L : Limits) (levels kinds : List ℕ) : Type 0 where
   pub fits : FitsRows L
-  pub below : LevelsBelow levels
+  pub below : LevelsBelow (levelIn levels)
   pub notes : L .segments ≤ length kinds

@@ -21,8 +21,8 @@ abbrev pub segmentsIn : Limits → Separators → List ℕ → List (List ℕ)
 segmentsIn L ps message = joined (ps .field) (texts (walk L message))
 
 -- all levels lie below the place above all levels
-abbrev pub LevelsBelow : List ℕ → Type 0
-LevelsBelow levels = (c k : ℕ) → levelIn levels c k < 8
+abbrev pub LevelsBelow : (ℕ → ℕ → ℕ) → Type 0
+LevelsBelow lv = (context kind : ℕ) → lv context kind < 8
 
 -- what deciding has shown of a message that it accepts: its numbers fit the rows, and its kinds are noted
 pub record Fillable (L : Limits) (class kinds : List ℕ) (ps : Separators) (context : ℕ) (message : List ℕ) : Type 0 where
@@ -42,7 +42,7 @@ pub record Prepared
     (L : Limits) (class kinds levels : List ℕ) (ps : Separators) (context : ℕ) (message text segments leaves : List ℕ)
     : Type 0 where
   pub given : Fillable L class kinds ps context message
-  pub below : LevelsBelow levels
+  pub below : LevelsBelow (levelIn levels)
   pub textRoom : L .bytes ≤ length text
   pub segmentRoom : L .segments * segmentRowSize ≤ length segments
   pub leafRoom : L .leaves * leafRowSize ≤ length leaves

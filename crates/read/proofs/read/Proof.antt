@@ -24,8 +24,8 @@ form-fits = record { lawful = form-lawful; bytes = lit< tt; segments = lit< tt; 
 levels-are : (table : List ℕ) → table ≡ levelTable → levelIn table ≡ level
 levels-are table e = fun-ext (λ (context : ℕ). fun-ext (λ (kind : ℕ). level-in-this table e context kind))
 
-levels-below : (table : List ℕ) → table ≡ levelTable → LevelsBelow table
-levels-below table e = subst⁻¹ (λ (levels : ℕ → ℕ → ℕ). (context kind : ℕ) → levels context kind < 8) (levels-are table e) level-few
+levels-below : (table : List ℕ) → table ≡ levelTable → LevelsBelow (levelIn table)
+levels-below table e = subst⁻¹ LevelsBelow (levels-are table e) level-few
 
 table-requires : tie.Need-table-requires
 table-requires c κs = search needs
