@@ -26,7 +26,7 @@ use Rattle.line.specs.Lines.{line, CR, space, walkFrom, walk, texts, faultNumbe
 use Rattle.line.specs.Joining.{letterA, addendum, carried, joined}
 use Rattle.line.specs.Finding.{textRun}
 use Rattle.line.specs.Left.{Left, LeftAt}
-use Rattle.line.specs.Sound.{Text, SoundLine}
+use Rattle.line.specs.Sound.{SoundLine}
 use Rattle.line.proofs.Runs.{textRun-nil, textRun-more, textRun-stop, textRun-length}
 use Rattle.line.proofs.Joining.{carried-addendum, carried-segment, joined-addendum, joined-segment}
 use Rattle.line.proofs.Walking.{texts-sound}

@@ -1,7 +1,7 @@
 -- Noting kinds: one kind more is noted where its segment is closed. A line that is no addendum carries nothing on, so the open segment is
 -- then whole: its letters spell the kind of the message's own segment.
 -- Assumes nothing.
-use mathlib.Core.Bool.{true, false}
+use mathlib.Core.Bool.{false}
 use mathlib.Core.List.{List, [], _∷_, _++_, append-nil}
 use mathlib.Core.Logic.{⊎-elim}
 use mathlib.Core.Path.{_≡_, refl, sym, ap, ap₂, _∙_, subst⁻¹}

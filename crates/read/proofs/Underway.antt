@@ -1,8 +1,8 @@
 -- A survey underway: how a line begins that is joined to the open segment or begins the next, what it comes to, and the end.
 -- Assumes nothing.
 use mathlib.Core.Bool.{true, false}
-use mathlib.Core.List.{List, [], _∷_, _++_, append-assoc}
-use mathlib.Core.Path.{_≡_, refl, sym, ap, ap₂, _∙_, subst, subst⁻¹}
+use mathlib.Core.List.{List, [], _∷_, _++_}
+use mathlib.Core.Path.{_≡_, refl, sym, ap, _∙_, subst, subst⁻¹}
 use Prim.Native.Nat.{ℕ, _+_, _-_, _≤_, _<_, min}
 use native.Mathlib.Omega.{arith}
 use lib.ListN.{length, take, drop, length-take, length-drop}
@@ -17,7 +17,7 @@ use Rattle.form.proofs.Packing.{Bytes}
 use Rattle.form.proofs.HeaderRule.{SoundHeader}
 use Rattle.order.specs.Followers.{followers}
 use Rattle.order.specs.Watcher.{listed}
-use Rattle.line.specs.Lines.{Lines, fault, line, walkFrom, walk, texts, faultNumber, faultPlace}
+use Rattle.line.specs.Lines.{fault, line, walkFrom, walk, texts, faultNumber, faultPlace}
 use Rattle.line.specs.Finding.{textRun, foundAt, handedOut, endedLine}
 use Rattle.line.specs.Joining.{letterA, addendum, joined}
 use Rattle.line.specs.declared.finder.Found.the-variants.{Line, Fault}

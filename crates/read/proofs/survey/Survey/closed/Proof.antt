@@ -1,6 +1,5 @@
 -- `Survey::closed` meets its contract: the kind that the packed name stands for is noted and judged, and told to the watcher.
 -- Assumes nothing.
-use mathlib.Core.List.{List}
 use mathlib.Core.Path.{ap, _∙_}
 use Prim.Native.Nat.{ℕ, _-_}
 use lib.ListN.{set}
