@@ -1,9 +1,9 @@
 -- What the class of a byte says of one pass: a byte of class 0 is text, one of class 1 to 4 a separator of that sort.
 -- Assumes nothing.
-use mathlib.Core.Bool.{true, false}
+use mathlib.Core.Bool.{false}
 use mathlib.Core.List.{List, [], _∷_}
 use mathlib.Core.Path.{_≡_, refl, sym, ap, _∙_}
-use Prim.Native.Nat.{ℕ, zero, suc, _<_, _≤_}
+use Prim.Native.Nat.{ℕ, zero, suc, _<_}
 use native.Mathlib.Numerals.{add-one}
 use native.Mathlib.Omega.{arith}
 use lib.Dec.{eqb}
@@ -22,7 +22,7 @@ use Rattle.table.proofs.Classes.{class-text, class-sort, class-no-CR}
 use Rattle.table.proofs.Flat.{raised-later}
 use Rattle.table.proofs.Places.{raisedAt, raised-first}
 use Rattle.read.specs.declared.lay.Laying.{Laying}
-use Rattle.read.specs.Scan.{plainRun}
+use Rattle.read.specs.Scanning.{plainRun}
 use Rattle.read.specs.Laying.{leafPlace, nextLeaf}
 use Rattle.read.proofs.PlainLaws.{plain-text, plain-none}
 

@@ -2,14 +2,12 @@
 -- Assumes nothing.
 use mathlib.Core.Bool.{Bool, true, false}
 use mathlib.Core.List.{List}
-use mathlib.Core.Logic.{⊎-elim}
 use mathlib.Core.Path.{_≡_, refl, sym, ap, ap₂, _∙_, subst⁻¹}
 use Prim.Native.Nat.{ℕ, _+_, _*_, _≤_, _<_}
 use native.Mathlib.Omega.{arith}
 use lib.Dec.{ltb, eqb}
 use lib.ListN.{length}
-use borrow.Author.Tests.{lt-ltb, le-ltb, eq-eqb, ne-eqb}
-use Rattle.laws.proofs.Cases.{less-or-not, equal-or-not}
+use borrow.Author.Tests.{ltb-false, lt-ltb, le-ltb, eq-eqb, ne-eqb}
 use Rattle.form.specs.declared.limits.Limits.{Limits}
 use Rattle.form.specs.declared.separators.Separators.{Separators}
 use Rattle.form.specs.declared.separators.Header.the-variants.{Sound, Broken}
@@ -22,9 +20,9 @@ use Rattle.read.specs.declared.decide.Decision.{Decision}
 use Rattle.read.specs.declared.survey.Survey.{Survey}
 use Rattle.table.specs.Classes.{classTable}
 use Rattle.read.specs.Filling.{segmentsIn}
-use Rattle.read.specs.Deciding.{refusedAt, acceptedBy, decisionOf, decided, DecidesAs}
+use Rattle.read.specs.Deciding.{refusedAt, acceptedBy, decideIf, decideAt, decisionOf, decided, Accepts, DecidesAs}
 use Rattle.read.specs.Noting.{Noted}
-use Rattle.read.specs.Surveying.{Known, placeSeen}
+use Rattle.read.specs.Surveying.{SegmentsKnown, placeSeen}
 
 -- the place of refusal 10 by what was seen
 module _ (s : Survey) where
@@ -40,82 +38,75 @@ module _ (s : Survey) where
   unfolding placeSeen
   place-none h k = rw (eq-eqb (s .misplaced) 0 h, eq-eqb (s .watcher .last) 11 k, placeSeen)
 
+-- a test that refuses, and one that passes
+module _ (n : ℕ) (d : Decision) where
+  if-stops : {b : Bool} → b ≡ true → decideIf b n d ≡ refusedAt n 0
+  unfolding decideIf
+  if-stops h = ap (λ (b : Bool). decideIf b n d) h
+
+  if-goes : {b : Bool} → b ≡ false → decideIf b n d ≡ d
+  unfolding decideIf
+  if-goes h = ap (λ (b : Bool). decideIf b n d) h
+
+  at-stops : {place : ℕ} → (place ≡ 0 → ⊥) → decideAt place n d ≡ refusedAt n place
+  unfolding decideAt
+  at-stops {place} h = rw (ne-eqb place 0 h, decideAt)
+
+  at-goes : {place : ℕ} → place ≡ 0 → decideAt place n d ≡ d
+  unfolding decideAt
+  at-goes {place} h = rw (eq-eqb place 0 h, decideAt)
+
 -- each test in turn
 module _ (L : Limits) (ps : Separators) (s : Survey) where
+  abbrev leaves : ℕ
+  leaves = s .separators + s .segments + 2
+
+  abbrev from-11 : Decision
+  from-11 = decideIf (ltb (L .leaves) leaves) manyLeaves (acceptedBy ps s)
+
+  abbrev from-9 : Decision
+  from-9 = decideIf (eqb (s .watcher .context) 0) noContext (decideAt (placeSeen s) misplacedKind from-11)
+
   pub decision-7 : L .segments < s .segments → decisionOf L ps s ≡ refusedAt manySegments 0
   unfolding decisionOf
-  decision-7 h = rw (lt-ltb (L .segments) (s .segments) h, decisionOf)
+  decision-7 h = if-stops _ _ (lt-ltb (L .segments) (s .segments) h)
 
   module _ (few : s .segments ≤ L .segments) where
-    pub decision-8 : (s .unknown ≡ 0 → ⊥) → decisionOf L ps s ≡ refusedAt unknownKind (s .unknown)
+    past-7 : decisionOf L ps s ≡ decideAt (s .unknown) unknownKind from-9
     unfolding decisionOf
-    decision-8 h = rw (le-ltb (L .segments) (s .segments) few, ne-eqb (s .unknown) 0 h, decisionOf)
+    past-7 = if-goes _ _ (le-ltb (L .segments) (s .segments) few)
+
+    pub decision-8 : (s .unknown ≡ 0 → ⊥) → decisionOf L ps s ≡ refusedAt unknownKind (s .unknown)
+    decision-8 h = past-7 ∙ at-stops _ _ h
 
     module _ (known : s .unknown ≡ 0) where
+      past-8 : decisionOf L ps s ≡ from-9
+      past-8 = past-7 ∙ at-goes _ _ known
+
       pub decision-9 : s .watcher .context ≡ 0 → decisionOf L ps s ≡ refusedAt noContext 0
-      unfolding decisionOf
-      decision-9 h =
-          rw (le-ltb (L .segments) (s .segments) few, eq-eqb (s .unknown) 0 known, eq-eqb (s .watcher .context) 0 h, decisionOf)
+      decision-9 h = past-8 ∙ if-stops _ _ (eq-eqb (s .watcher .context) 0 h)
 
       module _ (context : s .watcher .context ≡ 0 → ⊥) where
-        pub decision-10 : (placeSeen s ≡ 0 → ⊥) → decisionOf L ps s ≡ refusedAt misplacedKind (placeSeen s)
-        unfolding decisionOf
-        decision-10 h =
-            rw
-            (le-ltb (L .segments) (s .segments) few, eq-eqb (s .unknown) 0 known, ne-eqb (s .watcher .context) 0 context, ne-eqb (placeSeen s) 0 h, decisionOf)
+        past-9 : decisionOf L ps s ≡ decideAt (placeSeen s) misplacedKind from-11
+        past-9 = past-8 ∙ if-goes _ _ (ne-eqb (s .watcher .context) 0 context)
 
         pub decision-misplaced : (s .misplaced ≡ 0 → ⊥) → decisionOf L ps s ≡ refusedAt misplacedKind (s .misplaced)
-        decision-misplaced h = decision-10 (λ e. h (sym (place-misplaced s h) ∙ e)) ∙ ap (refusedAt misplacedKind) (place-misplaced s h)
+        decision-misplaced h =
+            past-9 ∙ at-stops _ _ (λ e. h (sym (place-misplaced s h) ∙ e)) ∙ ap (refusedAt misplacedKind) (place-misplaced s h)
 
         pub decision-open : s .misplaced ≡ 0 → (s .watcher .last ≡ 11 → ⊥) → decisionOf L ps s ≡ refusedAt misplacedKind (s .segments + 1)
         decision-open h k =
             let place = place-open s h k in
-            decision-10 (λ e. omega (arith, place)) ∙ ap (refusedAt misplacedKind) place
+            past-9 ∙ at-stops _ _ (λ e. omega (arith, place)) ∙ ap (refusedAt misplacedKind) place
 
         module _ (placed : placeSeen s ≡ 0) where
-          pub decision-11 : L .leaves < s .separators + s .segments + 2 → decisionOf L ps s ≡ refusedAt manyLeaves 0
-          unfolding decisionOf
-          decision-11 h =
-              rw (
-                le-ltb (L .segments) (s .segments) few,
-                eq-eqb (s .unknown) 0 known,
-                ne-eqb (s .watcher .context) 0 context,
-                eq-eqb (placeSeen s) 0 placed,
-                lt-ltb (L .leaves) (s .separators + s .segments + 2) h,
-                decisionOf,
-              )
+          pub decision-11 : L .leaves < leaves → decisionOf L ps s ≡ refusedAt manyLeaves 0
+          decision-11 h = past-9 ∙ at-goes _ _ placed ∙ if-stops _ _ (lt-ltb (L .leaves) leaves h)
 
-          pub decision-0 : s .separators + s .segments + 2 ≤ L .leaves → decisionOf L ps s ≡ acceptedBy ps s
-          unfolding decisionOf
-          decision-0 h =
-              rw (
-                le-ltb (L .segments) (s .segments) few,
-                eq-eqb (s .unknown) 0 known,
-                ne-eqb (s .watcher .context) 0 context,
-                eq-eqb (placeSeen s) 0 placed,
-                le-ltb (L .leaves) (s .separators + s .segments + 2) h,
-                decisionOf,
-              )
+          pub decision-0 : leaves ≤ L .leaves → decisionOf L ps s ≡ acceptedBy ps s
+          decision-0 h = past-9 ∙ at-goes _ _ placed ∙ if-goes _ _ (le-ltb (L .leaves) leaves h)
 
--- a test that refuses, and one that passes
-module _ (number : ℕ) (o : Outcome) where
-  stops-if : {b : Bool} → b ≡ true → refuseIf b number o ≡ refused number 0
-  unfolding refuseIf
-  stops-if h = ap (λ (b : Bool). refuseIf b number o) h
-
-  goes-if : {b : Bool} → b ≡ false → refuseIf b number o ≡ o
-  unfolding refuseIf
-  goes-if h = ap (λ (b : Bool). refuseIf b number o) h
-
-  stops-at : (place : ℕ) → eqb place 0 ≡ false → refuseAt place number o ≡ refused number place
-  unfolding refuseAt
-  stops-at place h = ap (λ (b : Bool). elim b as (λ x. Outcome) [ true ↦ o | false ↦ refused number place ]) h
-
-  goes-at : (place : ℕ) → eqb place 0 ≡ true → refuseAt place number o ≡ o
-  unfolding refuseAt
-  goes-at place h = ap (λ (b : Bool). elim b as (λ x. Outcome) [ true ↦ o | false ↦ refused number place ]) h
-
--- the same tests on five numbers
+-- the same tests on five numbers, and on those that were seen
 abbrev judgedBy : Limits → (count unknown context place leaves : ℕ) → Table → Outcome
 judgedBy L count unknown context place leaves t =
     refuseIf (ltb (L .segments) count) manySegments
@@ -123,83 +114,8 @@ judgedBy L count unknown context place leaves t =
     (refuseIf (eqb context 0) noContext
     (refuseAt place misplacedKind (refuseIf (ltb (L .leaves) leaves) manyLeaves (accepted t)))))
 
-judgedBy-same : (L : Limits) (t : Table) {a a′ b b′ c c′ d d′ e e′ : ℕ} → a ≡ a′ → b ≡ b′ → c ≡ c′ → d ≡ d′ → e ≡ e′
-    → judgedBy L a b c d e t ≡ judgedBy L a′ b′ c′ d′ e′ t
-judgedBy-same L t p q r x y = λ i. judgedBy L (p i) (q i) (r i) (x i) (y i) t
-
--- what the tests of what was seen come to: one refuses, or all pass
 abbrev testsSeen : Limits → Survey → Table → Outcome
 testsSeen L s = judgedBy L (s .segments) (s .unknown) (s .watcher .context) (placeSeen s) (s .separators + s .segments + 2)
-
-data TestsCome (L : Limits) (ps : Separators) (s : Survey) : Decision → Type 0 where
-  refuses : (number place : ℕ) → (number ≡ 0 → ⊥) → ((t : Table) → testsSeen L s t ≡ refused number place) → TestsCome L ps s (refusedAt number place)
-  passes : s .segments ≤ L .segments → s .separators + s .segments + 2 ≤ L .leaves → ((t : Table) → testsSeen L s t ≡ accepted t)
-      → TestsCome L ps s (acceptedBy ps s)
-
-module _ (L : Limits) (ps : Separators) (s : Survey) where
-  abbrev Here : Type 0
-  Here = TestsCome L ps s (decisionOf L ps s)
-
-  abbrev leaves : ℕ
-  leaves = s .separators + s .segments + 2
-
-  module _ (few : s .segments ≤ L .segments) where
-    on-8 : (t : Table) → testsSeen L s t
-        ≡ refuseAt (s .unknown) unknownKind
-        (refuseIf (eqb (s .watcher .context) 0) noContext
-        (refuseAt (placeSeen s) misplacedKind (refuseIf (ltb (L .leaves) leaves) manyLeaves (accepted t))))
-    on-8 t = goes-if _ _ (le-ltb (L .segments) (s .segments) few)
-
-    module _ (known : s .unknown ≡ 0) (context : s .watcher .context ≡ 0 → ⊥) where
-      on-10 : (t : Table) → testsSeen L s t ≡ refuseAt (placeSeen s) misplacedKind (refuseIf (ltb (L .leaves) leaves) manyLeaves (accepted t))
-      on-10 t =
-          on-8 t ∙ goes-at _ _ (s .unknown) (eq-eqb (s .unknown) 0 known) ∙ goes-if _ _ (ne-eqb (s .watcher .context) 0 context)
-
-      by-leaves : placeSeen s ≡ 0 → Here
-      by-leaves placed =
-          let on-11 : (t : Table) → testsSeen L s t ≡ refuseIf (ltb (L .leaves) leaves) manyLeaves (accepted t)
-          = λ t. on-10 t ∙ goes-at _ _ (placeSeen s) (eq-eqb (placeSeen s) 0 placed) in
-          ⊎-elim
-          (λ (many : L .leaves < leaves).
-          subst⁻¹ (TestsCome L ps s) (decision-11 L ps s few known context placed many)
-          (refuses manyLeaves 0 (λ z. omega arith) (λ t. on-11 t ∙ stops-if _ _ (lt-ltb (L .leaves) leaves many))))
-          (λ (all : leaves ≤ L .leaves).
-          subst⁻¹ (TestsCome L ps s) (decision-0 L ps s few known context placed all)
-          (passes few all (λ t. on-11 t ∙ goes-if _ _ (le-ltb (L .leaves) leaves all))))
-          (less-or-not (L .leaves) leaves)
-
-      by-place : Here
-      by-place =
-          ⊎-elim by-leaves
-          (λ (misplaced : placeSeen s ≡ 0 → ⊥).
-          subst⁻¹ (TestsCome L ps s) (decision-10 L ps s few known context misplaced)
-          (refuses misplacedKind (placeSeen s) (λ z. omega arith) (λ t. on-10 t ∙ stops-at _ _ (placeSeen s) (ne-eqb (placeSeen s) 0 misplaced))))
-          (equal-or-not (placeSeen s) 0)
-
-    by-context : s .unknown ≡ 0 → Here
-    by-context known =
-        ⊎-elim
-        (λ (none : s .watcher .context ≡ 0).
-        subst⁻¹ (TestsCome L ps s) (decision-9 L ps s few known none)
-        (refuses noContext 0 (λ z. omega arith)
-        (λ t. on-8 t ∙ goes-at _ _ (s .unknown) (eq-eqb (s .unknown) 0 known) ∙ stops-if _ _ (eq-eqb (s .watcher .context) 0 none))))
-        (by-place known) (equal-or-not (s .watcher .context) 0)
-
-    by-kinds : Here
-    by-kinds =
-        ⊎-elim by-context
-        (λ (unknown : s .unknown ≡ 0 → ⊥).
-        subst⁻¹ (TestsCome L ps s) (decision-8 L ps s few unknown)
-        (refuses unknownKind (s .unknown) (λ z. omega arith) (λ t. on-8 t ∙ stops-at _ _ (s .unknown) (ne-eqb (s .unknown) 0 unknown))))
-        (equal-or-not (s .unknown) 0)
-
-  seen-comes : Here
-  seen-comes =
-      ⊎-elim
-      (λ (many : L .segments < s .segments).
-      subst⁻¹ (TestsCome L ps s) (decision-7 L ps s many)
-      (refuses manySegments 0 (λ z. omega arith) (λ t. stops-if _ _ (lt-ltb (L .segments) (s .segments) many))))
-      by-kinds (less-or-not (L .segments) (s .segments))
 
 -- a decision that refuses stands for its number and its place, one that does not for the table
 module _ (L : Limits) (message : List ℕ) (d : Decision) (levels : ℕ → ℕ → ℕ) where
@@ -219,6 +135,79 @@ unfolding refusedAt
 refusal-decides L message class kinds some same e =
     subst⁻¹ (DecidesAs L message class kinds _) e
     (record { stands = λ levels. same levels ∙ sym (decided-refuses L message _ levels some); accepts = λ z. absurd (some z) })
+
+-- test by test a decision stands for what the outcome's tests say
+module _ (L : Limits) (message : List ℕ) (levels : ℕ → ℕ → ℕ) where
+  decided-if : (b : Bool) {n : ℕ} (d : Decision) → (n ≡ 0 → ⊥)
+      → decided L message (decideIf b n d) levels ≡ refuseIf b n (decided L message d levels)
+  unfolding decideIf refuseIf refusedAt
+  decided-if true {n} d some = decided-refuses L message (refusedAt n 0) levels some
+  decided-if false d some = refl
+
+  decided-at : (place : ℕ) {n : ℕ} (d : Decision) → (n ≡ 0 → ⊥)
+      → decided L message (decideAt place n d) levels ≡ refuseAt place n (decided L message d levels)
+  unfolding decideAt refuseAt refusedAt
+  decided-at place {n} d some = by (eqb place 0)
+    where
+      by : (b : Bool) → decided L message (elim b [ true ↦ d | false ↦ refusedAt n place ]) levels
+          ≡ elim b [ true ↦ decided L message d levels | false ↦ refused n place ]
+      by true = refl
+      by false = decided-refuses L message (refusedAt n place) levels some
+
+  seen-decided : (ps : Separators) (s : Survey)
+      → decided L message (decisionOf L ps s) levels ≡ testsSeen L s (tableOf levels ps (segmentsIn L ps message))
+  unfolding decisionOf acceptedBy
+  seen-decided ps s =
+      decided-if _ _ (λ z. omega arith)
+      ∙ ap (refuseIf (ltb (L .segments) (s .segments)) manySegments)
+      (decided-at (s .unknown) _ (λ z. omega arith)
+      ∙ ap (refuseAt (s .unknown) unknownKind)
+      (decided-if _ _ (λ z. omega arith)
+      ∙ ap (refuseIf (eqb (s .watcher .context) 0) noContext)
+      (decided-at (placeSeen s) _ (λ z. omega arith)
+      ∙ ap (refuseAt (placeSeen s) misplacedKind)
+      (decided-if _ _ (λ z. omega arith)
+      ∙ ap (refuseIf (ltb (L .leaves) (s .separators + s .segments + 2)) manyLeaves) (decided-accepts L message (acceptedBy ps s) levels refl)))))
+
+-- a decision that does not refuse has passed each test
+module _ (n : ℕ) (d : Decision) (some : n ≡ 0 → ⊥) where
+  passed-if : (b : Bool) → decideIf b n d .number ≡ 0 → (b ≡ false) × (decideIf b n d ≡ d)
+  unfolding decideIf refusedAt
+  passed-if true e = absurd (some e)
+  passed-if false e = (refl, refl)
+
+  passed-at : (place : ℕ) → decideAt place n d .number ≡ 0 → decideAt place n d ≡ d
+  unfolding decideAt refusedAt
+  passed-at place = by (eqb place 0)
+    where
+      by : (b : Bool) → (elim b as (λ x. Decision) [ true ↦ d | false ↦ refusedAt n place ]) .number ≡ 0
+          → (elim b as (λ x. Decision) [ true ↦ d | false ↦ refusedAt n place ]) ≡ d
+      by true e = refl
+      by false e = absurd (some e)
+
+number-same : {d c : Decision} → d ≡ c → c .number ≡ d .number
+number-same q = sym (ap (λ (x : Decision). x .number) q)
+
+record Passed (L : Limits) (ps : Separators) (s : Survey) : Type 0 where
+  is : decisionOf L ps s ≡ acceptedBy ps s
+  segments : s .segments ≤ L .segments
+  leaves : s .separators + s .segments + 2 ≤ L .leaves
+
+decision-passed : (L : Limits) (ps : Separators) (s : Survey) → decisionOf L ps s .number ≡ 0 → Passed L ps s
+unfolding decisionOf
+decision-passed L ps s e =
+    let seven = passed-if manySegments _ (λ z. omega arith) (ltb (L .segments) (s .segments)) e in
+    let after = number-same (seven .1) ∙ e in
+    let eight = passed-at unknownKind _ (λ z. omega arith) (s .unknown) after in
+    let nine = passed-if noContext _ (λ z. omega arith) (eqb (s .watcher .context) 0) (number-same eight ∙ after) in
+    let then = number-same (nine .1) ∙ number-same eight ∙ after in
+    let ten = passed-at misplacedKind _ (λ z. omega arith) (placeSeen s) then in
+    let eleven = passed-if manyLeaves _ (λ z. omega arith) (ltb (L .leaves) (s .separators + s .segments + 2)) (number-same ten ∙ then) in
+    record {
+      is = seven .1 ∙ eight ∙ nine .1 ∙ ten ∙ eleven .1;
+      segments = ltb-false (L .segments) (s .segments) (seven .0);
+      leaves = ltb-false (L .leaves) (s .separators + s .segments + 2) (eleven .0);
+    }
 
 -- a message by its lines: judged where they are sound, else refused by its first fault
 module _ (L : Limits) (levels : ℕ → ℕ → ℕ) (message : List ℕ) (ps : Separators) where
@@ -294,38 +283,40 @@ module _ (L : Limits) (ps : Separators) (message class kinds : List ℕ) where
       message-fault L levels message ps (λ e. fault .1 (fault .0 ∙ e)) ∙ ap₂ refused (sym (fault .0)) (sym (fault .2)))
 
   module _ (fits : FitsRows L) (header : headerOf message ≡ Sound ps) (bytes : length message ≤ L .bytes) (notes : L .segments ≤ length kinds)
-      (classes : class ≡ classTable ps) (sound : faultNumber (walk L message) ≡ 0) {s : Survey} (known : Known ps (segmentsIn L ps message) s)
+      (classes : class ≡ classTable ps) (sound : faultNumber (walk L message) ≡ 0) {s : Survey} (known : SegmentsKnown ps (segmentsIn L ps message) s)
       (noted : Noted ps (segmentsIn L ps message) (s .segments) kinds) where
     tests-seen : (levels : ℕ → ℕ → ℕ) → ofMessage L levels message ps ≡ testsSeen L s (tableOf levels ps (segmentsIn L ps message))
     unfolding judged
     tests-seen levels =
         message-judged L levels message ps sound
-        ∙ judgedBy-same L (tableOf levels ps (segmentsIn L ps message)) (sym (known .count)) (sym (known .unknown)) (sym (known .context)) (sym (known .place)) (sym (known .leaves))
-
-    judged-decides : {d : Decision} → TestsCome L ps s d → DecidesAs L message class kinds (λ levels. ofMessage L levels message ps) d
-    unfolding acceptedBy
-    judged-decides (refuses n p some is) = refusal-decides L message class kinds some (λ levels. tests-seen levels ∙ is _) refl
-    judged-decides (passes few fewLeaves is) =
-        record {
-          stands = λ levels. tests-seen levels ∙ is _ ∙ sym (decided-accepts L message (acceptedBy ps s) levels refl);
-          accepts = λ z. record {
-            fillable =
-                record {
-                  fits = fits;
-                  header = header;
-                  classes = classes;
-                  sound = sound;
-                  bytes = bytes;
-                  few = omega (arith, known .count);
-                  fewLeaves = omega (arith, known .leaves);
-                  named = known .context;
-                  noted = λ i before. noted i (omega (arith, known .count));
-                  all = omega (arith, known .count);
-                };
-            segments = known .count;
-            leaves = known .leaves;
-          };
-        }
+        ∙ sym
+        (λ i. judgedBy L (known .count i) (known .unknown i) (known .context i) (known .place i) (known .leaves i)
+        (tableOf levels ps (segmentsIn L ps message)))
 
     pub survey-decides : {d : Decision} → d ≡ decisionOf L ps s → DecidesAs L message class kinds (λ levels. ofMessage L levels message ps) d
-    survey-decides e = subst⁻¹ (DecidesAs L message class kinds (λ levels. ofMessage L levels message ps)) e (judged-decides (seen-comes L ps s))
+    unfolding acceptedBy
+    survey-decides e =
+        subst⁻¹ (DecidesAs L message class kinds (λ levels. ofMessage L levels message ps)) e
+        (record {
+          stands = λ levels. tests-seen levels ∙ sym (seen-decided L message levels ps s);
+          accepts = λ z.
+              let p = decision-passed L ps s z in
+              subst⁻¹ (Accepts L message class kinds) (p .is)
+              (record {
+                fillable =
+                    record {
+                      fits = fits;
+                      header = header;
+                      classes = classes;
+                      sound = sound;
+                      bytes = bytes;
+                      few = omega (arith, known .count, p .segments);
+                      fewLeaves = omega (arith, known .leaves, p .leaves);
+                      named = known .context;
+                      noted = λ i before. noted i (omega (arith, known .count));
+                      all = omega (arith, known .count, p .segments);
+                    };
+                segments = known .count;
+                leaves = known .leaves;
+              });
+        })

@@ -2,22 +2,20 @@
 -- Assumes nothing.
 use mathlib.Core.Bool.{false}
 use mathlib.Core.List.{List, [], _∷_, _++_}
-use mathlib.Core.Path.{_≡_, refl, sym, ap, _∙_, subst}
+use mathlib.Core.Path.{_≡_, refl, ap, subst}
 use Prim.Native.Nat.{ℕ, _+_, _≤_, _<_}
 use native.Mathlib.Omega.{arith}
-use lib.ListN.{length, drop, take-append-drop}
-use borrow.Author.Tests.{ne-eqb}
+use lib.ListN.{length, drop}
 use Rattle.laws.specs.Lists.{concat}
 use Rattle.laws.specs.Every.{none, also}
 use Rattle.form.specs.declared.limits.Limits.{Limits}
 use Rattle.form.specs.declared.separators.Separators.{Separators}
 use Rattle.form.proofs.HeaderRule.{SoundHeader, sound-header}
 use Rattle.laws.proofs.Bytes.{Bytes}
-use Rattle.line.specs.Lines.{CR}
 use Rattle.line.specs.Joining.{addendum}
 use Rattle.line.specs.Finding.{textRun}
 use Rattle.line.specs.Left.{LeftAt}
-use Rattle.line.proofs.Runs.{textRun-more}
+use Rattle.line.proofs.Runs.{textRun-take}
 use Rattle.order.specs.Levels.{levelIn}
 use Rattle.order.specs.Owning.{noRows, knownAfter}
 use Rattle.table.specs.Leaves.{messageLeaves}
@@ -25,34 +23,20 @@ use Rattle.table.specs.Rows.{leafRowSize, segmentRowsFrom, kindsOf, allLeaves}
 use Rattle.table.specs.Flat.{gluedTo, glued, steps}
 use Rattle.table.specs.Filed.{headerBytes, Filed}
 use Rattle.table.specs.OnePass.{passOver}
-use Rattle.table.proofs.HeaderBytes.{header-bytes}
+use Rattle.table.proofs.HeaderBytes.{header-bytes, header-clear}
 use Rattle.table.proofs.Growing.{count-leaves}
 use Rattle.read.specs.declared.fill.Filling.{Filling}
-use Rattle.read.specs.Scan.{run}
+use Rattle.read.specs.Scanning.{run}
 use Rattle.read.specs.Filling.{Prepared}
 use Rattle.read.specs.Segments.{HeaderPut, lineText, lineAfter, closedRows, Begun, AtLine}
-use Rattle.read.proofs.LeftLaws.{no-addendum, line-within, first-line, left-begins, leaves-line}
+use Rattle.read.proofs.LeftLaws.{no-addendum, line-fits, first-line, left-begins, leaves-line}
+use Rattle.read.proofs.Starting.{header-seven}
 use Rattle.read.proofs.StandLaws.{readable}
 
 module _ {m : List ℕ} {ps : Separators} (s : SoundHeader m ps) where
   -- all seven header bytes are text
   pub header-run : 7 ≤ textRun m
-  unfolding headerBytes
-  header-run =
-      let whole : headerBytes ps ++ drop 7 m ≡ m = ap (λ (t : List ℕ). t ++ drop 7 m) (sym (header-bytes ps m s)) ∙ take-append-drop 7 m in
-      let r : List ℕ = drop 7 m in
-      let a = s .allowed in
-      subst (λ (t : List ℕ). 7 ≤ textRun t) whole
-      (omega (
-        arith,
-        textRun-more 72 (ps .field ∷ ps .subfield ∷ ps .repeater ∷ ps .escape ∷ ps .subsubfield ∷ ps .field ∷ r) (omega arith),
-        textRun-more (ps .field) (ps .subfield ∷ ps .repeater ∷ ps .escape ∷ ps .subsubfield ∷ ps .field ∷ r) (omega (arith, a .field .low)),
-        textRun-more (ps .subfield) (ps .repeater ∷ ps .escape ∷ ps .subsubfield ∷ ps .field ∷ r) (omega (arith, a .subfield .low)),
-        textRun-more (ps .repeater) (ps .escape ∷ ps .subsubfield ∷ ps .field ∷ r) (omega (arith, a .repeater .low)),
-        textRun-more (ps .escape) (ps .subsubfield ∷ ps .field ∷ r) (omega (arith, a .escape .low)),
-        textRun-more (ps .subsubfield) (ps .field ∷ r) (omega (arith, a .subsubfield .low)),
-        textRun-more (ps .field) r (omega (arith, a .field .low)),
-      ))
+  header-run = omega (arith, textRun-take 7 m, ap textRun (header-bytes ps m s), header-seven ps m s)
 
   pub header-first : addendum (ps .field) m ≡ false
   header-first = no-addendum (ps .field) m (λ e. let h = s .letter in omega arith)
@@ -60,21 +44,7 @@ module _ {m : List ℕ} {ps : Separators} (s : SoundHeader m ps) where
   -- so they can be filed
   header-filed : Filed ps (headerBytes ps ∷ [])
   unfolding headerBytes
-  header-filed =
-      let a = s .allowed in
-      record {
-        header = refl;
-        lines =
-            also
-            (also (ne-eqb 72 CR (λ e. omega arith))
-            (also (ne-eqb (ps .field) CR (λ e. omega (arith, a .field .low)))
-            (also (ne-eqb (ps .subfield) CR (λ e. omega (arith, a .subfield .low)))
-            (also (ne-eqb (ps .repeater) CR (λ e. omega (arith, a .repeater .low)))
-            (also (ne-eqb (ps .escape) CR (λ e. omega (arith, a .escape .low)))
-            (also (ne-eqb (ps .subsubfield) CR (λ e. omega (arith, a .subsubfield .low)))
-            (also (ne-eqb (ps .field) CR (λ e. omega (arith, a .field .low))) none)))))))
-            none;
-      }
+  header-filed = record { header = refl; lines = also (header-clear ps (s .allowed)) none }
 
 -- what the second pass starts with
 module _ {L : Limits} {class kinds levels : List ℕ} {ps : Separators} {context : ℕ} {m text₀ segments₀ leaves₀ : List ℕ}
@@ -91,7 +61,7 @@ module _ {L : Limits} {class kinds levels : List ℕ} {ps : Separators} {context
   first-within : 7 + run class (drop 7 m) < length m
   first-within =
       let s = readable (y .given) bytes in
-      line-within s (first-line s (omega (arith, header .long))) 7 (header-run header)
+      line-fits s (first-line s (omega (arith, header .long))) 7 (header-run header)
 
   -- there is room for the header's bytes and rows
   pub header-fits : (5 ≤ length text₀) × (leafRowSize + leafRowSize ≤ length leaves₀)

@@ -25,7 +25,7 @@ use Rattle.line.specs.Lines.{line, CR, space, walkFrom, walk, texts, faultNumbe
 use Rattle.line.specs.Joining.{letterA, addendum, carried, joined}
 use Rattle.line.specs.Finding.{textRun}
 use Rattle.line.specs.Left.{Left, LeftAt}
-use Rattle.line.specs.Sound.{Text, SoundLine}
+use Rattle.line.specs.Sound.{SoundLine}
 use Rattle.line.proofs.Runs.{textRun-nil, textRun-more, textRun-stop, textRun-length}
 use Rattle.line.proofs.Joining.{carried-addendum, carried-segment, joined-addendum, joined-segment}
 use Rattle.line.proofs.Walking.{texts-sound}
@@ -37,10 +37,10 @@ use Rattle.table.specs.Filed.{Filed}
 use Rattle.table.proofs.Filing.{text-clear}
 use Rattle.table.proofs.Growing.{filed-grows, leaves-grow}
 use Rattle.table.specs.Classes.{classTable}
-use Rattle.read.specs.Scan.{run, marks}
+use Rattle.read.specs.Scanning.{run, marks}
 use Rattle.read.specs.Filling.{segmentsIn}
 use Rattle.read.specs.Segments.{lineText, lineAfter}
-use Rattle.read.proofs.ScanLaws.{run-text, marks-separators}
+use Rattle.read.proofs.Scanning.{run-text, marks-separators}
 
 -- the text that a list begins with has no CR
 run-clear : (s : List ℕ) → Without CR (take (textRun s) s)
@@ -115,8 +115,8 @@ module _ {L : Limits} {ps : Separators} {class m : List ℕ} (s : Readable L ps 
         ∙ ap₂ (λ (j : ℕ) (t : List ℕ). take k (drop at m) ++ take j t) (sym run-left) (drop-drop k at m)
 
   -- the text of a line from the k-th byte on ends within the message
-  pub line-within : {at : ℕ} → LineHere L m at → (k : ℕ) → k ≤ textRun (drop at m) → at + k + run class (drop (at + k) m) < length m
-  line-within {at} here k inside = omega (arith, line-ends at k inside, here .ends)
+  pub line-fits : {at : ℕ} → LineHere L m at → (k : ℕ) → k ≤ textRun (drop at m) → at + k + run class (drop (at + k) m) < length m
+  line-fits {at} here k inside = omega (arith, line-ends at k inside, here .ends)
 
   -- a line stands at the message's first byte, and begins the first segment
   pub first-line : 0 < length m → LineHere L m 0
@@ -146,11 +146,11 @@ module _ {L : Limits} {ps : Separators} {class m : List ℕ} (s : Readable L ps 
     left-here = subst (Left (ps .field) (walk L m) done last) (stands-line .goes) left
 
     pub addendum-within : addendum (ps .field) (drop at m) ≡ true → at + 2 + run class (drop (at + 2) m) < length m
-    addendum-within a = line-within stands-line 2 (addendum-text (ps .field) (drop at m) (s .high) a)
+    addendum-within a = line-fits stands-line 2 (addendum-text (ps .field) (drop at m) (s .high) a)
 
     pub segment-within : at + run class (drop at m) < length m
     segment-within =
-        subst (λ (j : ℕ). j + run class (drop j m) < length m) (let e : at + 0 ≡ at = omega arith in e) (line-within stands-line 0 (omega arith))
+        subst (λ (j : ℕ). j + run class (drop j m) < length m) (let e : at + 0 ≡ at = omega arith in e) (line-fits stands-line 0 (omega arith))
 
     -- an addendum is joined to the last segment
     pub addendum-left : addendum (ps .field) (drop at m) ≡ true

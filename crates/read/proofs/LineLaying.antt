@@ -3,7 +3,7 @@
 use mathlib.Core.Bool.{false}
 use mathlib.Core.List.{List, _∷_}
 use mathlib.Core.Path.{_≡_, refl, sym, ap, _∙_, subst⁻¹}
-use Prim.Native.Nat.{ℕ, _+_, _*_, _≤_, _<_}
+use Prim.Native.Nat.{ℕ, _+_, _≤_, _<_}
 use native.Mathlib.Omega.{arith}
 use lib.ListN.{length, drop, getD}
 use lib.Seq.{sets, length-sets}
@@ -17,7 +17,7 @@ use Rattle.table.specs.Flat.{step, steps}
 use Rattle.table.proofs.Passes.{steps-append}
 use Rattle.read.specs.declared.lay.Laying.{Laying}
 use Rattle.read.specs.declared.lay.Laid.{Laid}
-use Rattle.read.specs.Scan.{run, plainRun}
+use Rattle.read.specs.Scanning.{run, plainRun}
 use Rattle.read.specs.Laying.{rowOf, nextLeaf, RowFits, Held, Lays, LaidBy}
 use Rattle.read.proofs.PlainLaws.{plainText, lineFrom, run-split, marks-split, line-split, length-text, no-text, run-turn, run-stop, marks-turn, marks-stop, line-turn}
 use Rattle.read.proofs.ClassLaws.{plain-passes}

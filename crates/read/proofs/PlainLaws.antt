@@ -10,7 +10,7 @@ use lib.ListN.{length, take, drop, getD, length-drop}
 use lib.Seq.{drop-cons, drop-drop, getD-drop, take-add, length-take-le}
 use borrow.Author.Tests.{eqb-true, eqb-false, eq-eqb, ne-eqb}
 use Rattle.laws.proofs.Tests.{Tested, passed, failed, tested}
-use Rattle.read.specs.Scan.{run, marks, plainRun}
+use Rattle.read.specs.Scanning.{run, marks, plainRun}
 
 -- the text, and the line, from the byte i on
 abbrev pub plainText : List ℕ → List ℕ → ℕ → List ℕ
@@ -33,9 +33,9 @@ module _ (class : List ℕ) (b : ℕ) (s : List ℕ) where
   unfolding run
   run-more h = rw (ne-eqb (getD class b 0) 5 h, run)
 
-  pub run-none : getD class b 0 ≡ 5 → run class (b ∷ s) ≡ 0
+  pub run-ended : getD class b 0 ≡ 5 → run class (b ∷ s) ≡ 0
   unfolding run
-  run-none h = rw (eq-eqb (getD class b 0) 5 h, run)
+  run-ended h = rw (eq-eqb (getD class b 0) 5 h, run)
 
   pub marks-text : getD class b 0 ≡ 0 → marks class (b ∷ s) ≡ marks class s
   unfolding marks
@@ -45,9 +45,9 @@ module _ (class : List ℕ) (b : ℕ) (s : List ℕ) where
   unfolding marks
   marks-more h k = rw (ne-eqb (getD class b 0) 5 h, ne-eqb (getD class b 0) 0 k, marks)
 
-  pub marks-none : getD class b 0 ≡ 5 → marks class (b ∷ s) ≡ 0
+  pub marks-ended : getD class b 0 ≡ 5 → marks class (b ∷ s) ≡ 0
   unfolding marks
-  marks-none h = rw (eq-eqb (getD class b 0) 5 h, marks)
+  marks-ended h = rw (eq-eqb (getD class b 0) 5 h, marks)
 
 -- the same at the byte i of a message, as a loop turns
 module _ (class message : List ℕ) (i : ℕ) (within : i < length message) where
@@ -64,14 +64,14 @@ module _ (class message : List ℕ) (i : ℕ) (within : i < length message) wher
   run-turn h = turn (run class) ∙ run-more class (getD message i 0) (drop (i + 1) message) h
 
   pub run-stop : getD class (getD message i 0) 0 ≡ 5 → run class (drop i message) ≡ 0
-  run-stop h = turn (run class) ∙ run-none class (getD message i 0) (drop (i + 1) message) h
+  run-stop h = turn (run class) ∙ run-ended class (getD message i 0) (drop (i + 1) message) h
 
   pub marks-turn : (getD class (getD message i 0) 0 ≡ 5 → ⊥) → (getD class (getD message i 0) 0 ≡ 0 → ⊥)
       → marks class (drop i message) ≡ suc (marks class (drop (i + 1) message))
   marks-turn h k = turn (marks class) ∙ marks-more class (getD message i 0) (drop (i + 1) message) h k
 
   pub marks-stop : getD class (getD message i 0) 0 ≡ 5 → marks class (drop i message) ≡ 0
-  marks-stop h = turn (marks class) ∙ marks-none class (getD message i 0) (drop (i + 1) message) h
+  marks-stop h = turn (marks class) ∙ marks-ended class (getD message i 0) (drop (i + 1) message) h
 
   -- the text from here on begins with this byte; the line's bytes do where it is no end
   pub text-turn : getD class (getD message i 0) 0 ≡ 0

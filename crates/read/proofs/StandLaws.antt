@@ -24,14 +24,14 @@ use Rattle.table.specs.Leaves.{kindOfSegment, messageLeaves}
 use Rattle.table.specs.Rows.{leafRowSize, segmentRowsFrom, leafRowsFrom, textOf, kindsOf, allLeaves, tableOf}
 use Rattle.read.specs.declared.fill.Filling.{Filling}
 use Rattle.read.specs.declared.fill.Line.{Line}
-use Rattle.read.specs.Scan.{run}
+use Rattle.read.specs.Scanning.{run}
 use Rattle.read.specs.Starting.{textFrom}
 use Rattle.read.specs.Laying.{nextSegment, NextFits, Lays}
 use Rattle.read.specs.Filling.{segmentsIn, tableIn, Fillable, Filled}
 use Rattle.read.specs.Segments.{kindNoted, Closable, ClosedBy, begunAfter, lineText, lineAfter, LineFilled, closedRows, Begun, Came, Stands, AtLine}
-use Rattle.read.proofs.KindLookup.{kind-found}
+use Rattle.read.proofs.Noting.{kind-found}
 use Rattle.read.proofs.BegunLaws.{leaves-some, begun-leaves, begun-own, begun-joined, closed-rows, begun-next, begun-ends}
-use Rattle.read.proofs.StartLaws.{begins-segment, carries-on, carried-from, from-past}
+use Rattle.read.proofs.Starting.{begins-segment, carries-on, carried-from, from-past}
 use Rattle.read.proofs.LeftLaws.{Readable, line-clear, addendum-within, segment-within, addendum-left, segment-left, leaves-left, leaves-line}
 
 pub readable : {L : Limits} {class kinds : List ℕ} {ps : Separators} {context : ℕ} {m : List ℕ} → Fillable L class kinds ps context m → Bytes m

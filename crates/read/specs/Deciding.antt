@@ -1,6 +1,6 @@
 -- Deciding, tests 1 to 11: what it comes to, which outcome that stands for, and what filling may then count on.
 -- Assumes nothing.
-use mathlib.Core.Bool.{true, false}
+use mathlib.Core.Bool.{Bool, true, false}
 use mathlib.Core.List.{List}
 use mathlib.Core.Path.{_≡_}
 use Prim.Native.Nat.{ℕ, _+_, _≤_}
@@ -43,29 +43,22 @@ acceptedBy ps s =
       leaves = s .separators + s .segments + 2;
     }
 
--- the first of tests 7 to 11 that refuses, by what was seen, or that none does
+-- a test that refuses with a number at the place 0; one that refuses at a place, where that is not 0
+unfoldable pub decideIf : Bool → ℕ → Decision → Decision
+decideIf true number else = refusedAt number 0
+decideIf false number else = else
+
+unfoldable pub decideAt : ℕ → ℕ → Decision → Decision
+decideAt place number else = elim (eqb place 0) [ true ↦ else | false ↦ refusedAt number place ]
+
+-- tests 7 to 11, by what was seen
 unfoldable pub decisionOf : Limits → Separators → Survey → Decision
 decisionOf L ps s =
-    elim (ltb (L .segments) (s .segments)) [
-      | true ↦ refusedAt manySegments 0
-      | false ↦
-          elim (eqb (s .unknown) 0) [
-            | false ↦ refusedAt unknownKind (s .unknown)
-            | true ↦
-                elim (eqb (s .watcher .context) 0) [
-                  | true ↦ refusedAt noContext 0
-                  | false ↦
-                      elim (eqb (placeSeen s) 0) [
-                        | false ↦ refusedAt misplacedKind (placeSeen s)
-                        | true ↦
-                            elim (ltb (L .leaves) (s .separators + s .segments + 2)) [
-                              | true ↦ refusedAt manyLeaves 0
-                              | false ↦ acceptedBy ps s
-                            ]
-                      ]
-                ]
-          ]
-    ]
+    decideIf (ltb (L .segments) (s .segments)) manySegments
+    (decideAt (s .unknown) unknownKind
+    (decideIf (eqb (s .watcher .context) 0) noContext
+    (decideAt (placeSeen s) misplacedKind
+    (decideIf (ltb (L .leaves) (s .separators + s .segments + 2)) manyLeaves (acceptedBy ps s)))))
 
 -- the outcome that a decision on a message stands for, by any levels
 unfoldable pub decided : Limits → List ℕ → Decision → (ℕ → ℕ → ℕ) → Outcome
@@ -93,7 +86,7 @@ pub record Decidable (L : Limits) (class kinds : List ℕ) : Type 0 where
   pub notes : L .segments ≤ length kinds
 
 -- the same once tests 1 to 3 are passed
-pub record Headed (L : Limits) (ps : Separators) (message class kinds : List ℕ) : Type 0 where
+pub record HeaderPassed (L : Limits) (ps : Separators) (message class kinds : List ℕ) : Type 0 where
   pub asked : Decidable L class kinds
   pub header : headerOf message ≡ Sound ps
   pub bytes : length message ≤ L .bytes

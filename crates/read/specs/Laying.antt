@@ -17,7 +17,7 @@ use Rattle.table.specs.Rows.{leafRowSize, width, leafRowsFrom, textOf}
 use Rattle.read.specs.declared.lay.Laying.{Laying}
 use Rattle.read.specs.declared.lay.Laid.{Laid}
 use Rattle.table.specs.Classes.{classTable}
-use Rattle.read.specs.Scan.{run, marks}
+use Rattle.read.specs.Scanning.{run, marks}
 
 -- the five numbers of the place of the leaf begun
 unfoldable pub leafPlace : Laying → List ℕ

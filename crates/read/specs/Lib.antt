@@ -1,5 +1,5 @@
 pub mod Naming
-pub mod Scan
+pub mod Scanning
 pub mod Laying
 pub mod Starting
 pub mod Noting

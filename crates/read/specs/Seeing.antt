@@ -30,8 +30,8 @@ nothingSeen =
 unfoldable pub contextWith : ℕ → Survey → List ℕ → Name
 contextWith field s t = elim (eqb (s .segments) 1) [ true ↦ withBytes field (s .context) t | false ↦ s .context ]
 
-abbrev pub withText : ℕ → Survey → List ℕ → ℕ → Survey
-withText field s t separators =
+abbrev pub textJoined : ℕ → Survey → List ℕ → ℕ → Survey
+textJoined field s t separators =
     record {
       segments = s .segments;
       separators = s .separators + separators;

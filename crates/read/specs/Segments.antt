@@ -18,7 +18,7 @@ use Rattle.table.specs.Filed.{Filed}
 use Rattle.table.specs.OnePass.{headerPass, passOver}
 use Rattle.read.specs.declared.fill.Filling.{Filling}
 use Rattle.read.specs.declared.fill.Line.{Line}
-use Rattle.read.specs.Scan.{run}
+use Rattle.read.specs.Scanning.{run}
 use Rattle.read.specs.Laying.{rowOf, nextSegment, PlaceCounted, RowFits, Held, LaidBy}
 use Rattle.read.specs.Filling.{Prepared}
 

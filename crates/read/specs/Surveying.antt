@@ -3,7 +3,7 @@
 use mathlib.Core.Bool.{true, false}
 use mathlib.Core.List.{List}
 use mathlib.Core.Path.{_≡_}
-use Prim.Native.Nat.{ℕ, _+_, _≤_}
+use Prim.Native.Nat.{ℕ, _+_}
 use lib.Dec.{eqb}
 use lib.ListN.{length}
 use Rattle.form.specs.declared.limits.Limits.{Limits}
@@ -39,7 +39,7 @@ placeSeen s =
     ]
 
 -- all that tests 7 to 11 ask of the joined segments
-pub record Known (ps : Separators) (joinedSegments : List (List ℕ)) (s : Survey) : Type 0 where
+pub record SegmentsKnown (ps : Separators) (joinedSegments : List (List ℕ)) (s : Survey) : Type 0 where
   pub count : s .segments ≡ length joinedSegments
   pub leaves : s .separators + s .segments + 2 ≡ length (allLeaves ps joinedSegments)
   pub unknown : s .unknown ≡ firstUnknown (kindsOf ps joinedSegments)
@@ -50,7 +50,7 @@ pub record Known (ps : Separators) (joinedSegments : List (List ℕ)) (s : Surve
 abbrev pub SurveyOf : Limits → Separators → List ℕ → List ℕ → Surveyed → Type 0
 SurveyOf L ps message kinds (Whole s) =
     (faultNumber (walk L message) ≡ 0)
-    × Known ps (joined (ps .field) (texts (walk L message))) s
+    × SegmentsKnown ps (joined (ps .field) (texts (walk L message))) s
     × Noted ps (joined (ps .field) (texts (walk L message))) (s .segments) kinds
 SurveyOf L ps message kinds (Fault n p) =
     (n ≡ faultNumber (walk L message)) × (n ≡ 0 → ⊥) × (p ≡ faultPlace (walk L message))

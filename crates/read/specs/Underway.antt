@@ -21,7 +21,7 @@ use Rattle.read.specs.declared.survey.Step.the-variants.{On, Fault}
 use Rattle.read.specs.Naming.{fresh, withBytes}
 
 -- what has been judged of closed segments: the first of unknown kind, the first that may not stand there, the watcher
-pub record Judged (ps : Separators) (segments : List (List ℕ)) (s : Survey) : Type 0 where
+pub record JudgedSoFar (ps : Separators) (segments : List (List ℕ)) (s : Survey) : Type 0 where
   pub unknown : s .unknown ≡ firstUnknown (kindsOf ps segments)
   pub misplaced : s .misplaced ≡ firstNo 1 (begun (contextIn ps segments)) (kindsOf ps segments)
   pub watcher : s .watcher ≡ watched (begun (contextIn ps segments)) (kindsOf ps segments)
@@ -30,7 +30,7 @@ pub record Judged (ps : Separators) (segments : List (List ℕ)) (s : Survey) : 
 pub record Seen (ps : Separators) (done : List (List ℕ)) (last : List ℕ) (s : Survey) : Type 0 where
   pub count : s .segments ≡ suc (length done)
   pub leaves : s .separators + s .segments + 2 ≡ length (allLeaves ps (done ++ last ∷ []))
-  pub judged : Judged ps done s
+  pub judged : JudgedSoFar ps done s
   pub kind : s .kind ≡ withBytes (ps .field) (fresh 1) last
   pub context : s .context ≡ withBytes (ps .field) (fresh 5) (drop 7 (getD (done ++ last ∷ []) 0 []))
   pub header : 7 ≤ length (getD (done ++ last ∷ []) 0 [])

@@ -12,7 +12,7 @@ use table::rows;
 ghost use mathlib.Core.Path.{_≡_};
 ghost use Rattle.table.specs.Rows.{FitsRows};
 ghost use Rattle.table.specs.Reading.{ofMessage, reading};
-ghost use Rattle.read.specs.Deciding.{refusedAt, decisionOf, DecidesAs, Decidable, Headed};
+ghost use Rattle.read.specs.Deciding.{refusedAt, decisionOf, DecidesAs, Decidable, HeaderPassed};
 
 // What deciding comes to: the number and the place of a refusal, all else zero; or 0 and 0, and what the message has.
 pub struct Decision {
@@ -65,7 +65,7 @@ fn decide_sound(
     kinds: &mut [u8],
     message: &[u8],
 ) -> Decision
-    requires { ⌜ Headed limits separators (now message) (now class) (now kinds) ⌝ }
+    requires { ⌜ HeaderPassed limits separators (now message) (now class) (now kinds) ⌝ }
     ensures { λ r. ⌜ DecidesAs limits (now (message .entry)) (now (class .exit)) (now (kinds .exit))
         (λ levels. ofMessage limits levels (now (message .entry)) separators) r ⌝ }
 {

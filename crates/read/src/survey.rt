@@ -17,7 +17,7 @@ ghost use Prim.Native.Nat.{_+_, _-_, _≤_, _<_};
 ghost use lib.ListN.{length, set, take, drop};
 ghost use Rattle.laws.specs.Lists.{firstOf};
 ghost use Rattle.order.specs.Watcher.{followsBy};
-ghost use Rattle.read.specs.Seeing.{nothingSeen, withText, kindSeen, watching, segmentShut, segmentBegun};
+ghost use Rattle.read.specs.Seeing.{nothingSeen, textJoined, kindSeen, watching, segmentShut, segmentBegun};
 ghost use Rattle.read.specs.Underway.{Seeable, StepOf};
 ghost use Rattle.read.specs.Surveying.{Ready, SurveyOf};
 
@@ -80,7 +80,7 @@ impl Survey {
         separators: usize,
     ) -> Survey
         requires { ⌜ (from ≤ end) × (end ≤ length (now message)) × (self .separators + separators ≤ end) ⌝ }
-        ensures { λ r. ⌜ r ≡ withText field self (take (end - from) (drop from (now (message .entry)))) separators ⌝ }
+        ensures { λ r. ⌜ r ≡ textJoined field self (take (end - from) (drop from (now (message .entry)))) separators ⌝ }
     {
         let kind = self.kind;
         let mut next = self;

@@ -1,6 +1,6 @@
 -- `read::decide::decide` meets its contract: tests 1, 2 and 3 in turn, and then the message behind its header.
 -- Assumes nothing.
-use mathlib.Core.Path.{sym, _∙_, subst⁻¹}
+use mathlib.Core.Path.{sym, _∙_}
 use native.Mathlib.Omega.{arith}
 use borrow.Author.Needs.{needs}
 use Rattle.table.specs.Reading.{Room}

@@ -1,6 +1,6 @@
 -- `read::decide::decide_sound` meets its contract: a fault of the lines refuses, else what was seen decides, and the kinds are noted.
 -- Assumes nothing.
-use mathlib.Core.Path.{_≡_, _∙_, subst}
+use mathlib.Core.Path.{_≡_, subst}
 use native.Mathlib.Omega.{arith}
 use borrow.Author.Needs.{needs}
 use Rattle.table.specs.Classes.{classTable}

@@ -5,7 +5,7 @@ use mathlib.Core.Path.{subst⁻¹}
 use Prim.Native.Nat.{_+_, _-_}
 use native.Mathlib.Omega.{arith}
 use borrow.Author.Needs.{needs}
-use Rattle.read.proofs.ScanLaws.{Scanning, scan-begins, scan-stops, scan-marks, scan-passes, scan-ends}
+use Rattle.read.proofs.Scanning.{Scanning, scan-begins, scan-stops, scan-marks, scan-passes, scan-ends}
 use Rattle.read.proofs.scan.scan.Statement.{statement}
 use Rattle.read.proofs.scan.scan.Tie as tie
 

@@ -2,7 +2,7 @@
 -- Assumes nothing.
 use borrow.Author.Needs.{needs}
 use mathlib.Core.Path.{sym}
-use Rattle.read.proofs.StartLaws.{from-past, from-other, from-single, from-unseparated, from-addendum}
+use Rattle.read.proofs.Starting.{from-past, from-other, from-single, from-unseparated, from-addendum}
 use Rattle.read.proofs.start.text_from.Statement.{statement}
 use Rattle.read.proofs.start.text_from.Tie as tie
 

@@ -12,8 +12,8 @@ use Rattle.read.specs.declared.survey.Survey.{Survey}
 use Rattle.read.specs.declared.survey.Step.{Step}
 use Rattle.read.specs.declared.survey.Step.the-variants.{On}
 use Rattle.read.specs.Underway.{StepOf}
-use Rattle.read.proofs.UnderwayLaws.{message-begins, goes-on-from, begins-next, survey-ends}
-use Rattle.read.proofs.NotingLaws.{Noting, noting-begins, noting-goes-on, noting-next, closed-noted, closed-kept}
+use Rattle.read.proofs.Underway.{message-begins, goes-on-from, begins-next, survey-ends}
+use Rattle.read.proofs.Noting.{Noting, noting-begins, noting-goes-on, noting-next, closed-noted, closed-kept}
 use Rattle.read.proofs.survey.survey_message.Statement.{statement}
 use Rattle.read.proofs.survey.survey_message.Tie as tie
 

@@ -2,7 +2,7 @@
 -- Assumes nothing.
 use borrow.Author.Needs.{needs}
 use mathlib.Core.Path.{sym, _∙_}
-use Rattle.read.proofs.NameLaws.{byte-settled, byte-separator, byte-letter, byte-earlier}
+use Rattle.read.proofs.Naming.{byte-settled, byte-separator, byte-letter, byte-earlier}
 use Rattle.read.proofs.name.Name.with_byte.Statement.{statement}
 use Rattle.read.proofs.name.Name.with_byte.Tie as tie
 

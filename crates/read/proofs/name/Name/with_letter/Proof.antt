@@ -2,7 +2,7 @@
 -- Assumes nothing.
 use mathlib.Core.Path.{sym}
 use native.Mathlib.Omega.{arith}
-use Rattle.read.proofs.NameLaws.{letter-kept, letter-many}
+use Rattle.read.proofs.Naming.{letter-kept, letter-many}
 use Rattle.read.proofs.name.Name.with_letter.Statement.{statement}
 use Rattle.read.proofs.name.Name.with_letter.Tie as tie
 

@@ -1,12 +1,11 @@
 -- `Survey::closed` meets its contract: the kind that the packed name stands for is noted and judged, and told to the watcher.
 -- Assumes nothing.
-use mathlib.Core.List.{List}
 use mathlib.Core.Path.{ap, _∙_}
 use Prim.Native.Nat.{ℕ, _-_}
 use lib.ListN.{set}
 use borrow.Author.Needs.{needs}
 use Rattle.order.specs.Watcher.{followsBy}
-use Rattle.read.proofs.SeenLaws.{closed-as}
+use Rattle.read.proofs.Seeing.{closed-as}
 use Rattle.read.proofs.survey.Survey.closed.Statement.{statement}
 use Rattle.read.proofs.survey.Survey.closed.Tie as tie
 

@@ -3,7 +3,7 @@
 use borrow.Author.Needs.{needs}
 use mathlib.Core.Path.{sym, ap, _∙_}
 use Rattle.order.specs.Watcher.{begun}
-use Rattle.read.proofs.SeenLaws.{watching-first, watching-later}
+use Rattle.read.proofs.Seeing.{watching-first, watching-later}
 use Rattle.read.proofs.survey.Survey.watching.Statement.{statement}
 use Rattle.read.proofs.survey.Survey.watching.Tie as tie
 

@@ -3,7 +3,7 @@
 use borrow.Author.Needs.{needs}
 use Prim.Native.Nat.{_-_}
 use lib.ListN.{take, drop}
-use Rattle.read.proofs.SeenLaws.{text-first, text-later}
+use Rattle.read.proofs.Seeing.{text-first, text-later}
 use Rattle.read.proofs.survey.Survey.with_text.Statement.{statement}
 use Rattle.read.proofs.survey.Survey.with_text.Tie as tie
 

@@ -1,13 +1,13 @@
 -- Noting kinds: one kind more is noted where its segment is closed. A line that is no addendum carries nothing on, so the open segment is
 -- then whole: its letters spell the kind of the message's own segment.
 -- Assumes nothing.
-use mathlib.Core.Bool.{true, false}
+use mathlib.Core.Bool.{false}
 use mathlib.Core.List.{List, [], _∷_, _++_, append-nil}
 use mathlib.Core.Logic.{⊎-elim}
 use mathlib.Core.Path.{_≡_, refl, sym, ap, ap₂, _∙_, subst⁻¹}
 use Prim.Native.Nat.{ℕ, suc, _+_, _-_, _≤_, _<_}
 use native.Mathlib.Omega.{arith}
-use lib.ListN.{length, getD, set, drop, length-set}
+use lib.ListN.{length, getD, set, drop, length-append, length-set}
 use lib.Seq.{getD-set-same, getD-set-other}
 use Rattle.laws.proofs.Cases.{equal-or-not}
 use Rattle.form.specs.declared.limits.Limits.{Limits}
@@ -27,8 +27,8 @@ use Rattle.read.specs.Noting.{Noted}
 use Rattle.read.specs.Seeing.{nothingSeen, kindSeen}
 use Rattle.read.specs.Starting.{textFrom}
 use Rattle.read.specs.Underway.{Underway, LineBegun}
-use Rattle.read.proofs.StartLaws.{begins-segment}
-use Rattle.read.proofs.SeenLaws.{kind-seen}
+use Rattle.read.proofs.Starting.{begins-segment}
+use Rattle.read.proofs.Seeing.{kind-seen}
 
 module _ (ps : Separators) (segments : List (List ℕ)) where
   -- of no segment nothing need be noted
@@ -59,6 +59,16 @@ kind-behind : (ps : Separators) (done : List (List ℕ)) (last : List ℕ) (more
 unfolding kindsOf
 kind-behind ps [] last more = refl
 kind-behind ps (h ∷ ds) last more = kind-behind ps ds last more
+
+-- so it is found where it was noted
+pub kind-found : (ps : Separators) {segments : List (List ℕ)} (kinds : List ℕ) → Noted ps segments (length segments) kinds → length segments ≤ length kinds
+    → (before : List (List ℕ)) (s : List ℕ) (after : List (List ℕ)) → segments ≡ before ++ (s ∷ after)
+    → getD kinds (length before) 0 ≡ kindOfSegment ps s
+kind-found ps {segments} kinds noted all before s after whole =
+    let within : length before < length segments = omega (arith, ap length whole, length-append before (s ∷ after)) in
+    noted (length before) within (omega arith)
+    ∙ ap (λ (ss : List (List ℕ)). getD (kindsOf ps ss) (length before) 0) whole
+    ∙ kind-behind ps before s after
 
 -- a line that is no addendum carries nothing on, nor does the end or a fault
 module _ (L : Limits) (f : ℕ) (m : List ℕ) (at : ℕ) (other : addendum f (drop at m) ≡ false) where

@@ -4,7 +4,7 @@ use mathlib.Core.Bool.{true, false}
 use mathlib.Core.List.{List, [], _∷_}
 use mathlib.Core.Logic.{⊎-elim}
 use mathlib.Core.Path.{_≡_, refl, sym, ap, ap₂, _∙_}
-use Prim.Native.Nat.{ℕ, suc, _+_, _-_, _≤_, _<_}
+use Prim.Native.Nat.{ℕ, suc, _+_, _≤_, _<_}
 use native.Mathlib.Omega.{arith}
 use lib.ListN.{length, getD, drop, drop-of-length-le}
 use borrow.Author.Tests.{eqb-true, eq-eqb, ne-eqb}
@@ -102,9 +102,9 @@ module _ (f : ℕ) where
             ∙ past
 
 -- the seven bytes of a sound header are text
-pub header-text : (ps : Separators) (m : List ℕ) → SoundHeader m ps → textRun (headerBytes ps) ≡ 7
+pub header-seven : (ps : Separators) (m : List ℕ) → SoundHeader m ps → textRun (headerBytes ps) ≡ 7
 unfolding headerBytes
-header-text ps m w =
+header-seven ps m w =
     let s = w .allowed in
     textRun-more 72 _ (omega arith)
     ∙ ap suc (textRun-more (ps .field) _ (omega (arith, s .field .low)))

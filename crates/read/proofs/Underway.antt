@@ -1,8 +1,8 @@
 -- A survey underway: how a line begins that is joined to the open segment or begins the next, what it comes to, and the end.
 -- Assumes nothing.
 use mathlib.Core.Bool.{true, false}
-use mathlib.Core.List.{List, [], _∷_, _++_, append-assoc}
-use mathlib.Core.Path.{_≡_, refl, sym, ap, ap₂, _∙_, subst, subst⁻¹}
+use mathlib.Core.List.{List, [], _∷_, _++_}
+use mathlib.Core.Path.{_≡_, refl, sym, ap, _∙_, subst, subst⁻¹}
 use Prim.Native.Nat.{ℕ, _+_, _-_, _≤_, _<_, min}
 use native.Mathlib.Omega.{arith}
 use lib.ListN.{length, take, drop, length-take, length-drop}
@@ -17,7 +17,7 @@ use Rattle.laws.proofs.Bytes.{Bytes}
 use Rattle.form.proofs.HeaderRule.{SoundHeader}
 use Rattle.order.specs.Followers.{followers}
 use Rattle.order.specs.Watcher.{followsBy}
-use Rattle.line.specs.Lines.{Lines, fault, line, walkFrom, walk, texts, faultNumber, faultPlace}
+use Rattle.line.specs.Lines.{fault, line, walkFrom, walk, texts, faultNumber, faultPlace}
 use Rattle.line.specs.Finding.{textRun, foundAt, handedOut, endedLine}
 use Rattle.line.specs.Joining.{letterA, addendum, joined}
 use Rattle.line.specs.declared.finder.Found.the-variants.{Line, Fault}
@@ -32,14 +32,14 @@ use Rattle.table.proofs.HeaderBytes.{header-bytes}
 use Rattle.read.specs.declared.survey.Survey.{Survey}
 use Rattle.read.specs.declared.survey.Step.the-variants.{On}
 use Rattle.table.specs.Classes.{classTable}
-use Rattle.read.specs.Scan.{run, marks}
+use Rattle.read.specs.Scanning.{run, marks}
 use Rattle.read.specs.Starting.{textFrom}
-use Rattle.read.specs.Seeing.{nothingSeen, withText, segmentShut, segmentBegun}
-use Rattle.read.specs.Surveying.{Known}
+use Rattle.read.specs.Seeing.{nothingSeen, textJoined, segmentShut, segmentBegun}
+use Rattle.read.specs.Surveying.{SegmentsKnown}
 use Rattle.read.specs.Underway.{Seen, Underway, LineBegun, StepOf}
-use Rattle.read.proofs.ScanLaws.{run-text, marks-separators}
-use Rattle.read.proofs.StartLaws.{addendum-other, addendum-view, begins-segment, carries-on, carried-from, header-text}
-use Rattle.read.proofs.SeenLaws.{seen-begins, seen-text, seen-next, seen-closed}
+use Rattle.read.proofs.Scanning.{run-text, marks-separators}
+use Rattle.read.proofs.Starting.{addendum-other, addendum-view, begins-segment, carries-on, carried-from, header-seven}
+use Rattle.read.proofs.Seeing.{seen-begins, seen-text, seen-next, seen-closed}
 
 -- a line at `at` of the message m
 module _ (L : Limits) (ps : Separators) (m : List ℕ) (at : ℕ) (s : Survey) where
@@ -206,7 +206,7 @@ module _ {L : Limits} {ps : Separators} {m : List ℕ} {at from : ℕ} {s : Surv
 
   -- the survey goes on behind the line
   pub line-seen : (e n : ℕ) → endedLine m at i ≡ Line e n
-      → StepOf L ps m (s .segments) at (On (withText (ps .field) s (take (e - from) (drop from m)) separators) n)
+      → StepOf L ps m (s .segments) at (On (textJoined (ps .field) s (take (e - from) (drop from m)) separators) n)
   unfolding handedOut
   line-seen e n h =
       let here : e ≡ i = subst (EndedAt i) h (ended-at m at i) in
@@ -263,7 +263,7 @@ message-begins L ps m b wide h =
       few-segments = omega arith;
       few-separators = omega arith;
       some = omega (arith, h .long);
-      text = omega (arith, textRun-take 7 m, ap textRun starts, header-text ps m h);
+      text = omega (arith, textRun-take 7 m, ap textRun starts, header-seven ps m h);
       behind = omega arith;
       within = h .long;
       short = omega (arith, wide);
@@ -272,10 +272,10 @@ message-begins L ps m b wide h =
 -- the last line has been seen: no fault, and all that is asked of the segments is known
 pub survey-ends : {L : Limits} {ps : Separators} {m : List ℕ} {at : ℕ} {s shut : Survey} {table : List ℕ}
     → Underway L ps m at s → table ≡ followers → length m ≤ at → shut ≡ segmentShut (followsBy table) s
-    → (faultNumber (walk L m) ≡ 0) × Known ps (joined (ps .field) (texts (walk L m))) shut
+    → (faultNumber (walk L m) ≡ 0) × SegmentsKnown ps (joined (ps .field) (texts (walk L m))) shut
 survey-ends {L} {ps} {m} {at} {s} {shut} {table} w is past shuts = (
   none-faulty L m at (w .left) past,
-  subst⁻¹ (Known ps (joined (ps .field) (texts (walk L m)))) shuts
-      (subst⁻¹ (λ (ss : List (List ℕ)). Known ps ss (segmentShut (followsBy table) s)) (none-left L m at (w .left) past)
+  subst⁻¹ (SegmentsKnown ps (joined (ps .field) (texts (walk L m)))) shuts
+      (subst⁻¹ (λ (ss : List (List ℕ)). SegmentsKnown ps ss (segmentShut (followsBy table) s)) (none-left L m at (w .left) past)
       (seen-closed ps s table is (w .done) (w .last) (w .seen))),
 )

@@ -5,7 +5,7 @@ use mathlib.Core.Bool.{Bool, not}
 use mathlib.Core.List.{List, [], _∷_, _++_}
 use mathlib.Core.Logic.{⊎-elim}
 use mathlib.Core.Path.{_≡_, refl, sym, ap, ap₂, _∙_}
-use Prim.Native.Nat.{ℕ, suc, _+_, _-_, _≤_, _<_}
+use Prim.Native.Nat.{ℕ, suc, _+_, _≤_, _<_}
 use native.Mathlib.Omega.{arith}
 use lib.Dec.{eqb}
 use lib.ListN.{length, getD, drop, length-append, length-map}
@@ -40,10 +40,10 @@ use Rattle.table.proofs.Counting.{length-allSegments}
 use Rattle.read.specs.declared.name.Name.{Name}
 use Rattle.read.specs.declared.survey.Survey.{Survey}
 use Rattle.read.specs.Naming.{fresh, withBytes}
-use Rattle.read.specs.Seeing.{nothingSeen, contextWith, withText, kindSeen, contextSeen, watching, toldNow, segmentShut, segmentBegun}
-use Rattle.read.specs.Surveying.{placeSeen, Known}
+use Rattle.read.specs.Seeing.{nothingSeen, contextWith, textJoined, kindSeen, contextSeen, watching, toldNow, segmentShut, segmentBegun}
+use Rattle.read.specs.Surveying.{placeSeen, SegmentsKnown}
 use Rattle.read.specs.Underway.{Seen}
-use Rattle.read.proofs.NameLaws.{numberPacked, letter-kept, byte-separator, byte-letter, bytes-none, bytes-more, bytes-settled, bytes-append, segment-kind, header-context}
+use Rattle.read.proofs.Naming.{numberPacked, letter-kept, byte-separator, byte-letter, bytes-none, bytes-more, bytes-settled, bytes-append, segment-kind, header-context}
 
 -- the context's letters, and the watcher: only the first segment matters
 module _ (s : Survey) where
@@ -78,10 +78,10 @@ module _ (s : Survey) (f : ℕ) (t : List ℕ) (n : ℕ) where
       }
 
   pub text-first : {kind context : Name} → s .segments ≡ 1 → kind ≡ withBytes f (s .kind) t → context ≡ withBytes f (s .context) t
-      → textStruct kind context ≡ withText f s t n
+      → textStruct kind context ≡ textJoined f s t n
   text-first h k x = ap₂ textStruct k (x ∙ sym (context-first s f t h))
 
-  pub text-later : {kind : Name} → (s .segments ≡ 1 → ⊥) → kind ≡ withBytes f (s .kind) t → textStruct kind (s .context) ≡ withText f s t n
+  pub text-later : {kind : Name} → (s .segments ≡ 1 → ⊥) → kind ≡ withBytes f (s .kind) t → textStruct kind (s .context) ≡ textJoined f s t n
   text-later h k = ap₂ textStruct k (sym (context-later s f t h))
 
 module _ (s : Survey) (may : ℕ → ℕ → ℕ → Bool) where
@@ -150,7 +150,7 @@ module _ (ps : Separators) where
 
 -- a text joined to the open segment
 module _ (ps : Separators) (s : Survey) (t : List ℕ) (n : ℕ) (all : n ≡ count (among (splitting ps)) t) (b : All (λ (a : ℕ). a < 256) t) where
-  pub seen-text : (done : List (List ℕ)) (last : List ℕ) → Seen ps done last s → Seen ps done (last ++ t) (withText (ps .field) s t n)
+  pub seen-text : (done : List (List ℕ)) (last : List ℕ) → Seen ps done last s → Seen ps done (last ++ t) (textJoined (ps .field) s t n)
   seen-text [] last w =
       record {
         count = w .count;
@@ -279,7 +279,7 @@ module _ (ps : Separators) (s : Survey) (table : List ℕ) (is : table ≡ follo
         ∙ place-by-watcher (contextIn ps (segmentsOf done last)) (kindsOf ps (segmentsOf done last))
 
     -- all segments closed: what tests 7 to 11 ask
-    pub seen-closed : Known ps (segmentsOf done last) (segmentShut (followsBy table) s)
+    pub seen-closed : SegmentsKnown ps (segmentsOf done last) (segmentShut (followsBy table) s)
     seen-closed =
         record {
           count = omega (arith, w .count, length-append done (last ∷ []));

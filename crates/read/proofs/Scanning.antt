@@ -20,8 +20,8 @@ use Rattle.line.specs.Finding.{textRun}
 use Rattle.line.proofs.Runs.{textRun-nil, textRun-more, textRun-stop}
 use Rattle.table.specs.Classes.{classTable}
 use Rattle.table.proofs.Classes.{class-at, class-low, class-high, sort-within, sort-none, sort-some}
-use Rattle.read.specs.Scan.{run, marks}
-use Rattle.read.proofs.PlainLaws.{run-more, run-none as run-stop, marks-text, marks-more, marks-none as marks-stop}
+use Rattle.read.specs.Scanning.{run, marks}
+use Rattle.read.proofs.PlainLaws.{run-more, run-ended, marks-text, marks-more, marks-ended}
 
 -- of no bytes
 pub run-none : (class : List ℕ) → run class [] ≡ 0
@@ -67,8 +67,8 @@ module _ {class m : List ℕ} {from stop : ℕ} where
 
       pub scan-stops : getD class b 0 ≡ 5 → Scans class m from stop i separators
       scan-stops h =
-          let run-left : run class (between m i stop) ≡ 0 = ap (run class) turn ∙ run-stop class b (between m (i + 1) stop) h in
-          let marks-left : marks class (between m i stop) ≡ 0 = ap (marks class) turn ∙ marks-stop class b (between m (i + 1) stop) h in
+          let run-left : run class (between m i stop) ≡ 0 = ap (run class) turn ∙ run-ended class b (between m (i + 1) stop) h in
+          let marks-left : marks class (between m i stop) ≡ 0 = ap (marks class) turn ∙ marks-ended class b (between m (i + 1) stop) h in
           record { end = omega (arith, w .end); marked = omega (arith, w .marked) }
 
       pub scan-marks : (getD class b 0 ≡ 5 → ⊥) → 0 < getD class b 0 → Scanning class m from stop (i + 1) (separators + 1)
@@ -99,7 +99,7 @@ module _ (ps : Separators) where
   run-text [] none = run-none (classTable ps) ∙ sym textRun-nil
   run-text (b ∷ s) (also h w) =
       ⊎-elim
-      (λ (l : b < 32). run-stop (classTable ps) b s (stops-low b h l) ∙ sym (textRun-stop b s l))
+      (λ (l : b < 32). run-ended (classTable ps) b s (stops-low b h l) ∙ sym (textRun-stop b s l))
       (λ (t : 32 ≤ b). run-more (classTable ps) b s (goes-on b h t) ∙ ap suc (run-text s w) ∙ sym (textRun-more b s t))
       (less-or-not b 32)
 
@@ -126,8 +126,8 @@ module _ (ps : Separators) where
   marks-separators [] none = marks-none (classTable ps) ∙ ap (λ (n : ℕ). count (among (splitting ps)) (take n [])) (sym (run-none (classTable ps)))
   marks-separators (b ∷ s) (also h w) =
       ⊎-elim
-      (λ (l : b < 32). marks-stop (classTable ps) b s (stops-low b h l)
-      ∙ ap (λ (n : ℕ). count (among (splitting ps)) (take n (b ∷ s))) (sym (run-stop (classTable ps) b s (stops-low b h l))))
+      (λ (l : b < 32). marks-ended (classTable ps) b s (stops-low b h l)
+      ∙ ap (λ (n : ℕ). count (among (splitting ps)) (take n (b ∷ s))) (sym (run-ended (classTable ps) b s (stops-low b h l))))
       (λ (t : 32 ≤ b). marks-next b s h t (marks-separators s w)
       ∙ ap (λ (n : ℕ). count (among (splitting ps)) (take n (b ∷ s))) (sym (run-more (classTable ps) b s (goes-on b h t))))
       (less-or-not b 32)
