@@ -40,6 +40,9 @@ put-columns-requires c κs =
     record {
       rows-there = pre .rows-there;
       number = pre .number;
+      owner = pre .owner;
+      first = pre .first;
+      count = pre .count;
       room =
           omega (
             arith,
