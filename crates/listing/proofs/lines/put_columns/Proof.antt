@@ -91,23 +91,6 @@ returns c =
 pub put-columns-spec : {M : Type 1} → statement M
 put-columns-spec =
     tie.close
-    (tie.spec
-    mul-row
-    put-byte-requires
-    mul-put-kind
-    shared-slice-read-put-kind
-    put-kind-requires
-    add-put-next
-    mul-put-next
-    shared-slice-read-put-next
-    put-next-requires
-    add-put-next-2
-    mul-put-next-2
-    shared-slice-read-put-next-2
-    put-next-requires-2
-    add-put-next-3
-    mul-put-next-3
-    shared-slice-read-put-next-3
-    put-next-requires-3
-    same-length
-    returns)
+    (tie.spec mul-row put-byte-requires mul-put-kind shared-slice-read-put-kind put-kind-requires add-put-next mul-put-next
+    shared-slice-read-put-next put-next-requires add-put-next-2 mul-put-next-2 shared-slice-read-put-next-2 put-next-requires-2
+    add-put-next-3 mul-put-next-3 shared-slice-read-put-next-3 put-next-requires-3 same-length returns)

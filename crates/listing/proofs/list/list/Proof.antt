@@ -111,18 +111,5 @@ returns-3 c =
 pub list-spec : {M : Type 1} → statement M
 list-spec =
     tie.close
-    (tie.spec
-    returns
-    read-requires
-    put-answer-requires
-    same-length
-    same-length-2
-    same-length-3
-    same-length-4
-    returns-2
-    put-table-requires
-    same-length-5
-    same-length-6
-    same-length-7
-    same-length-8
-    returns-3)
+    (tie.spec returns read-requires put-answer-requires same-length same-length-2 same-length-3 same-length-4 returns-2 put-table-requires
+    same-length-5 same-length-6 same-length-7 same-length-8 returns-3)
