@@ -10,8 +10,8 @@ use lib.Dec.{ltb}
 use lib.ListN.{length, length-append}
 use borrow.Author.Tests.{lt-ltb, le-ltb}
 use Rattle.laws.proofs.Cases.{less-or-not}
-use Rattle.table.specs.Rows.{width}
 use Rattle.listing.specs.Decimal.{digitsWithin, decimal}
+use Rattle.listing.specs.Putting.{sixDigits}
 
 -- a digit is its own text; a number from 10 on is that of a tenth and its last digit
 one-digit : (more n : ℕ) → n < 10 → digitsWithin more n ≡ (48 + n) ∷ []
@@ -70,8 +70,8 @@ unfolding tens
 few-digits zero n h = omega (arith, ap length (decimal-digit n h))
 few-digits (suc k) n h = few-by k n h (few-digits k) (less-or-not n 10)
 
--- a row's number, and one of 64 bits
-pub five-digits : (n : ℕ) → n < width → length (decimal n) ≤ 5
+-- a number below 100,000, and one of 64 bits
+pub five-digits : (n : ℕ) → n < sixDigits → length (decimal n) ≤ 5
 unfolding tens
 five-digits n h = few-digits 4 n (omega arith)
 

@@ -11,6 +11,7 @@ use lib.Dec.{leb}
 use borrow.Author.Tests.{le-ltb, leb-true}
 use Rattle.laws.specs.Lists.{concat}
 use Rattle.laws.specs.Tables.{values}
+use Rattle.laws.proofs.Every.{all-at}
 use Rattle.laws.proofs.Tests.{and-second}
 use Rattle.laws.proofs.Tables.{values-same}
 use Rattle.form.specs.declared.limits.Limits.{Limits}
@@ -31,6 +32,7 @@ use Rattle.write.proofs.RowByRow.{row-by-row}
 use Rattle.write.proofs.LocalTables.{stated-roomy, accepted-local}
 use Rattle.write.proofs.LentTables.{Within, within-buffers, local-within, is-table, table-written-out}
 use Rattle.listing.specs.Listing.{columns, rowLine, rowLines}
+use Rattle.listing.proofs.RowNumbers.{judged-few}
 
 -- what is stored at the front is taken from there
 front-taken : (buffer front : List ℕ) (n : ℕ) → length front ≡ n → length front ≤ length buffer → take n (sets buffer 0 front) ≡ front
@@ -110,6 +112,12 @@ module _ (L : Limits) (lawful : Lawful L) (levels : ℕ → ℕ → ℕ) (messag
   -- the rows in the buffer are listed as those of the table
   number-at : (j : ℕ) → j < t .card .segments * segmentRowSize → getD (sets segments 0 (t .segmentRows)) j 0 ≡ getD (t .segmentRows) j 0
   number-at j h = front-at segments (t .segmentRows) j segments-fit (omega (arith, sized .segmentRows))
+
+  -- and the limits bound them
+  pub filed-numbers : (most : ℕ) → 12 ≤ most → L .segments ≤ most → L .leaves + 1 ≤ most → (j : ℕ) → j < t .card .segments * segmentRowSize
+      → getD (sets segments 0 (t .segmentRows)) j 0 ≤ most
+  filed-numbers most kinds rows few j h =
+      omega (arith, number-at j h, all-at j 0 (judged-few most kinds rows few (passed .segments)) (let g : j < length (t .segmentRows) = omega (arith, sized .segmentRows) in g))
 
   row-listed : (k : ℕ) → k < t .card .segments → rowLine (sets segments 0 (t .segmentRows)) k ≡ rowLine (t .segmentRows) k
   unfolding rowLine columns

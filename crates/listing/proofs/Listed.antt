@@ -5,15 +5,15 @@ use mathlib.Core.List.{List, [], _++_}
 use mathlib.Core.Path.{_≡_, refl, sym, ap, ap₂, _∙_, subst}
 use Prim.Native.Nat.{ℕ, _+_, _*_, _≤_, _<_}
 use native.Mathlib.Omega.{arith}
-use lib.Dec.{ltb}
-use lib.ListN.{length}
+use lib.Dec.{ltb, lit≤}
+use lib.ListN.{length, getD}
 use lib.Seq.{sets, length-sets}
 use borrow.Author.Tests.{lt-ltb, le-ltb}
 use Rattle.form.specs.declared.limits.Limits.{Limits}
 use Rattle.form.specs.Limits.{Lawful}
 use Rattle.form.specs.Numbers.{shortBuffer}
 use Rattle.table.specs.declared.Card.{Card}
-use Rattle.table.specs.Rows.{Table, width}
+use Rattle.table.specs.Rows.{Table}
 use Rattle.table.specs.Reading.{Outcome, refused, accepted, reading}
 use Rattle.table.specs.Back.{written}
 use Rattle.read.specs.declared.Answer.{Answer}
@@ -23,9 +23,9 @@ use Rattle.read.proofs.Acceptance.{number-accepted}
 use Rattle.table.specs.Lent.{lent}
 use Rattle.write.specs.Answer.{writtenSize}
 use Rattle.listing.specs.Listing.{listing, listingSize, listingFor, shown, Lists, ListedAs, answerLines, countLines, rowLines}
-use Rattle.listing.specs.Putting.{Put, PutWithin, RowsReady}
+use Rattle.listing.specs.Putting.{Put, PutWithin, sixDigits, RowsReady}
 use Rattle.listing.proofs.Putting.{put-as, put-then, put-length}
-use Rattle.listing.proofs.Filed.{filed, few-segments, filed-within, filed-size, filed-rows}
+use Rattle.listing.proofs.Filed.{filed, few-segments, filed-within, filed-size, filed-numbers, filed-rows}
 
 -- a buffer that is short, or is not
 module _ (L : Limits) (o : Outcome) (size : ℕ) where
@@ -90,7 +90,7 @@ module _ (L : Limits) (levels : ℕ → ℕ → ℕ) (message text segments leav
       listed-so L (reading L levels (roomOf text segments leaves) message) room read
       (put-as (refused-lines L (reading L levels (roomOf text segments leaves) message) read h) (p .put))
 
-  module _ (lawful : Lawful L) (small : L .segments < width) (h : r .number ≡ 0) where
+  module _ (lawful : Lawful L) (rows : L .segments < sixDigits) (few : L .leaves + 1 < sixDigits) (h : r .number ≡ 0) where
     found : (t : Table) × (reading L levels (roomOf text segments leaves) message ≡ accepted t)
     found =
         number-accepted (reading L levels (roomOf text segments leaves) message) read
@@ -137,12 +137,14 @@ module _ (L : Limits) (levels : ℕ → ℕ → ℕ) (message text segments leav
       unfolding listingSize segmentsPut
       list-ready =
           let count : r .card .segments ≡ table .card .segments = ap (λ (k : Card). k .segments) card-is in
-          let few = few-segments L lawful levels message text segments leaves table (found .1) in
+          let counted = few-segments L lawful levels message text segments leaves table (found .1) in
           let there = filed-within L lawful levels message text segments leaves table (found .1) .segmentRows in
+          let small = filed-numbers L lawful levels message text segments leaves table (found .1) 99999 (lit≤ tt) (omega arith) (omega arith) in
           record {
             rows-there = omega (arith, count, ap length (given .segmentRows), there);
-            number = omega (arith, count, few, small);
-            room = omega (arith, count, few, first .few, put-length (first .put), room);
+            number = omega (arith, count, counted);
+            numbers = λ k less. omega (arith, small k (omega (arith, count, less)), ap (λ (s : List ℕ). getD s k 0) (given .segmentRows));
+            room = omega (arith, count, counted, first .few, put-length (first .put), room);
           }
 
       pub list-accepted : {list₂ : List ℕ} {next : ℕ}

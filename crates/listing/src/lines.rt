@@ -11,7 +11,7 @@ ghost use Prim.Native.Nat.{_+_, _*_, _≤_};
 ghost use lib.ListN.{length};
 ghost use Rattle.listing.specs.Decimal.{decimal};
 ghost use Rattle.listing.specs.Listing.{andNumber, columns, rowLine, rowLines, answerLines, contextLine, countLines, entryOf};
-ghost use Rattle.listing.specs.Putting.{PutWithin, RowReady, RowsReady};
+ghost use Rattle.listing.specs.Putting.{PutWithin, NumberReady, RowReady, RowsReady};
 
 const LF: u8 = b'\n';
 
@@ -25,9 +25,9 @@ fn put_entry(name: &[u8], n: usize, output: &mut [u8], at: usize) -> usize
     put_byte(LF, output, valued)
 }
 
-// A comma and a number of a row.
+// A comma and a number of a row, which has five digits at most.
 fn put_next(n: rows::Entry, output: &mut [u8], at: usize) -> usize
-    requires { ⌜ at + 6 ≤ length (now output) ⌝ }
+    requires { ⌜ NumberReady n (now output) at ⌝ }
     ensures { λ r. ⌜ PutWithin 6 (now (output .entry)) at (andNumber n) (now (output .exit)) r ⌝ }
 {
     let next = put_byte(b',', output, at);

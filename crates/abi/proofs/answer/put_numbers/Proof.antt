@@ -64,17 +64,5 @@ returns-2 c =
 pub put-numbers-spec : {M : Type 1} → statement M
 put-numbers-spec =
     tie.close
-    (tie.spec
-    Inv-loop
-    μ-loop
-    returns
-    loop-holds
-    mul-answer
-    shared-slice-read-answer
-    mul-answer-2
-    slice-write-answer
-    add-at
-    loop-less
-    loop-again
-    same-length
-    returns-2)
+    (tie.spec Inv-loop μ-loop returns loop-holds mul-answer shared-slice-read-answer mul-answer-2 slice-write-answer add-at loop-less
+    loop-again same-length returns-2)

@@ -74,20 +74,5 @@ returns-4 c =
 pub card-of-spec : {M : Type 1} → statement M
 card-of-spec =
     tie.close
-    (tie.spec
-    no-card-requires
-    returns
-    shared-slice-read-if2
-    no-card-requires-2
-    returns-2
-    shared-slice-read-if3
-    no-card-requires-3
-    returns-3
-    shared-slice-read-t2
-    cast-t7
-    shared-slice-read-t9
-    cast-t10
-    shared-slice-read-t12
-    shared-slice-read-t14
-    shared-slice-read-t16
-    returns-4)
+    (tie.spec no-card-requires returns shared-slice-read-if2 no-card-requires-2 returns-2 shared-slice-read-if3 no-card-requires-3 returns-3
+    shared-slice-read-t2 cast-t7 shared-slice-read-t9 cast-t10 shared-slice-read-t12 shared-slice-read-t14 shared-slice-read-t16 returns-4)

@@ -77,18 +77,5 @@ returns-4 c =
 pub sargaceu-line-spec : {M : Type 1} → statement M
 sargaceu-line-spec =
     tie.close
-    (tie.spec
-    returns
-    line-at-requires
-    enum-known-end
-    told-requires
-    enum-told
-    told-requires-2
-    enum-known-number
-    told-requires-3
-    same-length
-    returns-2
-    same-length-2
-    returns-3
-    same-length-3
-    returns-4)
+    (tie.spec returns line-at-requires enum-known-end told-requires enum-told told-requires-2 enum-known-number told-requires-3 same-length
+    returns-2 same-length-2 returns-3 same-length-3 returns-4)

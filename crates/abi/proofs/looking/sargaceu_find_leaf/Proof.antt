@@ -62,13 +62,5 @@ returns-2 c =
 pub sargaceu-find-leaf-spec : {M : Type 1} → statement M
 sargaceu-find-leaf-spec =
     tie.close
-    (tie.spec
-    card-of-requires
-    find-leaf-requires
-    enum-known-sought
-    slice-aggregate-put-numbers
-    put-numbers-requires
-    enum-told
-    same-length
-    returns
-    returns-2)
+    (tie.spec card-of-requires find-leaf-requires enum-known-sought slice-aggregate-put-numbers put-numbers-requires enum-told same-length
+    returns returns-2)

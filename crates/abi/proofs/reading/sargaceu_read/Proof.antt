@@ -52,15 +52,5 @@ returns-2 c =
 pub sargaceu-read-spec : {M : Type 1} → statement M
 sargaceu-read-spec =
     tie.close
-    (tie.spec
-    returns
-    read-requires
-    cast-t9
-    cast-t17
-    slice-aggregate-put-numbers
-    put-numbers-requires
-    same-length
-    same-length-2
-    same-length-3
-    same-length-4
-    returns-2)
+    (tie.spec returns read-requires cast-t9 cast-t17 slice-aggregate-put-numbers put-numbers-requires same-length same-length-2
+    same-length-3 same-length-4 returns-2)

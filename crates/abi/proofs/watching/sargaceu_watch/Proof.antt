@@ -39,12 +39,4 @@ returns-2 c =
 pub sargaceu-watch-spec : {M : Type 1} → statement M
 sargaceu-watch-spec =
     tie.close
-    (tie.spec
-    returns
-    slice-read-t9
-    slice-read-t11
-    tell-requires
-    slice-write-watcher
-    slice-write-watcher-2
-    same-length
-    returns-2)
+    (tie.spec returns slice-read-t9 slice-read-t11 tell-requires slice-write-watcher slice-write-watcher-2 same-length returns-2)

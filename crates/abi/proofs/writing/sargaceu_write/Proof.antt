@@ -43,12 +43,4 @@ returns-2 c =
 pub sargaceu-write-spec : {M : Type 1} → statement M
 sargaceu-write-spec =
     tie.close
-    (tie.spec
-    returns
-    card-of-requires
-    write-requires
-    slice-aggregate-put-numbers
-    put-numbers-requires
-    same-length
-    same-length-2
-    returns-2)
+    (tie.spec returns card-of-requires write-requires slice-aggregate-put-numbers put-numbers-requires same-length same-length-2 returns-2)

@@ -40,12 +40,5 @@ returns c =
 pub put-answer-spec : {M : Type 1} → statement M
 put-answer-spec =
     tie.close
-    (tie.spec
-    slice-aggregate-put-text
-    put-text-requires
-    slice-aggregate-put-entry
-    put-entry-requires
-    slice-aggregate-put-entry-2
-    put-entry-requires-2
-    same-length
-    returns)
+    (tie.spec slice-aggregate-put-text put-text-requires slice-aggregate-put-entry put-entry-requires slice-aggregate-put-entry-2
+    put-entry-requires-2 same-length returns)

@@ -2,10 +2,13 @@
 -- Assumes nothing.
 use native.Mathlib.Omega.{arith}
 use Rattle.listing.specs.Listing.{columns}
-use Rattle.listing.proofs.Putting.{put-exact, within-then}
+use Rattle.listing.proofs.Putting.{put-exact, put-room, within-then, within-room}
 use borrow.Author.Needs.{needs}
 use Rattle.listing.proofs.lines.put_columns.Statement.{statement}
 use Rattle.listing.proofs.lines.put_columns.Tie as tie
+
+abbrev start-of : tie.After-put-kind → tie.Start
+start-of c = c .before .before .before .before .before .before .before .before .before
 
 mul-row : tie.Need-mul-row
 mul-row c = omega arith
@@ -32,7 +35,7 @@ shared-slice-read-put-next : tie.Need-shared-slice-read-put-next
 shared-slice-read-put-next c = omega arith
 
 put-next-requires : tie.Need-put-next-requires
-put-next-requires c κs = search needs
+put-next-requires c κs = record { few = start-of (c .before .before .before .before) .pre .owner; room = omega arith }
 
 add-put-next-2 : tie.Need-add-put-next-2
 add-put-next-2 c = omega arith
@@ -44,7 +47,9 @@ shared-slice-read-put-next-2 : tie.Need-shared-slice-read-put-next-2
 shared-slice-read-put-next-2 c = omega arith
 
 put-next-requires-2 : tie.Need-put-next-requires-2
-put-next-requires-2 c κs = search needs
+put-next-requires-2 c κs =
+    let owner = c .before .before .before .before in
+    record { few = start-of (owner .before .before .before .before .before) .pre .first; room = omega arith }
 
 add-put-next-3 : tie.Need-add-put-next-3
 add-put-next-3 c = omega arith
@@ -56,7 +61,18 @@ shared-slice-read-put-next-3 : tie.Need-shared-slice-read-put-next-3
 shared-slice-read-put-next-3 c = omega arith
 
 put-next-requires-3 : tie.Need-put-next-requires-3
-put-next-requires-3 c κs = search needs
+put-next-requires-3 c κs =
+    let first = c .before .before .before .before in
+    let owner = first .before .before .before .before .before in
+    let kind = owner .before .before .before .before .before in
+    let comma = kind .before .before .before .before .before in
+    record {
+      few = start-of kind .pre .count;
+      room =
+          within-room (first .put-next2 .ensures) 6
+          (within-room (owner .put-next .ensures) 12
+          (within-room (kind .put-kind .ensures) 18 (put-room (comma .put-byte .ensures) 21 (start-of kind .pre .room))));
+    }
 
 same-length : tie.Need-same-length
 same-length c = search needs
@@ -75,23 +91,6 @@ returns c =
 pub put-columns-spec : {M : Type 1} → statement M
 put-columns-spec =
     tie.close
-    (tie.spec
-    mul-row
-    put-byte-requires
-    mul-put-kind
-    shared-slice-read-put-kind
-    put-kind-requires
-    add-put-next
-    mul-put-next
-    shared-slice-read-put-next
-    put-next-requires
-    add-put-next-2
-    mul-put-next-2
-    shared-slice-read-put-next-2
-    put-next-requires-2
-    add-put-next-3
-    mul-put-next-3
-    shared-slice-read-put-next-3
-    put-next-requires-3
-    same-length
-    returns)
+    (tie.spec mul-row put-byte-requires mul-put-kind shared-slice-read-put-kind put-kind-requires add-put-next mul-put-next
+    shared-slice-read-put-next put-next-requires add-put-next-2 mul-put-next-2 shared-slice-read-put-next-2 put-next-requires-2
+    add-put-next-3 mul-put-next-3 shared-slice-read-put-next-3 put-next-requires-3 same-length returns)

@@ -33,10 +33,4 @@ returns c =
 pub put-context-line-spec : {M : Type 1} → statement M
 put-context-line-spec =
     tie.close
-    (tie.spec
-    slice-aggregate-put-text
-    put-text-requires
-    put-context-requires
-    put-byte-requires
-    same-length
-    returns)
+    (tie.spec slice-aggregate-put-text put-text-requires put-context-requires put-byte-requires same-length returns)

@@ -54,15 +54,5 @@ returns c =
 pub put-counts-spec : {M : Type 1} → statement M
 put-counts-spec =
     tie.close
-    (tie.spec
-    put-context-line-requires
-    slice-aggregate-put-entry
-    put-entry-requires
-    slice-aggregate-put-entry-2
-    put-entry-requires-2
-    slice-aggregate-put-entry-3
-    put-entry-requires-3
-    slice-aggregate-put-entry-4
-    put-entry-requires-4
-    same-length
-    returns)
+    (tie.spec put-context-line-requires slice-aggregate-put-entry put-entry-requires slice-aggregate-put-entry-2 put-entry-requires-2
+    slice-aggregate-put-entry-3 put-entry-requires-3 slice-aggregate-put-entry-4 put-entry-requires-4 same-length returns)

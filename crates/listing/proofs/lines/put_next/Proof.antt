@@ -12,7 +12,7 @@ use Rattle.listing.proofs.lines.put_next.Statement.{statement}
 use Rattle.listing.proofs.lines.put_next.Tie as tie
 
 few : (c : tie.After-put-byte) → length (decimal (c .before .before .before .args .n)) ≤ 5
-few c = five-digits (c .before .before .before .args .n) (omega arith)
+few c = five-digits (c .before .before .before .args .n) (c .before .before .before .pre .few)
 
 put-byte-requires : tie.Need-put-byte-requires
 put-byte-requires c κs = search needs

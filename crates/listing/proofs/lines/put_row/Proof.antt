@@ -40,6 +40,9 @@ put-columns-requires c κs =
     record {
       rows-there = pre .rows-there;
       number = pre .number;
+      owner = pre .owner;
+      first = pre .first;
+      count = pre .count;
       room =
           omega (
             arith,
@@ -73,12 +76,5 @@ returns c =
 pub put-row-spec : {M : Type 1} → statement M
 put-row-spec =
     tie.close
-    (tie.spec
-    slice-aggregate-put-text
-    put-text-requires
-    add-put-number
-    put-number-requires
-    put-columns-requires
-    put-byte-requires
-    same-length
-    returns)
+    (tie.spec slice-aggregate-put-text put-text-requires add-put-number put-number-requires put-columns-requires put-byte-requires
+    same-length returns)

@@ -1,7 +1,8 @@
 -- `listing::lines::put_rows` meets its contract: the lines of the rows before stand, and the next one comes behind them.
 -- Assumes nothing.
-use Prim.Native.Nat.{_-_}
+use Prim.Native.Nat.{_+_, _*_, _-_}
 use native.Mathlib.Omega.{arith}
+use Rattle.table.specs.Rows.{segmentRowSize}
 use Rattle.listing.proofs.RowLines.{Rows, rows-begin, rows-more, rows-done}
 use Rattle.listing.proofs.lines.put_rows.Statement.{statement}
 use Rattle.listing.proofs.lines.put_rows.Tie as tie
@@ -22,6 +23,9 @@ put-row-requires c κs =
     record {
       rows-there = omega (arith, pre .rows-there);
       number = omega (arith, pre .number);
+      owner = pre .numbers (at-loop .loop .i * segmentRowSize + 1) (omega arith);
+      first = pre .numbers (at-loop .loop .i * segmentRowSize + 2) (omega arith);
+      count = pre .numbers (at-loop .loop .i * segmentRowSize + 3) (omega arith);
       room = omega (arith, pre .room, at-loop .loop .inv .few, at-loop .loop .inv .same);
     }
 
@@ -52,13 +56,4 @@ returns c =
 pub put-rows-spec : {M : Type 1} → statement M
 put-rows-spec =
     tie.close
-    (tie.spec
-    Inv-loop
-    μ-loop
-    loop-holds
-    put-row-requires
-    add-i
-    loop-less
-    loop-again
-    same-length
-    returns)
+    (tie.spec Inv-loop μ-loop loop-holds put-row-requires add-i loop-less loop-again same-length returns)

@@ -76,7 +76,7 @@ put-table-requires c κs =
     let roomy = roomy-of read in
     let a = start-of roomy .args in
     list-ready form level (a .message .now) (a .text .now) (a .segments .now) (a .leaves .now) (a .list .now)
-    (read .read .ensures) (roomy .if1 .left) form-lawful (omega arith) (accepted .if2 .left) (begun .put-answer .ensures)
+    (read .read .ensures) (roomy .if1 .left) form-lawful (omega arith) (omega arith) (accepted .if2 .left) (begun .put-answer .ensures)
 
 same-length-5 : tie.Need-same-length-5
 same-length-5 c = read-of (begun-after (c .before .before)) .read .kept .1 .0
@@ -101,9 +101,9 @@ returns-3 c =
     let a = start-of roomy .args in
     let ready =
     list-ready form level (a .message .now) (a .text .now) (a .segments .now) (a .leaves .now) (a .list .now)
-    (read .read .ensures) (roomy .if1 .left) form-lawful (omega arith) (accepted .if2 .left) (begun .put-answer .ensures) in (
+    (read .read .ensures) (roomy .if1 .left) form-lawful (omega arith) (omega arith) (accepted .if2 .left) (begun .put-answer .ensures) in (
       list-accepted form level (a .message .now) (a .text .now) (a .segments .now) (a .leaves .now) (a .list .now)
-          (read .read .ensures) (roomy .if1 .left) form-lawful (omega arith) (accepted .if2 .left) (begun .put-answer .ensures)
+          (read .read .ensures) (roomy .if1 .left) form-lawful (omega arith) (omega arith) (accepted .if2 .left) (begun .put-answer .ensures)
           (put .put-table .ensures .put),
       omega (arith, put .put-table .ensures .few, ready .room, put-length (begun .put-answer .ensures .put)),
     )
@@ -111,18 +111,5 @@ returns-3 c =
 pub list-spec : {M : Type 1} → statement M
 list-spec =
     tie.close
-    (tie.spec
-    returns
-    read-requires
-    put-answer-requires
-    same-length
-    same-length-2
-    same-length-3
-    same-length-4
-    returns-2
-    put-table-requires
-    same-length-5
-    same-length-6
-    same-length-7
-    same-length-8
-    returns-3)
+    (tie.spec returns read-requires put-answer-requires same-length same-length-2 same-length-3 same-length-4 returns-2 put-table-requires
+    same-length-5 same-length-6 same-length-7 same-length-8 returns-3)

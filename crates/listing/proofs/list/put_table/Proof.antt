@@ -1,6 +1,7 @@
 -- `listing::list::put_table` meets its contract: the counts, and the rows behind them.
 -- Assumes nothing.
 use mathlib.Core.Path.{ap}
+use native.Mathlib.Omega.{arith}
 use Rattle.listing.specs.Listing.{countLines}
 use Rattle.listing.proofs.Putting.{within-as, within-then}
 use borrow.Author.Needs.{needs}
@@ -14,7 +15,9 @@ put-counts-requires : tie.Need-put-counts-requires
 put-counts-requires c κs = search needs
 
 put-rows-requires : tie.Need-put-rows-requires
-put-rows-requires c κs = search needs
+put-rows-requires c κs =
+    let pre = c .before .before .before .before .before .before .before .before .before .before .pre in
+    record { rows-there = pre .rows-there; number = pre .number; numbers = pre .numbers; room = omega arith }
 
 same-length : tie.Need-same-length
 same-length c = search needs

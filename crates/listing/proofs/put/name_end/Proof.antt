@@ -54,14 +54,4 @@ returns-2 c =
 pub name-end-spec : {M : Type 1} → statement M
 name-end-spec =
     tie.close
-    (tie.spec
-    Inv-loop
-    μ-loop
-    add-stop
-    loop-holds
-    shared-slice-read-if1
-    returns
-    add-end
-    loop-less
-    loop-again
-    returns-2)
+    (tie.spec Inv-loop μ-loop add-stop loop-holds shared-slice-read-if1 returns add-end loop-less loop-again returns-2)

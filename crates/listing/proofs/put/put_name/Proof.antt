@@ -70,14 +70,5 @@ returns-3 c =
 pub put-name-spec : {M : Type 1} → statement M
 put-name-spec =
     tie.close
-    (tie.spec
-    mul-before
-    returns
-    returns-2
-    name-end-requires
-    sub-put-text
-    part-put-text-start
-    part-put-text-end
-    put-text-requires
-    same-length
-    returns-3)
+    (tie.spec mul-before returns returns-2 name-end-requires sub-put-text part-put-text-start part-put-text-end put-text-requires
+    same-length returns-3)

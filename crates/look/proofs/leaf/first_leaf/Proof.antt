@@ -88,25 +88,5 @@ returns-2 c = seek-nowhere (c .before .loop .inv) (c .loop-test .left)
 pub first-leaf-spec : {M : Type 1} → statement M
 first-leaf-spec =
     tie.close
-    (tie.spec
-    Inv-loop
-    μ-loop
-    loop-holds
-    add-next
-    is-at-requires
-    mul-at
-    add-wide
-    mul-wide
-    shared-slice-read-wide
-    wide-requires
-    add-wide-2
-    mul-wide-2
-    shared-slice-read-wide-2
-    wide-requires-2
-    add-if2
-    returns
-    loop-less
-    loop-again
-    loop-less-2
-    loop-again-2
-    returns-2)
+    (tie.spec Inv-loop μ-loop loop-holds add-next is-at-requires mul-at add-wide mul-wide shared-slice-read-wide wide-requires add-wide-2
+    mul-wide-2 shared-slice-read-wide-2 wide-requires-2 add-if2 returns loop-less loop-again loop-less-2 loop-again-2 returns-2)

@@ -95,24 +95,6 @@ returns-5 c =
 pub is-at-spec : {M : Type 1} → statement M
 is-at-spec =
     tie.close
-    (tie.spec
-    mul-at
-    mul-if1
-    shared-slice-read-if1
-    returns
-    add-if2
-    mul-if2
-    shared-slice-read-if2
-    returns-2
-    add-if3
-    mul-if3
-    shared-slice-read-if3
-    returns-3
-    add-if4
-    mul-if4
-    shared-slice-read-if4
-    returns-4
-    add-result
-    mul-result
-    shared-slice-read-result
+    (tie.spec mul-at mul-if1 shared-slice-read-if1 returns add-if2 mul-if2 shared-slice-read-if2 returns-2 add-if3 mul-if3
+    shared-slice-read-if3 returns-3 add-if4 mul-if4 shared-slice-read-if4 returns-4 add-result mul-result shared-slice-read-result
     returns-5)

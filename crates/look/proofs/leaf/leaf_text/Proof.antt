@@ -70,13 +70,4 @@ returns-2 c =
 pub leaf-text-spec : {M : Type 1} → statement M
 leaf-text-spec =
     tie.close
-    (tie.spec
-    find-leaf-requires
-    enum-known-start
-    add-end
-    sub-result
-    part-result-start
-    part-result-end
-    enum-told
-    returns
-    returns-2)
+    (tie.spec find-leaf-requires enum-known-start add-end sub-result part-result-start part-result-end enum-told returns returns-2)

@@ -66,13 +66,4 @@ returns-4 c =
 pub is-order-spec : {M : Type 1} → statement M
 is-order-spec =
     tie.close
-    (tie.spec
-    segments-fit-requires
-    returns
-    returns-2
-    returns-3
-    mul-result
-    mul-result-2
-    shared-slice-read-result
-    cast-result
-    returns-4)
+    (tie.spec segments-fit-requires returns returns-2 returns-3 mul-result mul-result-2 shared-slice-read-result cast-result returns-4)

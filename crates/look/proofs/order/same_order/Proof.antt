@@ -123,22 +123,6 @@ returns-3 c =
 pub same-order-spec : {M : Type 1} → statement M
 same-order-spec =
     tie.close
-    (tie.spec
-    order-text-requires
-    enum-known-start
-    order-text-requires-2
-    enum-known-order
-    add-end
-    add-other-end
-    sub-same-bytes
-    part-same-bytes-start
-    part-same-bytes-end
-    sub-same-bytes-2
-    part-same-bytes-start-2
-    part-same-bytes-end-2
-    same-bytes-requires
-    enum-told
-    enum-told-2
-    returns
-    returns-2
-    returns-3)
+    (tie.spec order-text-requires enum-known-start order-text-requires-2 enum-known-order add-end add-other-end sub-same-bytes
+    part-same-bytes-start part-same-bytes-end sub-same-bytes-2 part-same-bytes-start-2 part-same-bytes-end-2 same-bytes-requires enum-told
+    enum-told-2 returns returns-2 returns-3)

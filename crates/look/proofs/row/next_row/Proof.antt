@@ -79,22 +79,5 @@ returns-3 c = no-row (c .before .loop .inv) (c .loop-test .left)
 pub next-row-spec : {M : Type 1} → statement M
 next-row-spec =
     tie.close
-    (tie.spec
-    Inv-loop
-    μ-loop
-    segments-fit-requires
-    returns
-    loop-holds
-    mul-at
-    add-row
-    mul-if2
-    shared-slice-read-if2
-    add-if3
-    mul-if3
-    shared-slice-read-if3
-    returns-2
-    loop-less
-    loop-again
-    loop-less-2
-    loop-again-2
-    returns-3)
+    (tie.spec Inv-loop μ-loop segments-fit-requires returns loop-holds mul-at add-row mul-if2 shared-slice-read-if2 add-if3 mul-if3
+    shared-slice-read-if3 returns-2 loop-less loop-again loop-less-2 loop-again-2 returns-3)
