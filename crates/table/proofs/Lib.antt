@@ -23,6 +23,5 @@ pub mod RowsGrowing
 pub mod EndToEnd
 pub mod SegmentRows
 pub mod SoundRows
-pub mod SegmentTurns
 pub mod Lent
 pub mod Width

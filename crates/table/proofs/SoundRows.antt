@@ -14,7 +14,7 @@ use Rattle.laws.specs.Lists.{same, among}
 use Rattle.laws.specs.Every.{none, also}
 use Rattle.laws.proofs.Every.{all-append, all-left, all-right}
 use Rattle.laws.proofs.Lists.{Absent.nowhere, Absent.past, among-hit, among-miss, same-self, same-equal}
-use Rattle.laws.proofs.Tests.{Tested, passed, failed, tested, never-both, and-first, and-second, and-both, and-fails-first, and-fails-second}
+use Rattle.laws.proofs.Tests.{Tested, passed, failed, tested, never-both, and-first, and-second, and-both}
 use Rattle.form.specs.declared.separators.Separators.{Separators}
 use Rattle.form.specs.Header.{different, splitting}
 use Rattle.form.proofs.HeaderRule.{AllAllowed, AllDifferent, different-more}
@@ -113,20 +113,6 @@ module _ (ps place : List ℕ) (l : Leaf) (ls : List Leaf) where
   pub begin-more : l .place ≡ place → leafText ps (l .text) ≡ true → goOn ps (l .place) ls ≡ true → goOnFrom ps place (l ∷ ls) ≡ true
   unfolding goOnFrom
   begin-more a b c = and-both (and-both (ap (λ (q : List ℕ). same q place) a ∙ same-self place) b) c
-
--- the same as the turn of a loop: one leaf more, or the leaf that breaks it
-module _ (ps place : List ℕ) (l : Leaf) (ls : List Leaf) where
-  pub go-turn : nextPlace place (l .place) ≡ true → leafText ps (l .text) ≡ true → goOn ps place (l ∷ ls) ≡ goOn ps (l .place) ls
-  unfolding goOn
-  go-turn a b = rw (a, b)
-
-  pub go-misplaced : nextPlace place (l .place) ≡ false → goOn ps place (l ∷ ls) ≡ false
-  unfolding goOn
-  go-misplaced a = rw a
-
-  pub go-no-text : leafText ps (l .text) ≡ false → goOn ps place (l ∷ ls) ≡ false
-  unfolding goOn
-  go-no-text b = and-fails-first (goOn ps (l .place) ls) (and-fails-second (nextPlace place (l .place)) b)
 
 module _ (ps : List ℕ) (unlike : different (CR ∷ ps) ≡ true) where
   -- the text of one leaf
