@@ -1,7 +1,7 @@
 -- Leaf texts lie end to end (document 01, "Segments, leaves and the table") exactly where each row starts where the one before it ends and
 -- the last ends with the text.
 -- Assumes nothing.
-use mathlib.Core.Bool.{true, false}
+use mathlib.Core.Bool.{true}
 use mathlib.Core.List.{List, _∷_, _++_, head-eq-of-cons-eq, tail-eq-of-cons-eq}
 use mathlib.Core.Logic.{_↔_}
 use mathlib.Core.Path.{_≡_, sym, ap, ap₂, _∙_}
@@ -10,7 +10,7 @@ use native.Mathlib.Omega.{arith}
 use lib.Dec.{eqb}
 use lib.ListN.{length, take, drop, getD, length-append, length-drop, take-append-drop, drop-of-length-le}
 use lib.Seq.{drop-drop, drop-at, length-take-le}
-use borrow.Author.Tests.{eqb-true, eq-eqb, ne-eqb}
+use borrow.Author.Tests.{eqb-true, eq-eqb}
 use Rattle.laws.specs.Tables.{values}
 use Rattle.laws.proofs.Parts.{left-cons}
 use Rattle.laws.proofs.Tests.{and-first, and-second, and-both}
@@ -32,14 +32,6 @@ module _ (rows : List ℕ) (finish i n start : ℕ) where
   pub ends-more : startIn rows i ≡ start → endToEnd rows finish (suc i) n (start + lengthIn rows i) ≡ true → endToEnd rows finish i (suc n) start ≡ true
   unfolding endToEnd
   ends-more e h = and-both (eq-eqb (startIn rows i) start e) h
-
-  pub ends-turn : startIn rows i ≡ start → endToEnd rows finish i (suc n) start ≡ endToEnd rows finish (suc i) n (start + lengthIn rows i)
-  unfolding endToEnd
-  ends-turn e = rw (eq-eqb (startIn rows i) start e)
-
-  pub ends-broken : (startIn rows i ≡ start → ⊥) → endToEnd rows finish i (suc n) start ≡ false
-  unfolding endToEnd
-  ends-broken d = rw (ne-eqb (startIn rows i) start d)
 
 pub ends-last : (rows : List ℕ) (finish i start : ℕ) → (endToEnd rows finish i 0 start ≡ true) ↔ (start ≡ finish)
 unfolding endToEnd

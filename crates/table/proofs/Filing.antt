@@ -128,6 +128,3 @@ module _ {L : Limits} {levels : ℕ → ℕ → ℕ} {room : Room} {m : List ℕ
         header = joined-header (w .separators) (texts (walk L m)) begins;
         lines = worded-clear segmentsOfAccepted accepted-worded;
       }
-
-  pub accepted-whole : All (λ (s : List ℕ). addendum (w .separators .field) s ≡ false) segmentsOfAccepted
-  accepted-whole = all-whole (w .separators) (accepted-header .allowed .field) segmentsOfAccepted (w .segments .known)

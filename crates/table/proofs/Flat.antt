@@ -10,7 +10,7 @@ use lib.Seq.{drop-append-le}
 use Rattle.laws.specs.Lists.{among, concat, numbered}
 use Rattle.laws.specs.Every.{All, also}
 use Rattle.laws.proofs.Tests.{Tested, passed, failed, tested}
-use Rattle.laws.proofs.Lists.{among-hit, among-miss, numbered-map, numbered-as, map-append}
+use Rattle.laws.proofs.Lists.{among-hit, among-miss, numbered-map, numbered-as}
 use Rattle.laws.proofs.Every.{all-drop}
 use Rattle.form.specs.declared.separators.Separators.{Separators}
 use Rattle.form.specs.Header.{splitting}
@@ -41,11 +41,7 @@ module _ (p : ℕ) (ps : List ℕ) (b n : ℕ) (place : List ℕ) where
   unfolding raised
   raised-later h = rw (h, raised)
 
--- numbers in front of places: one after the other, and over what is gathered
-pub under-append : (pre : List ℕ) (ks ls : List Leaf) → under pre (ks ++ ls) ≡ under pre ks ++ under pre ls
-unfolding under
-under-append pre ks ls = map-append (λ (l : Leaf). leaf (pre ++ l .place) (l .text)) ks ls
-
+-- numbers in front of places, over others and over what is gathered
 pub under-under : (pre more : List ℕ) (ls : List Leaf) → under pre (under more ls) ≡ under (pre ++ more) ls
 unfolding under
 under-under pre more [] = refl

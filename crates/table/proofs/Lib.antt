@@ -26,6 +26,5 @@ pub mod SegmentColumns
 pub mod EndToEnd
 pub mod SegmentRows
 pub mod SoundRows
-pub mod SegmentTurns
 pub mod Lent
 pub mod Width

@@ -1,13 +1,11 @@
 -- One pass over bytes, as a loop makes it: a state after a list of bytes, its step equations, and that passes compose.
 -- Assumes nothing.
-use mathlib.Core.List.{List, [], _∷_, _++_, append-assoc, append-nil}
+use mathlib.Core.List.{List, [], _∷_, _++_, append-assoc}
 use mathlib.Core.Path.{_≡_, refl, sym, ap, _∙_}
-use Prim.Native.Nat.{ℕ, suc, _+_, _<_}
-use native.Mathlib.Numerals.{add-one}
+use Prim.Native.Nat.{ℕ, suc, _+_}
 use native.Mathlib.Omega.{arith}
 use mathlib.Core.Bool.{true, false}
-use lib.ListN.{length, drop, getD}
-use lib.Seq.{drop-cons}
+use lib.ListN.{length}
 use Rattle.laws.specs.Lists.{among}
 use Rattle.laws.proofs.Tests.{Tested, passed, failed, tested}
 use Rattle.table.specs.Leaves.{Leaf}
@@ -80,29 +78,9 @@ pub steps-one : (ps : List ℕ) (c : Pass) (x : List ℕ) (b : ℕ) → steps ps
 unfolding steps
 steps-one ps c x b = steps-append ps c x (b ∷ [])
 
-pub steps-turn : (ps : List ℕ) (c : Pass) (s : List ℕ) (i : ℕ) → i < length s
-    → steps ps c (drop i s) ≡ steps ps (step ps c (getD s i 0)) (drop (i + 1) s)
-unfolding steps
-steps-turn ps c s i h = rw (add-one, drop-cons s i 0)
-
-pub left-turn : (ps : List ℕ) (c : Pass) (s : List ℕ) (i : ℕ) → i < length s
-    → left ps (step ps c (getD s i 0)) (drop (i + 1) s) ≡ left ps c (drop i s)
-left-turn ps c s i h = rw (add-one, drop-cons s i 0) (left-step ps c (getD s i 0) (drop (suc i) s))
-
--- a pass from a place with no text and no leaves yet is a flat split, and a split of x ++ y is one of y from where x left off
+-- a pass from a place with no leaves yet
 abbrev pub begun : List ℕ → List ℕ → Pass
 begun place text = record { place = place; text = text; closed = [] }
-
-pub flat-ended : (ps place text s : List ℕ) → flat ps place text s ≡ ended (steps ps (begun place text) s)
-unfolding left
-flat-ended ps place text s =
-    ap (flat ps place text) (sym (append-nil s))
-    ∙ sym (left-steps ps (begun place text) s [])
-    ∙ left-none ps (steps ps (begun place text) s)
-
-pub flat-append : (ps place text x y : List ℕ) → flat ps place text (x ++ y) ≡ left ps (steps ps (begun place text) x) y
-unfolding left
-flat-append ps place text x y = sym (left-steps ps (begun place text) x y)
 
 -- how far the numbers of the place can have come
 pub steps-within : (ps : List ℕ) (c : Pass) {k : ℕ} (s : List ℕ) → Within k (c .place) → Within (k + length s) (steps ps c s .place)

@@ -4,11 +4,11 @@ use mathlib.Core.Bool.{Bool, true, false, not, _&&_}
 use mathlib.Core.List.{List, [], _∷_}
 use mathlib.Core.Logic.{_↔_}
 use mathlib.Core.Path.{_≡_, refl, sym, ap, ap₂, _∙_}
-use Prim.Native.Nat.{ℕ, suc, _≤_, _<_}
+use Prim.Native.Nat.{ℕ, suc}
 use native.Mathlib.Omega.{arith}
 use lib.Dec.{leb, eqb}
 use lib.ListN.{length}
-use borrow.Author.Tests.{eqb-true, eqb-false, eq-eqb, ne-eqb, leb-true, le-leb, lt-leb, not-true}
+use borrow.Author.Tests.{eqb-true, eqb-false, eq-eqb, ne-eqb, leb-true, le-leb, not-true}
 use Rattle.laws.specs.Lists.{same, among}
 use Rattle.laws.specs.Every.{none, also}
 use Rattle.laws.proofs.Lists.{among-miss, among-first}
@@ -115,17 +115,3 @@ leaf-text ps (b ∷ s) = (
     back : AllText (b ∷ s) → Plain ps (b ∷ s) → (AllText s × Plain ps s → leafText ps s ≡ true)
         → (leb space b && not (among ps b) && leafText ps s) ≡ true
     back (also h w) (also k v) ih = and-both (and-both (le-leb space b h) (not-holds (among ps b) k)) (ih (w, v))
-
--- its step laws: one byte more, or the byte that breaks it
-module _ (ps : List ℕ) (b : ℕ) (s : List ℕ) where
-  pub text-more : space ≤ b → among ps b ≡ false → leafText ps (b ∷ s) ≡ leafText ps s
-  unfolding leafText
-  text-more h e = rw (le-leb space b h, e)
-
-  pub text-low : b < space → leafText ps (b ∷ s) ≡ false
-  unfolding leafText
-  text-low h = rw (lt-leb space b h)
-
-  pub text-separator : among ps b ≡ true → leafText ps (b ∷ s) ≡ false
-  unfolding leafText
-  text-separator e = and-fails-first (leafText ps s) (and-fails-second (leb space b) (rw e))

@@ -1,20 +1,17 @@
--- Segment rows as a loop tests them: a row states its segment's kind, its owner, its first leaf and its leaf count, and the rows after it
--- state the segments after it.
+-- Segment rows as a loop tests them: a row states its segment's kind, its owner, its first leaf and its leaf count.
 -- Assumes nothing.
-use mathlib.Core.List.{List, [], _∷_, _++_, map, head-eq-of-cons-eq, tail-eq-of-cons-eq}
+use mathlib.Core.List.{List, [], _∷_, map, head-eq-of-cons-eq, tail-eq-of-cons-eq}
 use mathlib.Core.Logic.{_↔_}
 use mathlib.Core.Path.{_≡_, refl, sym, ap, ap₂, _∙_}
 use Prim.Native.Nat.{ℕ, suc, _+_, _*_, _≤_}
 use native.Mathlib.Omega.{arith}
 use lib.ListN.{length, drop, getD}
-use Rattle.laws.specs.Every.{All}
 use Rattle.laws.proofs.Parts.{left-cons}
 use Rattle.order.specs.Owners.{owner, owners, ownersAfter}
 use Rattle.table.specs.Leaves.{Leaf}
 use Rattle.table.specs.Rows.{segmentRowSize, segmentRowsFrom, RowIs, kindIn, ownerIn, firstIn, countIn}
-use Rattle.table.specs.BySegment.{bySegment, kindAmong}
+use Rattle.table.specs.BySegment.{kindAmong}
 use Rattle.table.specs.RowTests.{rowsStated}
-use Rattle.table.proofs.BySegment.{InSegment, Ended, group-first}
 
 -- the rows of kinds, owners and leaves are those that the leaves state
 pub rows-stated : (lv : ℕ → ℕ) (first : ℕ) (before : List ℕ) (groups : List (List Leaf))
@@ -84,26 +81,3 @@ module _ (rows : List ℕ) (j : ℕ) (long : suc j * segmentRowSize ≤ length r
           (ap₂ (λ (a : ℕ) (r : List ℕ). a ∷ r) (w .0 .owner-is)
           (ap₂ (λ (a : ℕ) (r : List ℕ). a ∷ r) (w .0 .first-is)
           (ap₂ (λ (a : ℕ) (r : List ℕ). a ∷ r) (w .0 .count-is) (w .1))))
-
--- what is left of the rows from row j on is what the leaves from there on state
-abbrev pub StatedFrom : (ℕ → ℕ) → List ℕ → ℕ → ℕ → List ℕ → List Leaf → Type 0
-StatedFrom lv rows j first before ls = drop (j * segmentRowSize) rows ≡ rowsStated lv first before (bySegment ls)
-
--- one segment more: its row states it, and the rows after it the leaves after it
-pub segment-stated : (lv : ℕ → ℕ) (rows : List ℕ) (j first : ℕ) (before : List ℕ) {n : ℕ} (l : Leaf) {ls : List Leaf} (rest : List Leaf)
-    → suc j * segmentRowSize ≤ length rows → InSegment n l → All (InSegment n) ls → Ended n rest
-    → StatedFrom lv rows j first before (l ∷ (ls ++ rest))
-    ↔ (RowIs rows j (kindAmong (l ∷ ls)) (owner lv before (kindAmong (l ∷ ls))) first (length (l ∷ ls))
-    × StatedFrom lv rows (suc j) (first + length (l ∷ ls)) (kindAmong (l ∷ ls) ∷ before) rest)
-unfolding rowsStated
-segment-stated lv rows j first before l {ls} rest long i w e =
-    let whole = ap (rowsStated lv first before) (group-first l rest i w e) in
-    let step = row-states rows j long (kindAmong (l ∷ ls)) (owner lv before (kindAmong (l ∷ ls))) first (length (l ∷ ls))
-    (rowsStated lv (first + length (l ∷ ls)) (kindAmong (l ∷ ls) ∷ before) (bySegment rest)) in
-    (λ h. step .0 (h ∙ whole), λ v. step .1 v ∙ sym whole)
-
--- no leaves are left: no rows are
-pub nothing-stated : (lv : ℕ → ℕ) (rows : List ℕ) (j first : ℕ) (before : List ℕ)
-    → StatedFrom lv rows j first before [] ↔ (drop (j * segmentRowSize) rows ≡ [])
-unfolding rowsStated bySegment
-nothing-stated lv rows j first before = (λ h. h, λ h. h)

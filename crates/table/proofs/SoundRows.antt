@@ -1,10 +1,10 @@
--- Leaves that go on soundly, as a loop tests them row by row: the same as `soundFrom` with CR for the coarsest separator, and no byte of
+-- Leaves that go on soundly, as a loop tests them row by row: the same as `Sound` with CR for the coarsest separator, and no byte of
 -- their texts below 32.
 -- Assumes nothing.
 use mathlib.Core.Bool.{true, false, _&&_, false≢true}
-use mathlib.Core.List.{List, [], _∷_, _++_}
+use mathlib.Core.List.{List, [], _∷_}
 use mathlib.Core.Logic.{_↔_}
-use mathlib.Core.Path.{_≡_, refl, sym, ap, _∙_}
+use mathlib.Core.Path.{_≡_, refl, sym, ap, _∙_, subst}
 use Prim.Native.Nat.{ℕ, suc}
 use native.Mathlib.Omega.{arith}
 use lib.Dec.{eqb}
@@ -14,20 +14,21 @@ use Rattle.laws.specs.Lists.{same, among}
 use Rattle.laws.specs.Every.{none, also}
 use Rattle.laws.proofs.Every.{all-append, all-left, all-right}
 use Rattle.laws.proofs.Lists.{Absent.nowhere, Absent.past, among-hit, among-miss, same-self, same-equal}
-use Rattle.laws.proofs.Tests.{Tested, passed, failed, tested, never-both, and-first, and-second, and-both, and-fails-first, and-fails-second}
+use Rattle.laws.proofs.Tests.{Tested, passed, failed, tested, never-both, and-first, and-second, and-both}
 use Rattle.form.specs.declared.separators.Separators.{Separators}
 use Rattle.form.specs.Header.{different, splitting}
 use Rattle.form.proofs.HeaderRule.{AllAllowed, AllDifferent, different-more}
 use Rattle.line.specs.Lines.{CR}
 use Rattle.table.specs.Leaves.{Leaf}
 use Rattle.table.specs.Rows.{textOf}
-use Rattle.table.specs.Flat.{ones}
-use Rattle.table.specs.Sound.{Plain, plain, onward, soundAfter, soundFrom}
+use Rattle.table.specs.Flat.{ones, leaf, raised}
+use Rattle.table.specs.Back.{between}
+use Rattle.table.specs.Sound.{Plain, Sound, last, next}
 use Rattle.table.specs.RowTests.{nextPlace, leafText, goOn, goOnFrom}
 use Rattle.table.proofs.LeafTexts.{AllText}
-use Rattle.table.proofs.Places.{length-ones}
+use Rattle.table.proofs.Places.{length-ones, length-raised}
 use Rattle.table.proofs.RowTests.{next-same, next-raised, onward-next, leaf-text}
-use Rattle.table.proofs.SoundTest.{plain-true, plain-holds, after-onward, after-plain, after-rest, after-holds, from-place, from-plain, from-rest}
+use Rattle.table.proofs.SoundTest.{onward-among, onward-raised, onward-holds}
 
 -- the next place has as many numbers
 pub next-length : (from to : List ℕ) → nextPlace from to ≡ true → length to ≡ length from
@@ -71,7 +72,7 @@ cr-plain ps (also {a = b} {s = s} k v) = also (go (tested (eqb b CR))) (cr-plain
     go (passed e) = absurd (never-both (among-hit CR ps b e) k)
     go (failed e) = sym (among-miss CR ps b e) ∙ k
 
--- the step laws of the two tests
+-- the step laws of the test
 module _ (ps place : List ℕ) (l : Leaf) (ls : List Leaf) where
   pub go-next : goOn ps place (l ∷ ls) ≡ true → nextPlace place (l .place) ≡ true
   unfolding goOn
@@ -114,72 +115,54 @@ module _ (ps place : List ℕ) (l : Leaf) (ls : List Leaf) where
   unfolding goOnFrom
   begin-more a b c = and-both (and-both (ap (λ (q : List ℕ). same q place) a ∙ same-self place) b) c
 
--- the same as the turn of a loop: one leaf more, or the leaf that breaks it
-module _ (ps place : List ℕ) (l : Leaf) (ls : List Leaf) where
-  pub go-turn : nextPlace place (l .place) ≡ true → leafText ps (l .text) ≡ true → goOn ps place (l ∷ ls) ≡ goOn ps (l .place) ls
-  unfolding goOn
-  go-turn a b = rw (a, b)
-
-  pub go-misplaced : nextPlace place (l .place) ≡ false → goOn ps place (l ∷ ls) ≡ false
-  unfolding goOn
-  go-misplaced a = rw a
-
-  pub go-no-text : leafText ps (l .text) ≡ false → goOn ps place (l ∷ ls) ≡ false
-  unfolding goOn
-  go-no-text b = and-fails-first (goOn ps (l .place) ls) (and-fails-second (nextPlace place (l .place)) b)
-
 module _ (ps : List ℕ) (unlike : different (CR ∷ ps) ≡ true) where
   -- the text of one leaf
-  text-plain : (s : List ℕ) → leafText ps s ≡ true → plain (CR ∷ ps) s ≡ true
-  text-plain s h = let w = leaf-text ps s .0 h in plain-holds (CR ∷ ps) (plain-cr ps (w .0) (w .1))
+  text-plain : (s : List ℕ) → leafText ps s ≡ true → Plain (CR ∷ ps) s
+  text-plain s h = let w = leaf-text ps s .0 h in plain-cr ps (w .0) (w .1)
 
-  plain-text : (s : List ℕ) → AllText s → plain (CR ∷ ps) s ≡ true → leafText ps s ≡ true
-  plain-text s w h = leaf-text ps s .1 (w, cr-plain ps (plain-true (CR ∷ ps) s h))
+  plain-text : {s : List ℕ} → AllText s → Plain (CR ∷ ps) s → leafText ps s ≡ true
+  plain-text {s} w h = leaf-text ps s .1 (w, cr-plain ps h)
 
-  -- leaves after one
-  pub go-sound : (place : List ℕ) (ls : List Leaf) → length place ≡ suc (length ps)
-      → (goOn ps place ls ≡ true) ↔ ((soundAfter (CR ∷ ps) place ls ≡ true) × AllText (textOf ls))
-  unfolding goOn soundAfter textOf
-  go-sound place [] fits = (λ h. (refl, none), λ w. refl)
-  go-sound place (l ∷ ls) fits = (forth (λ e. go-sound (l .place) ls e .0), λ w. back (λ e. go-sound (l .place) ls e .1) (w .0) (w .1))
-    where
-      same-test : onward (CR ∷ ps) place (l .place) ≡ nextPlace place (l .place)
-      same-test = onward-next (CR ∷ ps) place (l .place) unlike fits
+  -- leaves after one that go on soundly
+  go-sound : (place text : List ℕ) (ls : List Leaf) → length place ≡ suc (length ps) → Plain (CR ∷ ps) text → goOn ps place ls ≡ true
+      → Sound (CR ∷ ps) place (leaf place text ∷ ls) × AllText (textOf ls)
+  unfolding textOf
+  go-sound place text [] fits w h = (last w, none)
+  go-sound place text (l ∷ ls) fits w h =
+      let next-is = go-next ps place l ls h in
+      let on = onward-next (CR ∷ ps) place (l .place) unlike fits ∙ next-is in
+      let own = go-text ps place l ls h in
+      let rest = go-sound (l .place) (l .text) ls (next-length place (l .place) next-is ∙ fits) (text-plain (l .text) own) (go-rest ps place l ls h) in (
+        next (between (CR ∷ ps) place (l .place)) w (onward-among (CR ∷ ps) place (l .place) on)
+            (subst (λ (q : List ℕ). Sound (CR ∷ ps) q (l ∷ ls)) (sym (onward-raised (CR ∷ ps) place (l .place) on)) (rest .0)),
+        all-append (leaf-text ps (l .text) .0 own .0) (rest .1),
+      )
 
-      forth : (length (l .place) ≡ suc (length ps) → goOn ps (l .place) ls ≡ true → (soundAfter (CR ∷ ps) (l .place) ls ≡ true) × AllText (textOf ls))
-          → goOn ps place (l ∷ ls) ≡ true → (soundAfter (CR ∷ ps) place (l ∷ ls) ≡ true) × AllText (l .text ++ textOf ls)
-      forth ih h =
-          let rest = ih (next-length place (l .place) (go-next ps place l ls h) ∙ fits) (go-rest ps place l ls h) in (
-            after-holds (CR ∷ ps) place l ls (same-test ∙ go-next ps place l ls h) (text-plain (l .text) (go-text ps place l ls h)) (rest .0),
-            all-append (leaf-text ps (l .text) .0 (go-text ps place l ls h) .0) (rest .1),
-          )
+  go-from : (place to : List ℕ) (ls : List Leaf) → nextPlace place to ≡ true → goOnFrom ps to ls ≡ true → goOn ps place ls ≡ true
+  unfolding goOn
+  go-from place to [] n h = refl
+  go-from place to (l ∷ ls) n h =
+      go-more ps place l ls (ap (nextPlace place) (begin-place ps to l ls h) ∙ n) (begin-text ps to l ls h) (begin-rest ps to l ls h)
 
-      back : (length (l .place) ≡ suc (length ps) → (soundAfter (CR ∷ ps) (l .place) ls ≡ true) × AllText (textOf ls) → goOn ps (l .place) ls ≡ true)
-          → soundAfter (CR ∷ ps) place (l ∷ ls) ≡ true → AllText (l .text ++ textOf ls) → goOn ps place (l ∷ ls) ≡ true
-      back ih h w =
-          let next = sym same-test ∙ after-onward (CR ∷ ps) place l ls h in
-          go-more ps place l ls next
-          (plain-text (l .text) (all-left (l .text) (textOf ls) w) (after-plain (CR ∷ ps) place l ls h))
-          (ih (next-length place (l .place) next ∙ fits) (after-rest (CR ∷ ps) place l ls h, all-right (l .text) (textOf ls) w))
+  sound-go : {place : List ℕ} {ls : List Leaf} → length place ≡ suc (length ps) → Sound (CR ∷ ps) place ls → AllText (textOf ls) → goOnFrom ps place ls ≡ true
+  unfolding textOf goOn
+  sound-go fits (last {place} {text} w) all = begin-more ps place (leaf place text) [] refl (plain-text (all-left text [] all) w) refl
+  sound-go fits (next {place} {text} {ls} b w h others) all =
+      let on = onward-holds (CR ∷ ps) place b fits h in
+      let next-is = sym (onward-next (CR ∷ ps) place (raised (CR ∷ ps) b place) unlike fits) ∙ on in
+      begin-more ps place (leaf place text) ls refl (plain-text (all-left text (textOf ls) all) w)
+      (go-from place (raised (CR ∷ ps) b place) ls next-is (sound-go (length-raised (CR ∷ ps) b place fits) others (all-right text (textOf ls) all)))
 
   -- leaves from a place on
   pub begin-sound : (place : List ℕ) (ls : List Leaf) → length place ≡ suc (length ps)
-      → (goOnFrom ps place ls ≡ true) ↔ ((soundFrom (CR ∷ ps) place ls ≡ true) × AllText (textOf ls))
-  unfolding goOnFrom soundFrom textOf
-  begin-sound place [] fits = (λ h. absurd (false≢true h), λ w. absurd (false≢true (w .0)))
-  begin-sound place (l ∷ ls) fits = (forth, λ w. back (w .0) (w .1))
+      → (goOnFrom ps place ls ≡ true) ↔ (Sound (CR ∷ ps) place ls × AllText (textOf ls))
+  unfolding goOnFrom textOf
+  begin-sound place ls fits = (forth ls, λ w. sound-go fits (w .0) (w .1))
     where
-      forth : goOnFrom ps place (l ∷ ls) ≡ true → (soundFrom (CR ∷ ps) place (l ∷ ls) ≡ true) × AllText (l .text ++ textOf ls)
-      forth h =
+      forth : (ls : List Leaf) → goOnFrom ps place ls ≡ true → Sound (CR ∷ ps) place ls × AllText (textOf ls)
+      forth [] h = absurd (false≢true h)
+      forth (l ∷ ls) h =
           let at = begin-place ps place l ls h in
-          let rest = go-sound (l .place) ls (ap length at ∙ fits) .0 (begin-rest ps place l ls h) in (
-            and-both (and-both (ap (λ (q : List ℕ). same q place) at ∙ same-self place) (text-plain (l .text) (begin-text ps place l ls h))) (rest .0),
-            all-append (leaf-text ps (l .text) .0 (begin-text ps place l ls h) .0) (rest .1),
-          )
-
-      back : soundFrom (CR ∷ ps) place (l ∷ ls) ≡ true → AllText (l .text ++ textOf ls) → goOnFrom ps place (l ∷ ls) ≡ true
-      back h w =
-          let at = from-place (CR ∷ ps) place l ls h in
-          begin-more ps place l ls at
-          (plain-text (l .text) (all-left (l .text) (textOf ls) w) (from-plain (CR ∷ ps) place l ls h))
-          (go-sound (l .place) ls (ap length at ∙ fits) .1 (from-rest (CR ∷ ps) place l ls h, all-right (l .text) (textOf ls) w))
+          let own = begin-text ps place l ls h in
+          let rest = go-sound (l .place) (l .text) ls (ap length at ∙ fits) (text-plain (l .text) own) (begin-rest ps place l ls h) in
+          (subst (λ (q : List ℕ). Sound (CR ∷ ps) q (l ∷ ls)) at (rest .0), all-append (leaf-text ps (l .text) .0 own .0) (rest .1))

@@ -75,9 +75,6 @@ others-count p (b ∷ s) = go (tested (eqb b p)) (others-count p s)
         ap length (others-begin p b s h ∙ split-parts p s) ∙ ap suc ih ∙ sym (count-pass (λ b. eqb b p) b s h)
     go (failed h) ih = ap length (others-later p b s h) ∙ ih ∙ sym (count-fail (λ b. eqb b p) b s h)
 
-pub length-split : (p : ℕ) (s : List ℕ) → length (split p s) ≡ suc (count (λ b. eqb b p) s)
-length-split p s = ap length (split-parts p s) ∙ ap suc (others-count p s)
-
 -- a text without separators is one part; before a separator it is the first one
 pub split-without : (p : ℕ) {s : List ℕ} → Without p s → split p s ≡ s ∷ []
 unfolding split onto
@@ -113,9 +110,6 @@ others-without p (b ∷ s) = go (tested (eqb b p)) (others-without p s)
     go : Tested (eqb b p) → All (Without p) (otherParts p s) → All (Without p) (otherParts p (b ∷ s))
     go (passed h) ih = rw (others-begin p b s h, split-parts p s) (also (first-without p s) ih)
     go (failed h) ih = rw (others-later p b s h) ih
-
-pub split-all-without : (p : ℕ) (s : List ℕ) → All (Without p) (split p s)
-split-all-without p s = rw (split-parts p s) (also (first-without p s) (others-without p s))
 
 pub gluedTo-cons : (b : ℕ) (s : List ℕ) (ss : List (List ℕ)) → gluedTo (b ∷ s) ss ≡ b ∷ gluedTo s ss
 unfolding gluedTo

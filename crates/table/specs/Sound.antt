@@ -28,12 +28,3 @@ plain ps (b ∷ s) = elim (among ps b) [ true ↦ false | false ↦ plain ps s ]
 -- whether one separator leads from a place to another
 unfoldable pub onward : List ℕ → List ℕ → List ℕ → Bool
 onward ps from to = among ps (between ps from to) && same (raised ps (between ps from to) from) to
-
--- whether leaves go on soundly after one at a place; whether they begin so there
-unfoldable pub soundAfter : List ℕ → List ℕ → List Leaf → Bool
-soundAfter ps place [] = true
-soundAfter ps place (l ∷ ls) = onward ps place (l .place) && plain ps (l .text) && soundAfter ps (l .place) ls
-
-unfoldable pub soundFrom : List ℕ → List ℕ → List Leaf → Bool
-soundFrom ps place [] = false
-soundFrom ps place (l ∷ ls) = same (l .place) place && plain ps (l .text) && soundAfter ps (l .place) ls

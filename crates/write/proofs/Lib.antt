@@ -29,3 +29,4 @@ pub mod Passing
 pub mod Sizes
 pub mod TableTest
 pub mod LentTest
+pub mod ShutOut

@@ -13,7 +13,6 @@ use Rattle.laws.specs.Sums.{sumOf}
 use Rattle.laws.specs.Tables.{values}
 use Rattle.laws.proofs.Every.{all-from}
 use Rattle.laws.proofs.Tables.{length-values, getD-values}
-use Rattle.laws.proofs.Tests.{never-both}
 use Rattle.form.specs.declared.limits.Limits.{Limits}
 use Rattle.form.specs.declared.separators.Separators.{Separators}
 use Rattle.form.specs.Limits.{Lawful}
@@ -32,7 +31,7 @@ use Rattle.table.specs.Filed.{headerBytes, Filed}
 use Rattle.table.specs.Rows.{Table, segmentRowSize, leafRowSize, kindsOf, contextIn, segmentRowsFrom, leafRowsFrom, textOf, allLeaves, tableOf}
 use Rattle.table.specs.Reading.{Room, short, stated}
 use Rattle.table.specs.Back.{leafAt, leavesOf, separatorsAt, separatorsIn, segmentsOf, linesOf, written}
-use Rattle.table.specs.Sound.{Sound, soundFrom}
+use Rattle.table.specs.Sound.{Sound, last, next}
 use Rattle.table.specs.BySegment.{bySegment, kindAmong, contextAmong, writtenBytes}
 use Rattle.table.proofs.Accepting.{Known, Judged, Accepted, accepting}
 use Rattle.table.proofs.Back.{filed-some, separatorsIn-table}
@@ -44,7 +43,6 @@ use Rattle.table.proofs.LeafTexts.{AllText, text-leaves}
 use Rattle.table.proofs.LeafRows.{leavesOf-table}
 use Rattle.table.proofs.SegmentBytes.{filed-bytes}
 use Rattle.table.proofs.SoundTables.{headed, afterHeader, filed-leaves, filed-sound, table-filed, table-leaves}
-use Rattle.table.proofs.SoundTest.{soundFrom-true, soundFrom-holds}
 use Rattle.write.specs.Local.{groupsOf, kindsAmong, HeaderRows, thirdPlace, Local}
 use Rattle.write.specs.Writing.{ReadTo, readsBack}
 use Rattle.write.proofs.SameTables.{same-numbers, same-parts}
@@ -69,16 +67,20 @@ four-bytes (a ∷ b ∷ c ∷ []) h = absurd (omega arith)
 four-bytes (a ∷ b ∷ c ∷ d ∷ []) h = refl
 four-bytes (a ∷ b ∷ c ∷ d ∷ e ∷ s) h = absurd (omega arith)
 
+sound-some : {ps place : List ℕ} {ls : List Leaf} → Sound ps place ls → ls ≡ [] → ⊥
+sound-some (last w) e = let z : _≡_ {A = ℕ} 0 1 = cc in omega arith
+sound-some (next b w h others) e = let z : _≡_ {A = ℕ} 0 1 = cc in omega arith
+
 -- sound leaves from the third on: there are three at least, and the first two stand before them
-two-first : (f : ℕ → Leaf) (n : ℕ) (ps place : List ℕ) → soundFrom ps place (drop 2 (values f 0 n)) ≡ true
+two-first : (f : ℕ → Leaf) (n : ℕ) (ps place : List ℕ) → Sound ps place (drop 2 (values f 0 n))
     → values f 0 n ≡ f 0 ∷ f 1 ∷ drop 2 (values f 0 n)
-unfolding values soundFrom
-two-first f zero ps place h = absurd (never-both h refl)
-two-first f (suc zero) ps place h = absurd (never-both h refl)
+unfolding values
+two-first f zero ps place h = absurd (sound-some h refl)
+two-first f (suc zero) ps place h = absurd (sound-some h refl)
 two-first f (suc (suc n)) ps place h = refl
 
 -- so a table's leaves are the header's two and the others
-pub headed-leaves : (t : Table) → HeaderRows t → soundFrom (CR ∷ splitting (separatorsIn t)) thirdPlace (drop 2 (leavesOf t)) ≡ true
+pub headed-leaves : (t : Table) → HeaderRows t → Sound (CR ∷ splitting (separatorsIn t)) thirdPlace (drop 2 (leavesOf t))
     → leavesOf t ≡ headed (separatorsIn t) (drop 2 (leavesOf t))
 unfolding leavesOf headerBytes separatorsAt
 headed-leaves t w others =
@@ -118,14 +120,11 @@ module _ {L : Limits} {levels : ℕ → ℕ → ℕ} {t : Table} (lawful : Lawfu
   leaves-headed : leavesOf t ≡ headed (separatorsIn t) (drop 2 (leavesOf t))
   leaves-headed = headed-leaves t (w .header) (w .others)
 
-  leaves-sound : Sound (CR ∷ splitting (separatorsIn t)) thirdPlace (drop 2 (leavesOf t))
-  leaves-sound = soundFrom-true (CR ∷ splitting (separatorsIn t)) thirdPlace (drop 2 (leavesOf t)) (w .others)
-
   pub local-filed : Filed (separatorsIn t) (segmentsOf t)
-  local-filed = table-filed t (header-clear (separatorsIn t) all-allowed) leaves-sound leaves-headed
+  local-filed = table-filed t (header-clear (separatorsIn t) all-allowed) (w .others) leaves-headed
 
   pub local-leaves : allLeaves (separatorsIn t) (segmentsOf t) ≡ leavesOf t
-  local-leaves = table-leaves t (header-clear (separatorsIn t) all-allowed) leaves-sound leaves-headed
+  local-leaves = table-leaves t (header-clear (separatorsIn t) all-allowed) (w .others) leaves-headed
 
   kinds-are : kindsAmong t ≡ kindsOf (separatorsIn t) (segmentsOf t)
   kinds-are = same-kinds t (separatorsIn t) all-allowed (segmentsOf t) local-filed local-leaves
@@ -203,12 +202,10 @@ module _ (L : Limits) (lawful : Lawful L) (levels : ℕ → ℕ → ℕ) (ps : S
         many : i < table .card .leaves
         many = rw (filed-leaves ps h ss filed) (omega arith)
 
-    table-others : soundFrom (CR ∷ splitting (separatorsIn table)) thirdPlace (drop 2 (leavesOf table)) ≡ true
-    unfolding splitting
+    table-others : Sound (CR ∷ splitting (separatorsIn table)) thirdPlace (drop 2 (leavesOf table))
     table-others =
-        ap₂ (λ (q : Separators) (ls : List Leaf). soundFrom (CR ∷ splitting q) thirdPlace (drop 2 ls))
-        (separatorsIn-table levels ps (h ∷ ss) filed) table-headed
-        ∙ soundFrom-holds (CR ∷ splitting ps) refl (filed-sound ps h ss filed)
+        subst (λ (q : Separators). Sound (CR ∷ splitting q) thirdPlace (drop 2 (leavesOf table))) (sym (separatorsIn-table levels ps (h ∷ ss) filed))
+        (subst (λ (ls : List Leaf). Sound (CR ∷ splitting ps) thirdPlace (drop 2 ls)) (sym table-headed) (filed-sound ps h ss filed))
 
     pub filed-local : All Worded (h ∷ ss) → Judged L levels ps (h ∷ ss) table
         → length (unlines (cuts L (ps .field) (h ∷ ss))) ≤ L .bytes → Local L levels table

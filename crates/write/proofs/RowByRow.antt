@@ -22,7 +22,7 @@ use Rattle.table.specs.Rows.{Table, segmentRowSize, leafRowSize, leafRowsFrom, 
 use Rattle.table.specs.Back.{leafAt, leavesOf, separatorsIn, segmentsOf}
 use Rattle.table.specs.BySegment.{kindAmong}
 use Rattle.table.specs.RowTests.{endToEnd, goOnFrom, rowsStated}
-use Rattle.table.specs.Sound.{soundFrom}
+use Rattle.table.specs.Sound.{Sound}
 use Rattle.table.proofs.EndToEnd.{end-to-end}
 use Rattle.table.proofs.LeafTexts.{AllText, headed-text}
 use Rattle.table.proofs.LeafRows.{Placed, all-placed, length-leafRows}
@@ -41,7 +41,7 @@ length-stated lv first before [] = refl
 length-stated lv first before (g ∷ gs) = omega (arith, length-stated lv (first + length g) (kindAmong g ∷ before) gs)
 
 -- the header's bytes are text, and so are a table's where those of the leaves after it are
-module _ (t : Table) (header : HeaderRows t) (others : soundFrom (CR ∷ splitting (separatorsIn t)) thirdPlace (drop 2 (leavesOf t)) ≡ true) where
+module _ (t : Table) (header : HeaderRows t) (others : Sound (CR ∷ splitting (separatorsIn t)) thirdPlace (drop 2 (leavesOf t))) where
   all-allowed : AllAllowed (separatorsIn t)
   all-allowed = all-allowed-facts (separatorsIn t) (header .allowed)
 
@@ -58,7 +58,7 @@ module _ (t : Table) (header : HeaderRows t) (others : soundFrom (CR ∷ splitti
 -- the leaves after the header go on soundly and are text, by one test
 others-tested : (t : Table) → HeaderRows t
     → (goOnFrom (splitting (separatorsIn t)) thirdPlace (drop 2 (leavesOf t)) ≡ true)
-    ↔ ((soundFrom (CR ∷ splitting (separatorsIn t)) thirdPlace (drop 2 (leavesOf t)) ≡ true) × AllText (textOf (drop 2 (leavesOf t))))
+    ↔ (Sound (CR ∷ splitting (separatorsIn t)) thirdPlace (drop 2 (leavesOf t)) × AllText (textOf (drop 2 (leavesOf t))))
 unfolding splitting
 others-tested t header =
     begin-sound (splitting (separatorsIn t))

@@ -18,7 +18,7 @@ use Rattle.table.specs.Leaves.{Leaf}
 use Rattle.table.specs.Flat.{leaf}
 use Rattle.table.specs.Rows.{Table, segmentRowsFrom, leafRowsFrom, textOf}
 use Rattle.table.specs.Back.{leafAt, leavesOf, separatorsIn}
-use Rattle.table.specs.Sound.{soundFrom}
+use Rattle.table.specs.Sound.{Sound}
 use Rattle.table.specs.BySegment.{bySegment, kindAmong, contextAmong, writtenBytes}
 
 -- the leaves of each segment of a table, and the segments' kinds
@@ -58,7 +58,7 @@ pub record FewRows (L : Limits) (t : Table) : Type 0 where
 pub record Local (L : Limits) (levels : ℕ → ℕ → ℕ) (t : Table) : Type 0 where
   pub header : HeaderRows t
   -- from the third leaf on each stands where one separator leads from the leaf before it, and no text has a separator in it
-  pub others : soundFrom (CR ∷ splitting (separatorsIn t)) thirdPlace (drop 2 (leavesOf t)) ≡ true
+  pub others : Sound (CR ∷ splitting (separatorsIn t)) thirdPlace (drop 2 (leavesOf t))
   -- "Leaf texts lie end to end in the text area without separators, from start 0."
   pub leafRows : t .leafRows ≡ leafRowsFrom 0 (leavesOf t)
   pub text : t .text ≡ textOf (leavesOf t)
