@@ -21,7 +21,7 @@ use Rattle.table.specs.Reading.{Outcome, refused, accepted, Room, reading}
 use Rattle.table.proofs.Accepting.{Accepted, accepting}
 use Rattle.read.specs.Answering.{answerOf, roomOf}
 use Rattle.abi.specs.Cards.{cardNumbers, cardOf}
-use Rattle.abi.specs.Putting.{put}
+use Rattle.abi.specs.Putting.{putAll}
 use Rattle.abi.specs.Reading.{readNumbers, ReadInto}
 use Rattle.abi.proofs.CardNumbers.{card-taken}
 use Rattle.abi.proofs.Puts.{put-whole}
@@ -61,7 +61,7 @@ module _ (message text segments leaves answer : List ℕ) (room : 6 ≤ length a
       let o = reading form level (roomOf text segments leaves) message in
       let stored : answer′ ≡ readNumbers o ++ drop 6 answer =
       read .numbers
-      ∙ ap (λ (p : Outcome). put answer (readNumbers p)) (read-whole-outcome message text segments leaves answer room)
+      ∙ ap (λ (p : Outcome). putAll answer (readNumbers p)) (read-whole-outcome message text segments leaves answer room)
       ∙ put-whole answer (readNumbers o) room
       ∙ sets-eq (readNumbers o) answer 0 room in
       ap (λ (l : List ℕ). cardOf (drop 1 l)) stored

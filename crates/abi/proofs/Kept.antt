@@ -23,7 +23,7 @@ use Rattle.write.specs.Answer.{answer, outputAfter}
 use Rattle.look.specs.declared.leaf.Sought.{Sought}
 use Rattle.look.specs.declared.leaf.Sought.the-variants.{At, Nothing}
 use Rattle.abi.specs.Cards.{cardNumbers}
-use Rattle.abi.specs.Putting.{put}
+use Rattle.abi.specs.Putting.{putAll}
 use Rattle.abi.specs.Reading.{readNumbers, TellsOutcome, ReadInto}
 use Rattle.abi.specs.Writing.{writeNumbers, TellsWriting, WroteInto}
 use Rattle.abi.specs.Looking.{isThere, leafNumbers, TellsSought}
@@ -45,7 +45,7 @@ module _ (message text segments leaves answer : List ℕ) {r : ℕ} {text′ seg
 -- "A refusal changes none of the three buffers, and its card is all zero."
 pub refusal-kept : (o : Outcome) {text segments leaves answer : List ℕ} {r : ℕ} {text′ segments′ leaves′ answer′ : List ℕ}
     → TellsOutcome o text segments leaves answer r text′ segments′ leaves′ answer′ → (r ≡ 0 → ⊥)
-    → (text′ ≡ text) × (segments′ ≡ segments) × (leaves′ ≡ leaves) × (answer′ ≡ put answer (answerOf o .place ∷ 0 ∷ 0 ∷ 0 ∷ 0 ∷ 0 ∷ []))
+    → (text′ ≡ text) × (segments′ ≡ segments) × (leaves′ ≡ leaves) × (answer′ ≡ putAll answer (answerOf o .place ∷ 0 ∷ 0 ∷ 0 ∷ 0 ∷ 0 ∷ []))
 unfolding answerOf textPut segmentsPut leavesPut readNumbers cardNumbers
 refusal-kept (refused n p) g h = (g .textArea, g .segmentRows, g .leafRows, g .numbers)
 refusal-kept (accepted t) g h = absurd (h (g .number))
@@ -57,7 +57,7 @@ write-short-kept table output numbers wrote h = only.write table output numbers 
 
 -- "A refusal changes no output byte, and its bytes and lines are 0."
 pub write-refusal-kept : (w : Writing) {output numbers : List ℕ} {r : ℕ} {output′ numbers′ : List ℕ}
-    → TellsWriting w output numbers r output′ numbers′ → (r ≡ 0 → ⊥) → (output′ ≡ output) × (numbers′ ≡ put numbers (0 ∷ 0 ∷ 0 ∷ []))
+    → TellsWriting w output numbers r output′ numbers′ → (r ≡ 0 → ⊥) → (output′ ≡ output) × (numbers′ ≡ putAll numbers (0 ∷ 0 ∷ 0 ∷ []))
 unfolding answer outputAfter writeNumbers
 write-refusal-kept (refuses n) g h = (g .message, g .answers)
 write-refusal-kept (writes bytes lines) g h = absurd (h (g .number))
@@ -81,7 +81,7 @@ pub line-short-kept : (found : Found) (at : ℕ) (numbers : List ℕ) {r : ℕ} 
 line-short-kept found at numbers g h = only.line found at numbers g (line-short found at numbers h)
 
 -- the bytes of a watcher, put back, are as they were
-bytes-back : (bytes : List ℕ) → put bytes (watcherBytes (watcherOf bytes)) ≡ bytes
+bytes-back : (bytes : List ℕ) → putAll bytes (watcherBytes (watcherOf bytes)) ≡ bytes
 unfolding watcherBytes watcherOf
 bytes-back bytes =
     ⊎-elim
@@ -100,7 +100,7 @@ watch-no-kept bytes kind g =
     (λ short. g .watcher ∙ put-short bytes (watcherBytes (tellOf (watcherOf bytes) kind .watcher)) short)
     (λ room.
     let no = sym (and-passed (tellOf (watcherOf bytes) kind .yes) (le-leb 2 (length bytes) room)) ∙ sym (g .verdict) in
-    g .watcher ∙ ap (λ (w : Watcher). put bytes (watcherBytes w)) (stays (watcherOf bytes) kind no) ∙ bytes-back bytes)
+    g .watcher ∙ ap (λ (w : Watcher). putAll bytes (watcherBytes w)) (stays (watcherOf bytes) kind no) ∙ bytes-back bytes)
     (less-or-not (length bytes) 2)
 
 -- "A watcher of under two bytes says no to all."

@@ -9,16 +9,16 @@ use lib.ListN.{length, getD, set, drop, length-set}
 use lib.Seq.{sets, drop-length}
 use Rattle.laws.proofs.Parts.{left-cons}
 use Rattle.laws.proofs.Stores.{sets-first}
-use Rattle.abi.specs.Putting.{put}
+use Rattle.abi.specs.Putting.{putAll}
 
 module _ (buffer numbers : List ℕ) where
-  pub put-short : length buffer < length numbers → put buffer numbers ≡ buffer
-  unfolding put
-  put-short h = rw (lt-ltb (length buffer) (length numbers) h, put)
+  pub put-short : length buffer < length numbers → putAll buffer numbers ≡ buffer
+  unfolding putAll
+  put-short h = rw (lt-ltb (length buffer) (length numbers) h, putAll)
 
-  pub put-whole : length numbers ≤ length buffer → put buffer numbers ≡ sets buffer 0 numbers
-  unfolding put
-  put-whole h = rw (le-ltb (length buffer) (length numbers) h, put)
+  pub put-whole : length numbers ≤ length buffer → putAll buffer numbers ≡ sets buffer 0 numbers
+  unfolding putAll
+  put-whole h = rw (le-ltb (length buffer) (length numbers) h, putAll)
 
 -- the loop that puts them: the numbers from `at` on, put into the buffer as it stands, give what all of them give
 pub record Underway (buffer numbers stands : List ℕ) (at : ℕ) : Type 0 where
@@ -41,7 +41,7 @@ module _ {buffer numbers stands : List ℕ} {at : ℕ} (u : Underway buffer numb
             ∙ u .rest;
       }
 
-  pub put-done : length numbers ≤ at → length numbers ≤ length buffer → stands ≡ put buffer numbers
+  pub put-done : length numbers ≤ at → length numbers ≤ length buffer → stands ≡ putAll buffer numbers
   put-done past fits =
       let all : at ≡ length numbers = omega (arith, u .within) in
       let none : drop at numbers ≡ [] = rw all (drop-length numbers) in

@@ -12,7 +12,7 @@ use Rattle.table.specs.Reading.{Outcome, refused, reading}
 use Rattle.read.specs.declared.Answer.{Answer}
 use Rattle.read.specs.Answering.{answerOf, textPut, segmentsPut, leavesPut, roomOf, ReadAs}
 use Rattle.abi.specs.Cards.{cardNumbers}
-use Rattle.abi.specs.Putting.{put}
+use Rattle.abi.specs.Putting.{putAll}
 use Rattle.abi.specs.Reading.{readOutcome, readNumbers, TellsOutcome, ReadInto}
 use Rattle.abi.proofs.Puts.{put-short}
 
@@ -39,14 +39,14 @@ module _ (message text segments leaves answer : List ℕ) where
 
   pub read-whole : 6 ≤ length answer → {r : Answer} {text′ segments′ leaves′ answer′ : List ℕ}
       → ReadAs form level message text segments leaves r text′ segments′ leaves′
-      → answer′ ≡ put answer (r .place ∷ r .card .separator ∷ r .card .context ∷ r .card .segments ∷ r .card .leaves ∷ r .card .text ∷ [])
+      → answer′ ≡ putAll answer (r .place ∷ r .card .separator ∷ r .card .context ∷ r .card .segments ∷ r .card .leaves ∷ r .card .text ∷ [])
       → ReadInto message text segments leaves answer (r .number) text′ segments′ leaves′ answer′
   unfolding readNumbers cardNumbers
   read-whole h {r} {text′} {segments′} {leaves′} {answer′} gives stored =
       subst⁻¹ (λ (o : Outcome). TellsOutcome o text segments leaves answer (r .number) text′ segments′ leaves′ answer′) (read-whole-outcome h)
       (record {
         number = ap (λ (a : Answer). a .number) (gives .answer);
-        numbers = stored ∙ ap (λ (a : Answer). put answer (a .place ∷ cardNumbers (a .card))) (gives .answer);
+        numbers = stored ∙ ap (λ (a : Answer). putAll answer (a .place ∷ cardNumbers (a .card))) (gives .answer);
         textArea = gives .textArea;
         segmentRows = gives .segmentRows;
         leafRows = gives .leafRows;

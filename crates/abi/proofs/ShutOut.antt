@@ -10,7 +10,7 @@ use lib.Dec.{lit≤}
 use lib.ListN.{getD}
 use Rattle.order.specs.Contexts.{isContext}
 use Rattle.order.specs.Watcher.{allows, allowsNext, tellBy, tellOf}
-use Rattle.abi.specs.Putting.{put}
+use Rattle.abi.specs.Putting.{putAll}
 use Rattle.abi.specs.Reading.{ReadInto}
 use Rattle.abi.specs.Watching.{watcherBytes, watcherOf, Watched}
 use Rattle.abi.proofs.Kept.{read-short-kept, watch-short-no}
@@ -29,7 +29,7 @@ module _ (says : List ℕ → ℕ → Bool) (after : List ℕ → ℕ → List �
     (meets : (bytes : List ℕ) (kind : ℕ) → Watched bytes kind (says bytes kind) (after bytes kind)) where
   -- P may not begin a message: the next H is heard by a watcher that was told nothing yet
   pub goes-on-after-a-no : after (1 ∷ 0 ∷ []) 2 ≡ (1 ∷ 2 ∷ []) → ⊥
-  unfolding put watcherBytes watcherOf tellOf tellBy allows allowsNext isContext
+  unfolding putAll watcherBytes watcherOf tellOf tellBy allows allowsNext isContext
   goes-on-after-a-no went =
       let z : _≡_ {A = ℕ} 0 2 = ap (λ (l : List ℕ). getD l 1 0) (sym (meets (1 ∷ 0 ∷ []) 2 .watcher) ∙ went) in
       omega arith

@@ -13,7 +13,7 @@ use Rattle.table.specs.Lent.{Lent, lent}
 use Rattle.write.specs.declared.Written.{Written}
 use Rattle.write.specs.Writing.{Writing, refuses, writing}
 use Rattle.write.specs.Answer.{answer, outputAfter}
-use Rattle.abi.specs.Putting.{put}
+use Rattle.abi.specs.Putting.{putAll}
 use Rattle.abi.specs.Writing.{writeOutcome, writeNumbers, TellsWriting, WroteInto}
 use Rattle.abi.proofs.Puts.{put-short}
 
@@ -37,7 +37,7 @@ module _ {card : Card} (taken : Card) (same : taken ≡ card) (segments leaves t
   pub write-whole : 3 ≤ length numbers → {r : Written} {output′ numbers′ : List ℕ}
       → r ≡ answer (writing form level (lent taken segments leaves text) (length output))
       → output′ ≡ outputAfter output (writing form level (lent taken segments leaves text) (length output))
-      → numbers′ ≡ put numbers (r .place ∷ r .bytes ∷ r .lines ∷ [])
+      → numbers′ ≡ putAll numbers (r .place ∷ r .bytes ∷ r .lines ∷ [])
       → WroteInto (lent card segments leaves text) output numbers (r .number) output′ numbers′
   unfolding writeNumbers
   write-whole h {r} {output′} {numbers′} answers written stored =
@@ -47,6 +47,6 @@ module _ {card : Card} (taken : Card) (same : taken ≡ card) (segments leaves t
       let told = answers ∙ ap answer came in
       record {
         number = ap (λ (w : Written). w .number) told;
-        answers = stored ∙ ap (λ (w : Written). put numbers (w .place ∷ w .bytes ∷ w .lines ∷ [])) told;
+        answers = stored ∙ ap (λ (w : Written). putAll numbers (w .place ∷ w .bytes ∷ w .lines ∷ [])) told;
         message = written ∙ ap (outputAfter output) came;
       }

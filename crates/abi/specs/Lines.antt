@@ -10,7 +10,7 @@ use Rattle.form.specs.Numbers.{shortBuffer}
 use Rattle.line.specs.declared.finder.Found.{Found}
 use Rattle.line.specs.declared.finder.Found.the-variants.{Line, End, Fault}
 use Rattle.line.specs.Finding.{nextOf}
-use Rattle.abi.specs.Putting.{put}
+use Rattle.abi.specs.Putting.{putAll}
 
 -- "Returns 0"; "Returns 4, 5 or 6 at a fault"
 unfoldable pub numberOf : Found → ℕ
@@ -31,4 +31,4 @@ numberFor found answer = elim (ltb (length answer) 2) [ true ↦ shortBuffer | f
 -- what was found at a place, told by its number and put into the answer: the contract of `sargaceu_line`
 pub record FoundLine (found : Found) (at : ℕ) (answer : List ℕ) (r : ℕ) (answer′ : List ℕ) : Type 0 where
   pub number : r ≡ numberFor found answer
-  pub places : answer′ ≡ put answer (endOf at found ∷ nextOf at found ∷ [])
+  pub places : answer′ ≡ putAll answer (endOf at found ∷ nextOf at found ∷ [])

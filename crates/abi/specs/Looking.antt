@@ -9,11 +9,11 @@ use Rattle.look.specs.declared.leaf.Place.{Place}
 use Rattle.look.specs.declared.leaf.Sought.{Sought}
 use Rattle.look.specs.declared.leaf.Sought.the-variants.{At, Nothing}
 use Rattle.look.specs.Looking.{soughtIn}
-use Rattle.abi.specs.Putting.{put}
+use Rattle.abi.specs.Putting.{putAll}
 
 -- a place of five numbers
-abbrev pub placeOf : (segment field repetition subfield subsubfield : ℕ) → Place
-placeOf segment field repetition subfield subsubfield =
+abbrev pub givenPlace : (segment field repetition subfield subsubfield : ℕ) → Place
+givenPlace segment field repetition subfield subsubfield =
     record { segment = segment; field = field; repetition = repetition; subfield = subfield; subsubfield = subsubfield }
 
 -- whether a leaf is there
@@ -29,7 +29,7 @@ leafNumbers Nothing = []
 -- what was sought, told and put into the answer
 pub record TellsSought (s : Sought) (answer : List ℕ) (r : Bool) (answer′ : List ℕ) : Type 0 where
   pub found : r ≡ isThere s
-  pub numbers : answer′ ≡ put answer (leafNumbers s)
+  pub numbers : answer′ ≡ putAll answer (leafNumbers s)
 
 -- the contract of `sargaceu_find_leaf`
 abbrev pub FoundLeaf : Lent → Place → (answer : List ℕ) → Bool → (answer′ : List ℕ) → Type 0

@@ -8,5 +8,5 @@ use lib.ListN.{length}
 use lib.Seq.{sets}
 
 -- a buffer with the numbers at its front; one that is shorter than they are "is left as it was"
-unfoldable pub put : List ℕ → List ℕ → List ℕ
-put buffer numbers = elim (ltb (length buffer) (length numbers)) [ true ↦ buffer | false ↦ sets buffer 0 numbers ]
+unfoldable pub putAll : List ℕ → List ℕ → List ℕ
+putAll buffer numbers = elim (ltb (length buffer) (length numbers)) [ true ↦ buffer | false ↦ sets buffer 0 numbers ]

@@ -13,7 +13,7 @@ use Rattle.order.specs.Owners.{level}
 use Rattle.table.specs.Reading.{Outcome, refused, reading}
 use Rattle.read.specs.Answering.{answerOf, textPut, segmentsPut, leavesPut, roomOf}
 use Rattle.abi.specs.Cards.{cardNumbers}
-use Rattle.abi.specs.Putting.{put}
+use Rattle.abi.specs.Putting.{putAll}
 
 -- the outcome of reading a message, or 1 where the answer has "under six numbers"
 unfoldable pub readOutcome : (message text segments leaves answer : List ℕ) → Outcome
@@ -30,7 +30,7 @@ readNumbers o = answerOf o .place ∷ cardNumbers (answerOf o .card)
 -- an outcome, told by its number, and put into the answer and the three buffers
 pub record TellsOutcome (o : Outcome) (text segments leaves answer : List ℕ) (r : ℕ) (text′ segments′ leaves′ answer′ : List ℕ) : Type 0 where
   pub number : r ≡ answerOf o .number
-  pub numbers : answer′ ≡ put answer (readNumbers o)
+  pub numbers : answer′ ≡ putAll answer (readNumbers o)
   pub textArea : text′ ≡ sets text 0 (textPut o)
   pub segmentRows : segments′ ≡ sets segments 0 (segmentsPut o)
   pub leafRows : leaves′ ≡ sets leaves 0 (leavesPut o)

@@ -8,7 +8,7 @@ use lib.Dec.{leb}
 use lib.ListN.{length, getD}
 use Rattle.order.specs.declared.watcher.Watcher.{Watcher}
 use Rattle.order.specs.Watcher.{tellOf}
-use Rattle.abi.specs.Putting.{put}
+use Rattle.abi.specs.Putting.{putAll}
 
 -- the two bytes of a watcher
 unfoldable pub watcherBytes : Watcher → List ℕ
@@ -25,4 +25,4 @@ saysYes bytes kind = leb 2 (length bytes) && tellOf (watcherOf bytes) kind .yes
 -- what a watcher says, and the watcher after it: the contract of `sargaceu_watch`
 pub record Watched (bytes : List ℕ) (kind : ℕ) (r : Bool) (bytes′ : List ℕ) : Type 0 where
   pub verdict : r ≡ saysYes bytes kind
-  pub watcher : bytes′ ≡ put bytes (watcherBytes (tellOf (watcherOf bytes) kind .watcher))
+  pub watcher : bytes′ ≡ putAll bytes (watcherBytes (tellOf (watcherOf bytes) kind .watcher))

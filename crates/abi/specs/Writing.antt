@@ -12,7 +12,7 @@ use Rattle.order.specs.Owners.{level}
 use Rattle.table.specs.Lent.{Lent}
 use Rattle.write.specs.Writing.{Writing, refuses, writing}
 use Rattle.write.specs.Answer.{answer, outputAfter}
-use Rattle.abi.specs.Putting.{put}
+use Rattle.abi.specs.Putting.{putAll}
 
 -- the outcome of writing a table, or 1 where the answer has "under three numbers"
 unfoldable pub writeOutcome : Lent → (output numbers : List ℕ) → Writing
@@ -29,7 +29,7 @@ writeNumbers w = answer w .place ∷ answer w .bytes ∷ answer w .lines ∷ []
 -- an outcome, told by its number, and put into the answer and the output
 pub record TellsWriting (w : Writing) (output numbers : List ℕ) (r : ℕ) (output′ numbers′ : List ℕ) : Type 0 where
   pub number : r ≡ answer w .number
-  pub answers : numbers′ ≡ put numbers (writeNumbers w)
+  pub answers : numbers′ ≡ putAll numbers (writeNumbers w)
   pub message : output′ ≡ outputAfter output w
 
 -- the contract of `sargaceu_write`

@@ -7,7 +7,7 @@ ghost use mathlib.Core.Path.{_≡_};
 ghost use Rattle.form.specs.Limits.{form};
 ghost use Rattle.line.specs.Finding.{foundAt};
 ghost use Rattle.abi.specs.Lines.{FoundLine};
-ghost use Rattle.abi.specs.Putting.{put};
+ghost use Rattle.abi.specs.Putting.{putAll};
 
 // How many numbers an answer has: where the line ends, and where the next one begins.
 const ANSWER: usize = 2;
@@ -30,7 +30,7 @@ pub extern "C" fn sargaceu_line(message: &[u8], at: usize, answer: &mut [usize])
 
 // A number, with two numbers put into the answer.
 fn told(answer: &mut [usize], number: u8, end: usize, next: usize) -> u8
-    ensures { λ r. ⌜ (r ≡ number) × (now (answer .exit) ≡ put (now (answer .entry)) (end ∷ next ∷ [])) ⌝ }
+    ensures { λ r. ⌜ (r ≡ number) × (now (answer .exit) ≡ putAll (now (answer .entry)) (end ∷ next ∷ [])) ⌝ }
 {
     let numbers = [end, next];
     answer::put_numbers(answer, &numbers);

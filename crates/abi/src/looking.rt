@@ -3,28 +3,29 @@ use crate::answer;
 use crate::card;
 use look::leaf::Place;
 use look::leaf::Sought;
+use table::rows;
 ghost use mathlib.Core.Path.{_≡_};
 ghost use Rattle.table.specs.Lent.{lent};
 ghost use Rattle.look.specs.Looking.{rowAfter, sameOrder};
 ghost use Rattle.abi.specs.Cards.{cardOf};
-ghost use Rattle.abi.specs.Looking.{placeOf, FoundLeaf};
+ghost use Rattle.abi.specs.Looking.{givenPlace, FoundLeaf};
 
 // Whether the leaf at a place is there, and where its text lies.
 #[no_mangle]
 pub extern "C" fn sargaceu_find_leaf(
     card: &[usize],
-    segments: &[u16],
-    leaves: &[u16],
+    segments: &[rows::Entry],
+    leaves: &[rows::Entry],
     text: &[u8],
-    segment: u16,
-    field: u16,
-    repetition: u16,
-    subfield: u16,
-    subsubfield: u16,
+    segment: rows::Entry,
+    field: rows::Entry,
+    repetition: rows::Entry,
+    subfield: rows::Entry,
+    subsubfield: rows::Entry,
     answer: &mut [usize],
 ) -> bool
     ensures { λ r. ⌜ FoundLeaf (lent (cardOf (now (card .entry))) (now (segments .entry)) (now (leaves .entry)) (now (text .entry)))
-        (placeOf segment field repetition subfield subsubfield) (now (answer .entry)) r (now (answer .exit)) ⌝ }
+        (givenPlace segment field repetition subfield subsubfield) (now (answer .entry)) r (now (answer .exit)) ⌝ }
 {
     let place = Place {
         segment,
@@ -48,10 +49,10 @@ pub extern "C" fn sargaceu_find_leaf(
 #[no_mangle]
 pub extern "C" fn sargaceu_next_row(
     card: &[usize],
-    segments: &[u16],
+    segments: &[rows::Entry],
     after: usize,
-    kind: u16,
-    owner: u16,
+    kind: rows::Entry,
+    owner: rows::Entry,
 ) -> usize
     ensures { λ r. ⌜ r ≡ rowAfter (now (segments .entry)) (cardOf (now (card .entry)) .segments) after kind owner ⌝ }
 {
@@ -62,15 +63,15 @@ pub extern "C" fn sargaceu_next_row(
 #[no_mangle]
 pub extern "C" fn sargaceu_same_order(
     card: &[usize],
-    segments: &[u16],
-    leaves: &[u16],
+    segments: &[rows::Entry],
+    leaves: &[rows::Entry],
     text: &[u8],
-    row: u16,
+    row: rows::Entry,
     other_card: &[usize],
-    other_segments: &[u16],
-    other_leaves: &[u16],
+    other_segments: &[rows::Entry],
+    other_leaves: &[rows::Entry],
     other_text: &[u8],
-    other_row: u16,
+    other_row: rows::Entry,
 ) -> bool
     ensures { λ r.
         ⌜ r

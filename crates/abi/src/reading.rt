@@ -1,6 +1,7 @@
 // The reader.
 use crate::answer;
 use form::number::Number;
+use table::rows;
 ghost use Rattle.abi.specs.Reading.{ReadInto};
 
 // How many numbers an answer has: the place, and the five of the card.
@@ -12,8 +13,8 @@ const ANSWER: usize = 6;
 pub extern "C" fn sargaceu_read(
     message: &[u8],
     text: &mut [u8],
-    segments: &mut [u16],
-    leaves: &mut [u16],
+    segments: &mut [rows::Entry],
+    leaves: &mut [rows::Entry],
     answer: &mut [usize],
 ) -> u8
     ensures { λ r. ⌜ ReadInto (now (message .entry)) (now (text .entry)) (now (segments .entry)) (now (leaves .entry)) (now (answer .entry))

@@ -1,4 +1,5 @@
 // The listing.
+use table::rows;
 ghost use Prim.Native.Nat.{_≤_};
 ghost use lib.ListN.{length};
 ghost use Rattle.form.specs.Limits.{form};
@@ -11,8 +12,8 @@ ghost use Rattle.listing.specs.Listing.{ListedAs};
 pub extern "C" fn sargaceu_list(
     message: &[u8],
     text: &mut [u8],
-    segments: &mut [u16],
-    leaves: &mut [u16],
+    segments: &mut [rows::Entry],
+    leaves: &mut [rows::Entry],
     listing: &mut [u8],
 ) -> usize
     ensures { λ r. ⌜ ListedAs form level (now (message .entry)) (now (text .entry)) (now (segments .entry)) (now (leaves .entry)) (now (listing .entry))

@@ -2,6 +2,7 @@
 use crate::answer;
 use crate::card;
 use form::number::Number;
+use table::rows;
 ghost use mathlib.Core.Path.{_≡_};
 ghost use Rattle.form.specs.Limits.{form};
 ghost use Rattle.order.specs.Owners.{level};
@@ -17,8 +18,8 @@ const ANSWER: usize = 3;
 #[no_mangle]
 pub extern "C" fn sargaceu_write(
     card: &[usize],
-    segments: &[u16],
-    leaves: &[u16],
+    segments: &[rows::Entry],
+    leaves: &[rows::Entry],
     text: &[u8],
     output: &mut [u8],
     answer: &mut [usize],
@@ -39,8 +40,8 @@ pub extern "C" fn sargaceu_write(
 #[no_mangle]
 pub extern "C" fn sargaceu_is_table(
     card: &[usize],
-    segments: &[u16],
-    leaves: &[u16],
+    segments: &[rows::Entry],
+    leaves: &[rows::Entry],
     text: &[u8],
 ) -> bool
     ensures { λ r. ⌜ r ≡ isTable form level (lent (cardOf (now (card .entry))) (now (segments .entry)) (now (leaves .entry)) (now (text .entry))) ⌝ }

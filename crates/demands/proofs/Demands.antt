@@ -9,7 +9,7 @@ use mathlib.Core.Path.{_≡_}
 use Prim.Native.Nat.{ℕ, _≤_, _<_}
 use lib.Dec.{ltb}
 use lib.ListN.{length}
-use Rattle.laws.specs.Each.{Each}
+use Rattle.laws.specs.Every.{All}
 use Rattle.form.specs.declared.limits.Limits.{Limits}
 use Rattle.form.specs.declared.separators.Separators.{Separators}
 use Rattle.form.specs.declared.separators.Header.the-variants.{Sound}
@@ -74,7 +74,7 @@ module _ (L : Limits) (levels : ℕ → ℕ → ℕ) where
 
   module _ (lawful : Lawful L) where
     -- Demand 2. "Writing a table gives lines of at most 220 characters", CR included: of any table
-    pub lines-of-220 : (t : Table) → Each (λ (l : List ℕ). length l ≤ L .line) (linesOf L t)
+    pub lines-of-220 : (t : Table) → All (λ (l : List ℕ). length l ≤ L .line) (linesOf L t)
     lines-of-220 t = lines-short L lawful t
 
     -- "that read back to the same table"

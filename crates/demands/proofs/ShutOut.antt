@@ -100,7 +100,7 @@ module _ (r : ℕ) (h : r ≡ writtenSize form level K1-lent) where
 -- an answer whose lines or bytes are one off
 module _ (r : Written) (h : r ≡ answer (writing form level K1-lent (form .bytes))) where
   pub counts-a-line-more : r .lines ≡ 6 → ⊥
-  unfolding answer K1 bytes k1 filed concat values lineCount roundedUp splitting pieces addenda cut cuts unlines onto split leafAt leavesOf separatorsAt between unsplitFrom unsplit segmentsOf linesOf written
+  unfolding answer bytes k1 filed concat values lineCount roundedUp splitting pieces addenda cut cuts unlines onto split leafAt leavesOf separatorsAt between unsplitFrom unsplit segmentsOf linesOf
   counts-a-line-more e =
       let lines : r .lines ≡ 5 = ap (λ (w : Written). w .lines) h ∙ ap (λ (w : Writing). answer w .lines) k1-written in
       omega (arith, lines, e)

@@ -54,10 +54,6 @@ module _ (names : List (List ℕ)) where
   unfolding numberAmong
   known k l = first-some (same (getD names k [])) [] 1 names k l (same-self (getD names k []))
 
-  -- so a text has a number exactly where it is one of the names
-  pub one-known : (t : List ℕ) (k : ℕ) → k < length names → t ≡ getD names k [] → numberAmong names t ≡ 0 → ⊥
-  one-known t k l e z = omega (arith, known k l, ap (numberAmong names) e)
-
   pub known-one : (t : List ℕ) → (numberAmong names t ≡ 0 → ⊥) → (k : ℕ) × (k < length names) × (t ≡ getD names k [])
   unfolding numberAmong
   known-one t h =
@@ -88,11 +84,6 @@ module _ (names : List (List ℕ)) where
       (λ (e : eqb (numberAmong names t) 0 ≡ true). omega (arith, eqb-true (numberAmong names t) 0 e))
       (λ (e : eqb (numberAmong names t) 0 ≡ false). found-within t (first-found (same t) [] 1 names (eqb-false (numberAmong names t) 0 e)))
       (either (eqb (numberAmong names t) 0))
-
-  -- two texts of the same number are the same
-  pub same-number : (s t : List ℕ) → numberAmong names s ≡ numberAmong names t → (numberAmong names s ≡ 0 → ⊥) → s ≡ t
-  same-number s t e h =
-      sym (name-of-number s h) ∙ ap (λ (n : ℕ). getD ([] ∷ names) n []) e ∙ name-of-number t (λ z. h (e ∙ z))
 
   -- each name's own number, where no name stands twice
   pub number-of-name : ownNumbers names ≡ true → (k : ℕ) → 1 ≤ k → k ≤ length names → numberAmong names (getD ([] ∷ names) k []) ≡ k
@@ -166,14 +157,6 @@ kind-within t = number-within kindNames t
 pub kind-name : (t : List ℕ) → (kindOf t ≡ 0 → ⊥) → getD ([] ∷ kindNames) (kindOf t) [] ≡ t
 unfolding kindOf
 kind-name t h = name-of-number kindNames t h
-
-pub kind-short : (t : List ℕ) → (kindOf t ≡ 0 → ⊥) → length t ≤ 3
-unfolding kindOf
-kind-short t h = short-length t (known-passes kindNames short kinds-short t h)
-
-pub kind-capital : (t : List ℕ) → (kindOf t ≡ 0 → ⊥) → (i : ℕ) → i < length t → (65 ≤ getD t i 0) × (getD t i 0 ≤ 90)
-unfolding kindOf
-kind-capital t h = capital-at t (known-passes kindNames capitals kinds-capitals t h)
 
 pub name-kind : (k : ℕ) → 1 ≤ k → k ≤ 12 → kindOf (getD ([] ∷ kindNames) k []) ≡ k
 unfolding kindOf kindNames

@@ -10,8 +10,9 @@ use lib.Dec.{eqb, ltb}
 use lib.ListN.{length, getD}
 use borrow.Author.Tests.{eq-eqb, ne-eqb, leb-true, ltb-true, lt-ltb, le-ltb}
 use Rattle.laws.specs.Lists.{same, firstFrom}
-use Rattle.laws.specs.Every.{All, none, also}
+use Rattle.laws.specs.Every.{none, also}
 use Rattle.laws.specs.Texts.{bytes}
+use Rattle.laws.proofs.Bytes.{Bytes}
 use Rattle.laws.proofs.Lists.{every, same-self, same-equal, Absent, Absent.past}
 use Rattle.laws.proofs.Tests.{either, never-both, and-first, and-second}
 use Rattle.form.specs.Names.{kindNames, contextNames, numberAmong, packedOnto, packed, packedAmong, tooMany}
@@ -31,10 +32,6 @@ none-from (t ∷ names) n k (past h a) = rw (ne-eqb n (packed t) h, firstFrom) (
 pub packed-none : (names : List (List ℕ)) (n : ℕ) → Absent n (packedNames names) → packedAmong names n ≡ 0
 unfolding packedAmong
 packed-none names n a = none-from names n 1 a
-
--- every letter is a byte
-abbrev pub Bytes : List ℕ → Type 0
-Bytes t = All (λ (b : ℕ). b < 256) t
 
 -- how many letters a number stands for, three at most
 unfoldable lettersIn : ℕ → ℕ

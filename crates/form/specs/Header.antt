@@ -5,7 +5,7 @@ use mathlib.Core.List.{List, [], _∷_}
 use Prim.Native.Nat.{ℕ}
 use lib.Dec.{leb, eqb}
 use lib.ListN.{length, getD}
-use Rattle.laws.specs.Lists.{among, count}
+use Rattle.laws.specs.Lists.{among}
 use Rattle.form.specs.declared.separators.Separators.{Separators}
 use Rattle.form.specs.declared.separators.Header.{Header}
 use Rattle.form.specs.declared.separators.Header.the-variants.{Sound, Broken}

@@ -3,7 +3,6 @@
 use mathlib.Core.Bool.{true, false}
 use mathlib.Core.List.{List, [], _∷_, map}
 use Prim.Native.Nat.{ℕ, _+_, _*_}
-use Prim.Native.String.{String}
 use lib.Dec.{leb, eqb}
 use lib.ListN.{take}
 use Rattle.laws.specs.Lists.{same, firstFrom}

@@ -1,6 +1,6 @@
 -- What holds of every element: of the first and of the rest, of two lists in a row, of what is left of a list, of what is made of one.
 -- Assumes nothing.
-use mathlib.Core.List.{List, [], _∷_, _++_, map}
+use mathlib.Core.List.{List, [], _∷_, _++_, map, reverseAux}
 use Prim.Native.Nat.{ℕ, zero, suc, _<_}
 use native.Mathlib.Omega.{arith}
 use lib.ListN.{length, take, drop, getD}
@@ -35,6 +35,10 @@ module _ {ℓ ℓ′} {A : Type ℓ} {P : A → Type ℓ′} where
   all-take (suc n) none = none
   all-take (suc n) (also h w) = also h (all-take n w)
 
+  pub all-reverse : {s t : List A} → All P s → All P t → All P (reverseAux s t)
+  all-reverse none v = v
+  all-reverse (also h w) v = all-reverse w (also h v)
+
   -- at each place, and from each place
   pub all-at : {s : List A} (i : ℕ) (d : A) → All P s → i < length s → P (getD s i d)
   all-at i d none h = absurd (omega arith)
@@ -44,6 +48,15 @@ module _ {ℓ ℓ′} {A : Type ℓ} {P : A → Type ℓ′} where
   pub all-of : (s : List A) (d : A) → ((i : ℕ) → i < length s → P (getD s i d)) → All P s
   all-of [] d h = none
   all-of (a ∷ s) d h = also (h 0 (omega arith)) (all-of s d (λ i less. h (suc i) (omega arith)))
+
+  pub all-both {κ} : {Q : A → Type κ} {s : List A} → All P s → All Q s → All (λ a. P a × Q a) s
+  all-both none none = none
+  all-both (also h w) (also k v) = also (h, k) (all-both w v)
+
+  -- what each element's own property gives, of the element and of what is made of it
+  pub all-from {κ} : {Q : A → Type κ} → ((a : A) → P a → Q a) → {s : List A} → All P s → All Q s
+  all-from h none = none
+  all-from h (also {a} w ws) = also (h a w) (all-from h ws)
 
   pub all-map {κ κ′} : {B : Type κ} {Q : B → Type κ′} (f : A → B) → ((a : A) → P a → Q (f a)) → {s : List A} → All P s → All Q (map f s)
   all-map f h none = none

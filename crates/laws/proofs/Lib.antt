@@ -1,11 +1,9 @@
 pub mod Equality
-pub mod Bools
 pub mod Tests
 pub mod Cases
 pub mod Lists
 pub mod Members
 pub mod Every
-pub mod Each
 pub mod Parts
 pub mod Sums
 pub mod Tables

@@ -35,9 +35,6 @@ same-equal (a ∷ s) (b ∷ t) h =
 pub different-same : {s t : List ℕ} → (s ≡ t → ⊥) → same s t ≡ false
 different-same {s} {t} h = ⊎-elim (λ e. absurd (h (same-equal s t e))) (λ e. e) (either (same s t))
 
-pub same-different : {s t : List ℕ} → same s t ≡ false → s ≡ t → ⊥
-same-different {s} {t} h e = never-both (rw (← e) (same-self s)) h
-
 -- `among`: the first element decides, or the rest
 module _ (a : ℕ) (s : List ℕ) (b : ℕ) where
   pub among-hit : eqb b a ≡ true → among (a ∷ s) b ≡ true

@@ -22,14 +22,6 @@ module _ {ℓ} {A : Type ℓ} where
   sumOf-append f [] t = omega arith
   sumOf-append f (a ∷ s) t = omega (arith, sumOf-append f s t)
 
-  pub concat-nil : concat {A = A} [] ≡ []
-  unfolding concat
-  concat-nil = refl
-
-  pub concat-cons : (s : List A) (ss : List (List A)) → concat (s ∷ ss) ≡ s ++ concat ss
-  unfolding concat
-  concat-cons s ss = refl
-
   pub concat-append : (ss tt : List (List A)) → concat (ss ++ tt) ≡ concat ss ++ concat tt
   unfolding concat
   concat-append [] tt = refl

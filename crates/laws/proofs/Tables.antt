@@ -2,15 +2,17 @@
 -- Assumes nothing.
 use mathlib.Core.Bool.{Bool, true, false}
 use mathlib.Core.List.{List, [], _∷_, _++_}
-use mathlib.Core.Path.{_≡_, refl, ap, ap₂, subst, _∙_, sym}
+use mathlib.Core.Logic.{_⊎_, inl, inr}
+use mathlib.Core.Path.{_≡_, refl, ap, ap₂, _∙_, sym}
 use Prim.Native.Nat.{ℕ, zero, suc, _+_, _-_, _≤_, _<_}
 use native.Mathlib.Nat.{add-zero, zero-add, add-suc, suc-add, le-of-suc-le-suc, not-suc-le-zero}
 use native.Mathlib.Omega.{arith}
 use borrow.Author.Tests.{eq-eqb, ne-eqb}
-use lib.Dec.{T, eqb}
-use lib.ListN.{length, drop, getD, set, replicate}
+use lib.Dec.{eqb}
+use lib.ListN.{length, getD, set, replicate}
 use Rattle.laws.specs.Tables.{values, everyFrom, below}
-use Rattle.laws.proofs.Bools.{T-true, true-T}
+use Rattle.laws.proofs.Cases.{equal-or-not}
+use Rattle.laws.proofs.Tests.{Tested, passed, failed, tested, never-both}
 
 pub length-values {ℓ} : {A : Type ℓ} (f : ℕ → A) (i n : ℕ) → length (values f i n) ≡ n
 unfolding values
@@ -28,27 +30,19 @@ getD-values f i (suc n) (suc k) d h =
 pub getD-values-zero {ℓ} : {A : Type ℓ} (f : ℕ → A) (n k : ℕ) (d : A) → k < n → getD (values f 0 n) k d ≡ f k
 getD-values-zero f n k d h = getD-values f 0 n k d h ∙ ap f (zero-add k)
 
--- the two parts of one step of the test
-step-head : (b : Bool) (x : Bool) → T (elim b [ true ↦ x | false ↦ false ]) → T b
-step-head true x t = tt
-step-head false x t = t
-
-step-tail : (b : Bool) (x : Bool) → T (elim b [ true ↦ x | false ↦ false ]) → T x
-step-tail true x t = t
-step-tail false x t = absurd t
-
-pub everyFrom-at : (f : ℕ → Bool) (i n : ℕ) → T (everyFrom f i n) → (k : ℕ) → k < n → T (f (i + k))
+-- one test over all numbers from i on, at each of them
+pub every-at : (f : ℕ → Bool) (i n : ℕ) → everyFrom f i n ≡ true → (k : ℕ) → i ≤ k → k < i + n → f k ≡ true
 unfolding everyFrom
-everyFrom-at f i zero t k h = absurd (not-suc-le-zero h)
-everyFrom-at f i (suc n) t zero h =
-    subst (λ (m : ℕ). T (f m)) (sym (add-zero i)) (step-head (f i) (everyFrom f (suc i) n) t)
-everyFrom-at f i (suc n) t (suc k) h =
-    subst (λ (m : ℕ). T (f m)) (suc-add i k ∙ sym (add-suc i k))
-    (everyFrom-at f (suc i) n (step-tail (f i) (everyFrom f (suc i) n) t) k (le-of-suc-le-suc h))
+every-at f i zero t k low high = absurd (omega arith)
+every-at f i (suc n) t k low high = go (tested (f i)) (equal-or-not i k) (λ later less. every-at f (suc i) n later k less (omega arith))
+  where
+    go : Tested (f i) → (i ≡ k) ⊎ (i ≡ k → ⊥) → (everyFrom f (suc i) n ≡ true → i < k → f k ≡ true) → f k ≡ true
+    go (passed h) (inl e) later = rw (← e) h
+    go (passed h) (inr e) later = later (rw (h, everyFrom) at t) (omega arith)
+    go (failed h) e later = absurd (never-both t (rw (h, everyFrom)))
 
--- one test over all numbers below n, at each of them
-pub at : (n : ℕ) (f : ℕ → Bool) → T (below n f) → (k : ℕ) → k < n → T (f k)
-at n f t k h = subst (λ (m : ℕ). T (f m)) (zero-add k) (everyFrom-at f 0 n t k h)
+pub at : (n : ℕ) (f : ℕ → Bool) → below n f ≡ true → (k : ℕ) → k < n → f k ≡ true
+at n f t k h = every-at f 0 n t k (omega arith) (omega arith)
 
 -- two tables are the same where their functions are
 pub values-same {ℓ} : {A : Type ℓ} (f g : ℕ → A) (i n : ℕ) → ((k : ℕ) → i ≤ k → k < i + n → f k ≡ g k) → values f i n ≡ values g i n
@@ -93,13 +87,7 @@ values-later {A} f i (suc n) = ap {B = List A} (λ r. f (suc i) ∷ r) (values-l
 pub values-as {ℓ} : {A : Type ℓ} (f g : ℕ → A) → ((k : ℕ) → f k ≡ g k) → (i n : ℕ) → values f i n ≡ values g i n
 values-as f g h i n = values-same f g i n (λ k low high. h k)
 
--- the same test, as an equation
-pub every-at : (f : ℕ → Bool) (i n : ℕ) → everyFrom f i n ≡ true → (k : ℕ) → i ≤ k → k < i + n → f k ≡ true
-every-at f i n e k low high =
-    subst (λ (m : ℕ). f m ≡ true) (omega arith)
-    (T-true (f (i + (k - i))) (everyFrom-at f i n (true-T (everyFrom f i n) e) (k - i) (omega arith)))
-
--- the values from i up to n, as a loop comes to them: one more, and none left; and what is left of all of them from i on
+-- the values from i up to n, as a loop comes to them: one more, and none left
 pub values-turn {ℓ} : {A : Type ℓ} (f : ℕ → A) (i n : ℕ) → i < n → values f i (n - i) ≡ f i ∷ values f (i + 1) (n - (i + 1))
 unfolding values
 values-turn {A = A} f i n h =
@@ -112,14 +100,6 @@ values-end {A = A} f i n h = ap {B = List A} (values f i) (let e : n - i ≡ 0 =
 
 values-at {ℓ} : {A : Type ℓ} (f : ℕ → A) {i j m n : ℕ} → i ≡ j → m ≡ n → values f i m ≡ values f j n
 values-at {A = A} f e d = ap₂ {C = List A} (values f) e d
-
-pub drop-values {ℓ} : {A : Type ℓ} (f : ℕ → A) (k i n : ℕ) → drop k (values f i n) ≡ values f (i + k) (n - k)
-unfolding values
-drop-values f zero i n = values-at f (let e : i ≡ i + 0 = omega arith in e) (let e : n ≡ n - 0 = omega arith in e)
-drop-values f (suc k) i zero = values-at f {i = i + suc k} refl (let e : 0 ≡ 0 - suc k = omega arith in e)
-drop-values f (suc k) i (suc n) =
-    drop-values f k (suc i) n
-    ∙ values-at f (let e : suc i + k ≡ i + suc k = omega arith in e) (let e : n - k ≡ suc n - suc k = omega arith in e)
 
 -- two stretches in a row
 pub values-append {ℓ} : {A : Type ℓ} (f : ℕ → A) (i m n : ℕ) → values f i (m + n) ≡ values f i m ++ values f (i + m) n

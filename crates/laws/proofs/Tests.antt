@@ -1,6 +1,6 @@
--- Tests: what an `&&` that holds says, and the two cases of a test.
+-- Tests, as equations with `true` and `false`: the two cases of a test, and what an `&&` or an `||` that holds says.
 -- Assumes nothing.
-use mathlib.Core.Bool.{Bool, true, false, not, _&&_, false≢true}
+use mathlib.Core.Bool.{Bool, true, false, not, _&&_, _||_, Bool·beq, false≢true}
 use mathlib.Core.Logic.{_⊎_, inl, inr}
 use mathlib.Core.Path.{_≡_, refl, sym, _∙_}
 
@@ -52,3 +52,29 @@ not-holds t h = rw h
 -- what holds on the left leaves the right
 pub and-passed : {s : Bool} (t : Bool) → s ≡ true → (s && t) ≡ t
 and-passed t h = rw h
+
+-- what holds on the left, or on the right
+pub or-first : {s : Bool} (t : Bool) → s ≡ true → (s || t) ≡ true
+or-first t h = rw h
+
+pub or-second : (s : Bool) {t : Bool} → t ≡ true → (s || t) ≡ true
+or-second true h = refl
+or-second false h = h
+
+pub or-cases : (s t : Bool) → (s || t) ≡ true → (s ≡ true) ⊎ (t ≡ true)
+or-cases true t h = inl refl
+or-cases false t h = inr h
+
+-- a test that is asked only where another holds
+pub where-holds : {s : Bool} (t : Bool) → s ≡ true → _≡_ {A = Bool} (elim s [ true ↦ t | false ↦ true ]) true → t ≡ true
+where-holds t h = rw h (λ g. g)
+
+pub never-holds : (t : Bool) → (t ≡ true → ⊥) → t ≡ false
+never-holds true h = absurd (h refl)
+never-holds false h = refl
+
+pub equal-tests : (s t : Bool) → Bool·beq s t ≡ true → s ≡ t
+equal-tests true true h = refl
+equal-tests true false h = sym h
+equal-tests false true h = h
+equal-tests false false h = refl

@@ -1,6 +1,5 @@
 pub mod Lists
 pub mod Every
-pub mod Each
 pub mod Sums
 pub mod Texts
 pub mod Tables

@@ -9,9 +9,9 @@ use native.Mathlib.Omega.{arith}
 use lib.Dec.{lit≤}
 use lib.ListN.{length, take, drop, length-append, length-take, length-drop, take-append-drop}
 use Rattle.laws.specs.Lists.{concat}
-use Rattle.laws.specs.Each.{Each}
+use Rattle.laws.specs.Every.{All, none, also}
 use Rattle.laws.specs.Sums.{sumOf}
-use Rattle.laws.proofs.Each.{each-append, each-take, each-drop, each-map, each-from}
+use Rattle.laws.proofs.Every.{all-append, all-take, all-drop, all-both, all-map, all-from}
 use Rattle.laws.proofs.Sums.{sumOf-cons, length-concat}
 use Rattle.form.specs.declared.limits.Limits.{Limits}
 use Rattle.form.specs.Limits.{Lawful, lineCount, roundedUp}
@@ -47,23 +47,20 @@ length-pieces k zero s = refl
 length-pieces k (suc n) s = ap suc (length-pieces k n (drop k s))
 
 -- where no fewer hold the text, each piece has a byte at least and k at most
-pub each-piece : (k n : ℕ) (s : List ℕ) → 1 ≤ k → n * k < length s + k → Each (λ (t : List ℕ). (1 ≤ length t) × (length t ≤ k)) (pieces k n s)
+pub each-piece : (k n : ℕ) (s : List ℕ) → 1 ≤ k → n * k < length s + k → All (λ (t : List ℕ). (1 ≤ length t) × (length t ≤ k)) (pieces k n s)
 unfolding pieces
-each-piece k zero s pos h = tt
-each-piece k (suc n) s pos h = (
-  (omega (arith, length-take k s, suc-mul n k), omega (arith, length-take k s)),
-  each-piece k n (drop k s) pos (left n h),
-)
+each-piece k zero s pos h = none
+each-piece k (suc n) s pos h =
+    also {a = take k s} (omega (arith, length-take k s, suc-mul n k), omega (arith, length-take k s)) (each-piece k n (drop k s) pos (left n h))
   where
     left : (n : ℕ) → suc n * k < length s + k → n * k < length (drop k s) + k
     left zero h = omega (arith, zero-mul k)
     left (suc n) h = omega (arith, suc-mul n k, suc-mul (suc n) k, length-drop k s)
 
-pub text-pieces : (k n : ℕ) (s : List ℕ) → Text s → Each Text (pieces k n s)
+pub text-pieces : (k n : ℕ) (s : List ℕ) → Text s → All Text (pieces k n s)
 unfolding pieces
-text-pieces k zero s h = tt
-text-pieces k (suc n) s h =
-    (each-take (λ (b : ℕ). space ≤ b) k s h, text-pieces k n (drop k s) (each-drop (λ (b : ℕ). space ≤ b) k s h))
+text-pieces k zero s h = none
+text-pieces k (suc n) s h = also (all-take k h) (text-pieces k n (drop k s) (all-drop k h))
 
 -- as few pieces as hold a text, and their step equations: the turns of a loop that writes them
 pub filled : ℕ → List ℕ → List (List ℕ)
@@ -180,56 +177,33 @@ module _ (L : Limits) (lawful : Lawful L) (f : ℕ) where
   pub first-short : (s : List ℕ) → length (take (L .line) s) ≤ L .line
   first-short s = omega (arith, length-take (L .line) s)
 
-  pub each-carried : (s : List ℕ) → Each (λ (t : List ℕ). (1 ≤ length t) × (length t ≤ L .more)) (carriedPieces L s)
+  pub each-carried : (s : List ℕ) → All (λ (t : List ℕ). (1 ≤ length t) × (length t ≤ L .more)) (carriedPieces L s)
   unfolding carriedPieces addendaCount
   each-carried s =
       each-piece (L .more) (addendaCount L (length s)) (drop (L .line) s) (some-more L lawful)
       (rw (length-drop (L .line) s) (roundedUp-tight (length s - L .line) (L .more) (some-more L lawful)))
 
-  pub addenda-bounds : (s : List ℕ) → Each (λ (l : List ℕ). (3 ≤ length l) × (length l ≤ L .line)) (addenda f (carriedPieces L s))
+  pub addenda-bounds : (s : List ℕ) → All (λ (l : List ℕ). (3 ≤ length l) × (length l ≤ L .line)) (addenda f (carriedPieces L s))
   unfolding addenda
   addenda-bounds s =
-      each-map (λ (l : List ℕ). (3 ≤ length l) × (length l ≤ L .line)) (λ (t : List ℕ). letterA ∷ f ∷ t) (carriedPieces L s)
-      (each-from
-      (λ (t : List ℕ). (1 ≤ length t) × (length t ≤ L .more))
-      (λ (t : List ℕ). (3 ≤ length (letterA ∷ f ∷ t)) × (length (letterA ∷ f ∷ t) ≤ L .line))
-      (carriedPieces L s)
-      (each-carried s)
-      (λ t h. omega (arith, lawful .addendum)))
+      all-map (λ (t : List ℕ). letterA ∷ f ∷ t) (λ t h. omega (arith, lawful .addendum)) (each-carried s)
 
-  pub cut-short : (s : List ℕ) → Each (λ (l : List ℕ). length l ≤ L .line) (cut L f s)
+  pub cut-short : (s : List ℕ) → All (λ (l : List ℕ). length l ≤ L .line) (cut L f s)
   cut-short s =
-      rw (cut-addenda s) (
-        first-short s,
-        each-from
-            (λ (l : List ℕ). (3 ≤ length l) × (length l ≤ L .line))
-            (λ (l : List ℕ). length l ≤ L .line)
-            (addenda f (carriedPieces L s))
-            (addenda-bounds s)
-            (λ l h. h .1),
-      )
+      rw (cut-addenda s) (also (first-short s) (all-from (λ l h. h .1) (addenda-bounds s)))
 
   -- the lines of a segment that has a byte, and none below 32, are sound
-  pub cut-sound : (s : List ℕ) → space ≤ f → 1 ≤ length s → Text s → Each (SoundLine L) (cut L f s)
+  pub cut-sound : (s : List ℕ) → space ≤ f → 1 ≤ length s → Text s → All (SoundLine L) (cut L f s)
   unfolding addenda carriedPieces
   cut-sound s sep some text =
-      rw (cut-addenda s) (
-        record {
-          some = omega (arith, length-take (L .line) s, lawful .header);
-          short = first-short s;
-          text = each-take (λ (b : ℕ). space ≤ b) (L .line) s text;
-        },
-        each-map (SoundLine L) (λ (t : List ℕ). letterA ∷ f ∷ t) (carriedPieces L s)
-            (each-both
-            (carriedPieces L s)
-            (each-carried s)
-            (text-pieces (L .more) (addendaCount L (length s)) (drop (L .line) s) (each-drop (λ (b : ℕ). space ≤ b) (L .line) s text))),
-      )
+      let pieces-text = text-pieces (L .more) (addendaCount L (length s)) (drop (L .line) s) (all-drop (L .line) text) in
+      rw (cut-addenda s)
+      (also {a = take (L .line) s}
+      (record { some = omega (arith, length-take (L .line) s, lawful .header); short = first-short s; text = all-take (L .line) text })
+      (all-map (λ (t : List ℕ). letterA ∷ f ∷ t) addendum-sound (all-both (each-carried s) pieces-text)))
     where
-      each-both : (ts : List (List ℕ)) → Each (λ (t : List ℕ). (1 ≤ length t) × (length t ≤ L .more)) ts → Each Text ts → Each (λ (t : List ℕ). SoundLine L (letterA ∷ f ∷ t)) ts
-      each-both [] h k = tt
-      each-both (t ∷ ts) h k =
-          (record { some = omega arith; short = omega (arith, lawful .addendum); text = (lit≤ tt, (sep, k .0)) }, each-both ts (h .1) (k .1))
+      addendum-sound : (t : List ℕ) → ((1 ≤ length t) × (length t ≤ L .more)) × Text t → SoundLine L (letterA ∷ f ∷ t)
+      addendum-sound t h = record { some = omega arith; short = omega (arith, lawful .addendum); text = also (lit≤ tt) (also sep (h .1)) }
 
 -- all segments
 
@@ -262,11 +236,10 @@ module _ (L : Limits) (lawful : Lawful L) (f : ℕ) where
         length-unlines-cuts ss,
       ))
 
-  pub cuts-sound : (ss : List (List ℕ)) → space ≤ f → Each (λ (s : List ℕ). (1 ≤ length s) × Text s) ss → Each (SoundLine L) (cuts L f ss)
-  cuts-sound [] sep h = rw (cuts-nil L f) tt
-  cuts-sound (s ∷ ss) sep h =
-      rw (cuts-cons L f s ss)
-      (each-append (SoundLine L) (cut L f s) (cuts L f ss) (cut-sound L lawful f s sep (h .0 .0) (h .0 .1)) (cuts-sound ss sep (h .1)))
+  pub cuts-sound : (ss : List (List ℕ)) → space ≤ f → All (λ (s : List ℕ). (1 ≤ length s) × Text s) ss → All (SoundLine L) (cuts L f ss)
+  cuts-sound [] sep h = rw (cuts-nil L f) none
+  cuts-sound (s ∷ ss) sep (also h hs) =
+      rw (cuts-cons L f s ss) (all-append (cut-sound L lawful f s sep (h .0) (h .1)) (cuts-sound ss sep hs))
 
   -- a first line begins a segment where the segment is no addendum
   pub first-segment : (s : List ℕ) → addendum f s ≡ false → addendum f (take (L .line) s) ≡ false
@@ -274,22 +247,22 @@ module _ (L : Limits) (lawful : Lawful L) (f : ℕ) where
       let two : L .line ≡ suc (suc (L .line - 2)) = omega (arith, lawful .header) in
       subst (λ (k : ℕ). addendum f (take k s) ≡ false) (sym two) (addendum-take f (L .line - 2) s ∙ h)
 
-  pub carried-cuts : (ss : List (List ℕ)) → Each (λ (s : List ℕ). addendum f s ≡ false) ss → carried f (cuts L f ss) ≡ []
+  pub carried-cuts : (ss : List (List ℕ)) → All (λ (s : List ℕ). addendum f s ≡ false) ss → carried f (cuts L f ss) ≡ []
   unfolding carried
   carried-cuts [] h = rw (cuts-nil L f)
-  carried-cuts (s ∷ ss) h =
+  carried-cuts (s ∷ ss) (also h hs) =
       rw (cuts-cons L f s ss, cut-addenda L lawful f s)
-      (carried-segment f (take (L .line) s) (addenda f (carriedPieces L s) ++ cuts L f ss) (first-segment s (h .0)))
+      (carried-segment f (take (L .line) s) (addenda f (carriedPieces L s) ++ cuts L f ss) (first-segment s h))
 
   -- joining what was cut gives the segments
-  pub joined-cuts : (ss : List (List ℕ)) → Each (λ (s : List ℕ). addendum f s ≡ false) ss → joined f (cuts L f ss) ≡ ss
+  pub joined-cuts : (ss : List (List ℕ)) → All (λ (s : List ℕ). addendum f s ≡ false) ss → joined f (cuts L f ss) ≡ ss
   unfolding joined
   joined-cuts [] h = rw (cuts-nil L f)
-  joined-cuts (s ∷ ss) h =
+  joined-cuts (s ∷ ss) (also h hs) =
       rw (cuts-cons L f s ss, cut-addenda L lawful f s)
-      (joined-segment f (take (L .line) s) (addenda f (carriedPieces L s) ++ cuts L f ss) (first-segment s (h .0))
+      (joined-segment f (take (L .line) s) (addenda f (carriedPieces L s) ++ cuts L f ss) (first-segment s h)
       ∙ ap₂ (λ (r : List ℕ) (rs : List (List ℕ)). (take (L .line) s ++ r) ∷ rs)
       (carried-addenda f (carriedPieces L s) (cuts L f ss)
-      ∙ rw (carried-cuts ss (h .1), concat-carried L lawful f s) (append-nil (drop (L .line) s)))
-      (joined-addenda f (carriedPieces L s) (cuts L f ss) ∙ joined-cuts ss (h .1))
+      ∙ rw (carried-cuts ss hs, concat-carried L lawful f s) (append-nil (drop (L .line) s)))
+      (joined-addenda f (carriedPieces L s) (cuts L f ss) ∙ joined-cuts ss hs)
       ∙ ap (λ (r : List ℕ). r ∷ ss) (take-append-drop (L .line) s))

@@ -8,9 +8,9 @@ use Prim.Native.Nat.{ℕ, suc, _+_, _-_, _*_, _≤_}
 use native.Mathlib.Nat.{suc-mul}
 use native.Mathlib.Omega.{arith}
 use lib.ListN.{length, drop, length-append, length-drop}
-use Rattle.laws.specs.Each.{Each}
+use Rattle.laws.specs.Every.{All, also}
 use Rattle.laws.specs.Sums.{sumOf}
-use Rattle.laws.proofs.Each.{each-from}
+use Rattle.laws.proofs.Every.{all-from}
 use Rattle.laws.proofs.Tests.{either}
 use Rattle.form.specs.declared.limits.Limits.{Limits}
 use Rattle.form.specs.Limits.{Lawful, lineCount}
@@ -53,10 +53,10 @@ module _ (L : Limits) (lawful : Lawful L) (f : ℕ) where
     carries : length (carried f ls) ≤ leading f ls * L .more
     counts : total L (joined f ls) + leading f ls ≤ length ls
 
-  counted : (ls : List (List ℕ)) → Each (λ (l : List ℕ). length l ≤ L .line) ls → Counted ls
+  counted : (ls : List (List ℕ)) → All (λ (l : List ℕ). length l ≤ L .line) ls → Counted ls
   unfolding carried joined leading total sumOf
   counted [] h = record { carries = omega arith; counts = omega arith }
-  counted (l ∷ ls) h = go (either (addendum f l)) (counted ls (h .1))
+  counted (l ∷ ls) (also h hs) = go (either (addendum f l)) (counted ls hs)
     where
       go : (addendum f l ≡ true) ⊎ (addendum f l ≡ false) → Counted ls → Counted (l ∷ ls)
       go (inl a) c =
@@ -99,17 +99,17 @@ module _ (L : Limits) (lawful : Lawful L) (f : ℕ) where
           rw (carried-segment f l ls a, joined-segment f l ls a)
           (omega (arith, length-append l (carried f ls)))
 
-  short-lines : (ls : List (List ℕ)) → Each (SoundLine L) ls → Each (λ (l : List ℕ). length l ≤ L .line) ls
-  short-lines ls h = each-from (SoundLine L) (λ (l : List ℕ). length l ≤ L .line) ls h (λ l s. s .short)
+  short-lines : (ls : List (List ℕ)) → All (SoundLine L) ls → All (λ (l : List ℕ). length l ≤ L .line) ls
+  short-lines ls h = all-from (λ l s. s .short) h
 
   -- no sound lines that join to the segments are fewer
-  pub least-lines : (segments ls : List (List ℕ)) → Each (SoundLine L) ls → joined f ls ≡ segments → length (cuts L f segments) ≤ length ls
+  pub least-lines : (segments ls : List (List ℕ)) → All (SoundLine L) ls → joined f ls ≡ segments → length (cuts L f segments) ≤ length ls
   unfolding total
   least-lines segments ls sound e =
       rw (← e, length-cuts L lawful f (joined f ls)) (omega (arith, counted ls (short-lines ls sound) .counts))
 
   -- and none have fewer bytes
-  pub least-bytes : (segments ls : List (List ℕ)) → Each (SoundLine L) ls → joined f ls ≡ segments → length (unlines (cuts L f segments)) ≤ length (unlines ls)
+  pub least-bytes : (segments ls : List (List ℕ)) → All (SoundLine L) ls → joined f ls ≡ segments → length (unlines (cuts L f segments)) ≤ length (unlines ls)
   unfolding total
   least-bytes segments ls sound e =
       rw (← e)

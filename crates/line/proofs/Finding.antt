@@ -15,7 +15,7 @@ use Rattle.laws.proofs.Tests.{and-fails-second}
 use Rattle.laws.proofs.Parts.{left-cons}
 use Rattle.form.specs.Numbers.{controlByte, longLine, openLine}
 use Rattle.line.specs.Lines.{CR, space}
-use Rattle.line.specs.Finding.{textRun, lowRun, textEnded, endedLine, foundFrom, partOf, nextOf}
+use Rattle.line.specs.Finding.{textRun, lowRun, textEnded, endedLine, foundFrom, partFound, nextOf}
 use Rattle.line.specs.declared.finder.Found.{Found}
 use Rattle.line.specs.declared.finder.Found.the-variants.{Line, End, Fault}
 use Rattle.line.proofs.Runs.{textRun-nil, textRun-more, textRun-length, textRun-inside, textRun-after}
@@ -256,14 +256,14 @@ module _ (at : ℕ) where
   nextOf-fault f k p h = ap (nextOf at) h
 
   module _ (m : List ℕ) where
-    pub partOf-line : (f : Found) (e n : ℕ) → f ≡ Line e n → partOf m at f ≡ take (e - at) (drop at m)
-    unfolding partOf
-    partOf-line f e n h = ap (partOf m at) h
+    pub partFound-line : (f : Found) (e n : ℕ) → f ≡ Line e n → partFound m at f ≡ take (e - at) (drop at m)
+    unfolding partFound
+    partFound-line f e n h = ap (partFound m at) h
 
-    pub partOf-end : (f : Found) → f ≡ End → partOf m at f ≡ []
-    unfolding partOf
-    partOf-end f h = ap (partOf m at) h
+    pub partFound-end : (f : Found) → f ≡ End → partFound m at f ≡ []
+    unfolding partFound
+    partFound-end f h = ap (partFound m at) h
 
-    pub partOf-fault : (f : Found) (k p : ℕ) → f ≡ Fault k p → partOf m at f ≡ []
-    unfolding partOf
-    partOf-fault f k p h = ap (partOf m at) h
+    pub partFound-fault : (f : Found) (k p : ℕ) → f ≡ Fault k p → partFound m at f ≡ []
+    unfolding partFound
+    partFound-fault f k p h = ap (partFound m at) h

@@ -1,29 +1,22 @@
 -- The first line of a message: text that it begins with, and that fits a line, stands on that line whole.
 -- Assumes nothing.
-use mathlib.Core.Path.{_≡_, sym, ap, ap₂, _∙_, subst}
+use mathlib.Core.Path.{_≡_, sym, ap, _∙_, subst}
 use mathlib.Core.List.{List, [], _∷_, _++_, append-assoc, append-nil}
 use Prim.Native.Nat.{ℕ, suc, _+_, _≤_}
 use native.Mathlib.Omega.{arith}
-use lib.ListN.{length, length-append}
+use lib.ListN.{length}
+use Rattle.laws.specs.Every.{also}
 use Rattle.form.specs.declared.limits.Limits.{Limits}
 use Rattle.line.specs.Lines.{Lines, line, inside, between, walk, texts, faultNumber}
 use Rattle.line.specs.Sound.{Text}
-use Rattle.line.proofs.Steps.{inside-nil, inside-more, inside-both, walkFrom-text}
+use Rattle.line.proofs.Steps.{inside-nil, inside-both, walkFrom-text}
+use Rattle.line.proofs.Walking.{inside-run}
 
 -- lines of which the first begins with a text
 abbrev pub FirstBegins : List ℕ → List (List ℕ) → Type 0
 FirstBegins t ls = (rest : List ℕ) × (others : List (List ℕ)) × (ls ≡ (t ++ rest) ∷ others)
 
 module _ (L : Limits) where
-  -- text that fits goes to the line begun
-  pub inside-run : (at : ℕ) (t u s : List ℕ) → Text u → length t + length u ≤ L .line
-      → inside L at t (u ++ s) ≡ inside L (at + length u) (t ++ u) s
-  inside-run at t [] s text fits = ap₂ (λ (p : ℕ) (x : List ℕ). inside L p x s) (omega arith) (sym (append-nil t))
-  inside-run at t (b ∷ u) s text fits =
-      inside-more L at t b (u ++ s) (text .0) (omega arith)
-      ∙ inside-run (suc at) (t ++ (b ∷ [])) u s (text .1) (omega (arith, length-append t (b ∷ [])))
-      ∙ ap₂ (λ (p : ℕ) (x : List ℕ). inside L p x s) (omega arith) (append-assoc t (b ∷ []) u)
-
   -- where no fault is found, the line begun is given, and more may have come to it
   pub inside-begins : (at : ℕ) (t s : List ℕ) → faultNumber (inside L at t s) ≡ 0 → FirstBegins t (texts (inside L at t s))
   unfolding texts faultNumber
@@ -42,7 +35,7 @@ module _ (L : Limits) where
       → FirstBegins u (texts (walk L (u ++ s)))
   unfolding walk
   walk-begins [] s some fits text = absurd (omega arith)
-  walk-begins (b ∷ u) s some fits text =
+  walk-begins (b ∷ u) s some fits (also byte text) =
       subst (λ (ls : Lines). faultNumber ls ≡ 0 → FirstBegins (b ∷ u) (texts ls))
-      (sym (walkFrom-text L 0 b (u ++ s) (text .0) ∙ inside-run 1 (b ∷ []) u s (text .1) (omega arith)))
+      (sym (walkFrom-text L 0 b (u ++ s) byte ∙ inside-run L 1 (b ∷ []) u s text (omega arith)))
       (inside-begins (1 + length u) (b ∷ u) s)

@@ -11,7 +11,7 @@ use denote.Ref.{RefT, now}
 use Rattle.form.specs.declared.limits.Limits.{Limits}
 use Rattle.form.specs.Limits.{form}
 use Rattle.line.specs.Lines.{Lines, end, fault, line, walkFrom, walk}
-use Rattle.line.specs.Finding.{foundAt, handedOut, partOf, nextOf}
+use Rattle.line.specs.Finding.{foundAt, handedOut, partFound, nextOf}
 use Rattle.line.specs.Going.{walkAfter, placeAfter, after}
 use Rattle.line.specs.declared.finder.Found.{Found}
 use Rattle.line.specs.declared.finder.Found.the-variants.{Line, End, Fault}
@@ -49,8 +49,8 @@ module _ (L : Limits) (m : List ℕ) where
   handed-fault at End n p h = let z : _≡_ {A = ℕ} 0 1 = cc in absurd (omega arith)
   handed-fault at (Fault k r) n p h = let a : k ≡ n = cc in let b : r ≡ p = cc in ap₂ Fault a b
 
-  handed-line : (at : ℕ) (f : Found) (t : List ℕ) (ls : Lines) → handedOut L m at f ≡ line t ls → partOf m at f ≡ t
-  unfolding handedOut partOf
+  handed-line : (at : ℕ) (f : Found) (t : List ℕ) (ls : Lines) → handedOut L m at f ≡ line t ls → partFound m at f ≡ t
+  unfolding handedOut partFound
   handed-line at (Line e k) t ls h = cc
   handed-line at End t ls h = let z : _≡_ {A = ℕ} 0 1 = cc in absurd (omega arith)
   handed-line at (Fault k r) t ls h = let z : _≡_ {A = ℕ} 0 1 = cc in absurd (omega arith)
@@ -75,7 +75,7 @@ module _ (L : Limits) (m : List ℕ) where
     pub found-after-fault : (k n p : ℕ) → after k (walk L m) ≡ fault n p → foundAt L m (placeAfter L m k) ≡ Fault n p
     found-after-fault k n p h = handed-fault (placeAfter L m k) (foundAt L m (placeAfter L m k)) n p (handed-after k ∙ h)
 
-    pub part-after-line : (k : ℕ) (t : List ℕ) (ls : Lines) → after k (walk L m) ≡ line t ls → partOf m (placeAfter L m k) (foundAt L m (placeAfter L m k)) ≡ t
+    pub part-after-line : (k : ℕ) (t : List ℕ) (ls : Lines) → after k (walk L m) ≡ line t ls → partFound m (placeAfter L m k) (foundAt L m (placeAfter L m k)) ≡ t
     part-after-line k t ls h = handed-line (placeAfter L m k) (foundAt L m (placeAfter L m k)) t ls (handed-after k ∙ h)
 
   -- at an end or a fault the place stays, for ever

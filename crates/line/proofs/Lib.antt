@@ -8,6 +8,8 @@ pub mod Runs
 pub mod Finding
 pub mod Handing
 pub mod Going
+pub mod WalkApart
 pub mod Written
 pub mod FirstLine
 pub mod Standing
+pub mod ShutOut

@@ -40,9 +40,6 @@ lowRun-stop b s h = rw (le-ltb b space h, lowRun)
 
 -- the turn of a loop at the place i of a message m
 module _ (m : List ℕ) (i : ℕ) where
-  pub textRun-turn-end : length m ≤ i → textRun (drop i m) ≡ 0
-  textRun-turn-end h = rw (drop-of-length-le m h) textRun-nil
-
   pub lowRun-turn-end : length m ≤ i → lowRun (drop i m) ≡ 0
   lowRun-turn-end h = rw (drop-of-length-le m h) lowRun-nil
 

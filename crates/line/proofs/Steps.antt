@@ -1,17 +1,14 @@
--- The walk's step equations, one for each branch of `inside`, `between` and `walkFrom`, and the same as the turn of a loop
--- over what is left of a message from a place on.
+-- The walk's step equations, one for each branch of `inside`, `between` and `walkFrom`.
 -- Assumes nothing.
-use mathlib.Core.Path.{_≡_, refl, sym, ap, _∙_, subst₂}
+use mathlib.Core.Path.{_≡_, refl, sym, subst₂}
 use mathlib.Core.Logic.{_⊎_, inl, inr, ⊎-elim}
 use mathlib.Core.List.{List, [], _∷_, _++_}
-use Prim.Native.Nat.{ℕ, suc, _+_, _≤_, _<_}
-use native.Mathlib.Numerals.{add-one}
+use Prim.Native.Nat.{ℕ, suc, _≤_, _<_}
 use native.Mathlib.Omega.{arith}
 use lib.Dec.{lit≤}
-use lib.ListN.{length, getD, drop, drop-of-length-le}
+use lib.ListN.{length}
 use borrow.Author.Tests.{lt-ltb, le-ltb, le-leb, lt-leb, ne-eqb}
 use Rattle.laws.proofs.Cases.{less-or-not, equal-or-not}
-use Rattle.laws.proofs.Parts.{left-cons}
 use Rattle.form.specs.declared.limits.Limits.{Limits}
 use Rattle.form.specs.Numbers.{controlByte, longLine, openLine}
 use Rattle.line.specs.Lines.{Lines, end, fault, line, CR, space, inside, between, walkFrom}
@@ -62,50 +59,6 @@ module _ (L : Limits) (at : ℕ) where
   pub walkFrom-text : (b : ℕ) (s : List ℕ) → space ≤ b → walkFrom L at (b ∷ s) ≡ inside L (suc at) (b ∷ []) s
   unfolding walkFrom
   walkFrom-text b s text = rw (le-ltb b space text, walkFrom)
-
--- the turn of a loop at the place i of a message m, with the text t of the line begun
-module _ (L : Limits) (m : List ℕ) (i : ℕ) where
-  pub inside-turn-open : (t : List ℕ) → length m ≤ i → inside L i t (drop i m) ≡ fault openLine i
-  inside-turn-open t h = rw (drop-of-length-le m h) (inside-nil L i t)
-
-  pub between-turn-end : length m ≤ i → between L i (drop i m) ≡ end
-  between-turn-end h = rw (drop-of-length-le m h) (between-nil L i)
-
-  pub walkFrom-turn-end : length m ≤ i → walkFrom L i (drop i m) ≡ end
-  walkFrom-turn-end h = rw (drop-of-length-le m h) (walkFrom-nil L i)
-
-  module _ (h : i < length m) where
-    pub inside-turn-cr : (t : List ℕ) → getD m i 0 ≡ CR → inside L i t (drop i m) ≡ line t (between L (i + 1) (drop (i + 1) m))
-    inside-turn-cr t e = rw (left-cons m i 0 h, e, add-one i) (inside-cr L i t (drop (suc i) m))
-
-    pub inside-turn-control : (t : List ℕ) → (getD m i 0 ≡ CR → ⊥) → getD m i 0 < space → inside L i t (drop i m) ≡ fault controlByte i
-    inside-turn-control t other low = rw (left-cons m i 0 h) (inside-control L i t (getD m i 0) (drop (i + 1) m) other low)
-
-    pub inside-turn-long : (t : List ℕ) → space ≤ getD m i 0 → L .line ≤ length t → inside L i t (drop i m) ≡ fault longLine i
-    inside-turn-long t text full = rw (left-cons m i 0 h) (inside-long L i t (getD m i 0) (drop (i + 1) m) text full)
-
-    pub inside-turn-more : (t : List ℕ) → space ≤ getD m i 0 → length t < L .line → inside L i t (drop i m) ≡ inside L (i + 1) (t ++ (getD m i 0 ∷ [])) (drop (i + 1) m)
-    inside-turn-more t text room =
-        ap (inside L i t) (left-cons m i 0 h) ∙ inside-more L i t (getD m i 0) (drop (i + 1) m) text room
-        ∙ ap (λ (p : ℕ). inside L p (t ++ (getD m i 0 ∷ [])) (drop (i + 1) m)) (sym (add-one i))
-
-    pub between-turn-low : getD m i 0 < space → between L i (drop i m) ≡ between L (i + 1) (drop (i + 1) m)
-    between-turn-low low =
-        ap (between L i) (left-cons m i 0 h) ∙ between-low L i (getD m i 0) (drop (i + 1) m) low
-        ∙ ap (λ (p : ℕ). between L p (drop (i + 1) m)) (sym (add-one i))
-
-    pub between-turn-text : space ≤ getD m i 0 → between L i (drop i m) ≡ inside L (i + 1) (getD m i 0 ∷ []) (drop (i + 1) m)
-    between-turn-text text =
-        ap (between L i) (left-cons m i 0 h) ∙ between-text L i (getD m i 0) (drop (i + 1) m) text
-        ∙ ap (λ (p : ℕ). inside L p (getD m i 0 ∷ []) (drop (i + 1) m)) (sym (add-one i))
-
-    pub walkFrom-turn-low : getD m i 0 < space → walkFrom L i (drop i m) ≡ fault controlByte i
-    walkFrom-turn-low low = rw (left-cons m i 0 h) (walkFrom-low L i (getD m i 0) (drop (i + 1) m) low)
-
-    pub walkFrom-turn-text : space ≤ getD m i 0 → walkFrom L i (drop i m) ≡ inside L (i + 1) (getD m i 0 ∷ []) (drop (i + 1) m)
-    walkFrom-turn-text text =
-        ap (walkFrom L i) (left-cons m i 0 h) ∙ walkFrom-text L i (getD m i 0) (drop (i + 1) m) text
-        ∙ ap (λ (p : ℕ). inside L p (getD m i 0 ∷ []) (drop (i + 1) m)) (sym (add-one i))
 
 -- a byte ends a line, has no place in one, or is text
 pub byte-cases : (b : ℕ) → (b ≡ CR) ⊎ (((b ≡ CR → ⊥) × (b < space)) ⊎ (space ≤ b))

@@ -8,70 +8,71 @@ use native.Mathlib.Nat.{add-suc}
 use native.Mathlib.Omega.{arith}
 use lib.Dec.{lit<, lit≤}
 use lib.ListN.{length, length-append}
-use Rattle.laws.specs.Each.{Each}
-use Rattle.laws.proofs.Each.{each-append}
+use Rattle.laws.specs.Every.{All, none, also}
+use Rattle.laws.proofs.Every.{all-append, all-first, all-rest}
 use Rattle.form.specs.declared.limits.Limits.{Limits}
 use Rattle.form.specs.Numbers.{openLine}
 use Rattle.line.specs.Lines.{Lines, end, fault, line, CR, space, inside, between, walkFrom, walk, texts, faultNumber, faultPlace}
 use Rattle.line.specs.Cutting.{unlines}
-use Rattle.line.specs.Sound.{Text, SoundLine, linesOf, shifted}
+use Rattle.line.specs.Sound.{Text, SoundLine, givenLines, shifted}
 use Rattle.line.proofs.Steps.{inside-nil, inside-cr, inside-more, between-nil, between-low, between-text, walkFrom-nil, walkFrom-low, walkFrom-text, inside-both, between-both, walkFrom-both}
 
 -- what was written
 
 module _ (L : Limits) where
-  -- text up to a CR that fits its line is the rest of that line
-  pub inside-text :
-      (at : ℕ) (t u s : List ℕ)
-      → Text u
-      → length t + length u ≤ L .line
+  -- text that fits goes to the line begun
+  pub inside-run : (at : ℕ) (t u s : List ℕ) → Text u → length t + length u ≤ L .line
+      → inside L at t (u ++ s) ≡ inside L (at + length u) (t ++ u) s
+  inside-run at t [] s text fits = ap₂ (λ (p : ℕ) (x : List ℕ). inside L p x s) (omega arith) (sym (append-nil t))
+  inside-run at t (b ∷ u) s (also byte text) fits =
+      inside-more L at t b (u ++ s) byte (omega arith)
+      ∙ inside-run (suc at) (t ++ (b ∷ [])) u s text (omega (arith, length-append t (b ∷ [])))
+      ∙ ap₂ (λ (p : ℕ) (x : List ℕ). inside L p x s) (omega arith) (append-assoc t (b ∷ []) u)
+
+  -- and up to a CR it is the rest of that line
+  inside-text : (at : ℕ) (t u s : List ℕ) → Text u → length t + length u ≤ L .line
       → inside L at t (u ++ CR ∷ s) ≡ line (t ++ u) (between L (suc (at + length u)) s)
-  inside-text at t [] s text fits =
-      inside-cr L at t s ∙ ap₂ (λ (x : List ℕ) (p : ℕ). line x (between L (suc p) s)) (sym (append-nil t)) (omega arith)
-  inside-text at t (b ∷ u) s text fits =
-      inside-more L at t b (u ++ CR ∷ s) (text .0) (omega arith)
-      ∙ inside-text (suc at) (t ++ (b ∷ [])) u s (text .1) (omega (arith, length-append t (b ∷ [])))
-      ∙ ap₂ (λ (x : List ℕ) (p : ℕ). line x (between L (suc p) s)) (append-assoc t (b ∷ []) u) (omega arith)
+  inside-text at t u s text fits = inside-run at t u (CR ∷ s) text fits ∙ inside-cr L (at + length u) (t ++ u) s
 
   -- a sound line and its CR, walked after a CR and walked from the start
   pub between-line :
       (at : ℕ) (t s : List ℕ) → SoundLine L t → between L at (t ++ CR ∷ s) ≡ line t (between L (suc (at + length t)) s)
   between-line at [] s sound = absurd (omega (arith, sound .some))
   between-line at (b ∷ u) s sound =
-      between-text L at b (u ++ CR ∷ s) (sound .text .0)
-      ∙ inside-text (suc at) (b ∷ []) u s (sound .text .1) (omega (arith, sound .short))
+      between-text L at b (u ++ CR ∷ s) (all-first (sound .text))
+      ∙ inside-text (suc at) (b ∷ []) u s (all-rest (sound .text)) (omega (arith, sound .short))
       ∙ ap (λ (p : ℕ). line (b ∷ u) (between L (suc p) s)) (omega arith)
 
   pub walkFrom-line :
       (at : ℕ) (t s : List ℕ) → SoundLine L t → walkFrom L at (t ++ CR ∷ s) ≡ line t (between L (suc (at + length t)) s)
   walkFrom-line at [] s sound = absurd (omega (arith, sound .some))
   walkFrom-line at (b ∷ u) s sound =
-      walkFrom-text L at b (u ++ CR ∷ s) (sound .text .0)
-      ∙ inside-text (suc at) (b ∷ []) u s (sound .text .1) (omega (arith, sound .short))
+      walkFrom-text L at b (u ++ CR ∷ s) (all-first (sound .text))
+      ∙ inside-text (suc at) (b ∷ []) u s (all-rest (sound .text)) (omega (arith, sound .short))
       ∙ ap (λ (p : ℕ). line (b ∷ u) (between L (suc p) s)) (omega arith)
 
-  pub between-unlines : (at : ℕ) (ls : List (List ℕ)) → Each (SoundLine L) ls → between L at (unlines ls) ≡ linesOf ls
-  unfolding unlines linesOf
+  pub between-unlines : (at : ℕ) (ls : List (List ℕ)) → All (SoundLine L) ls → between L at (unlines ls) ≡ givenLines ls
+  unfolding unlines givenLines
   between-unlines at [] sound = between-nil L at
-  between-unlines at (l ∷ ls) sound =
-      between-line at l (unlines ls) (sound .0) ∙ ap (line l) (between-unlines (suc (at + length l)) ls (sound .1))
+  between-unlines at (l ∷ ls) (also first rest) =
+      between-line at l (unlines ls) first ∙ ap (line l) (between-unlines (suc (at + length l)) ls rest)
 
   -- walking what was written gives those lines
-  pub walk-unlines : (ls : List (List ℕ)) → Each (SoundLine L) ls → walk L (unlines ls) ≡ linesOf ls
-  unfolding unlines linesOf walk
+  pub walk-unlines : (ls : List (List ℕ)) → All (SoundLine L) ls → walk L (unlines ls) ≡ givenLines ls
+  unfolding unlines givenLines walk
   walk-unlines [] sound = walkFrom-nil L 0
-  walk-unlines (l ∷ ls) sound =
-      walkFrom-line 0 l (unlines ls) (sound .0) ∙ ap (line l) (between-unlines (suc (0 + length l)) ls (sound .1))
+  walk-unlines (l ∷ ls) (also first rest) =
+      walkFrom-line 0 l (unlines ls) first ∙ ap (line l) (between-unlines (suc (0 + length l)) ls rest)
 
-pub texts-linesOf : (ls : List (List ℕ)) → texts (linesOf ls) ≡ ls
-unfolding texts linesOf
-texts-linesOf [] = refl
-texts-linesOf (l ∷ ls) = ap (λ (r : List (List ℕ)). l ∷ r) (texts-linesOf ls)
+pub texts-given : (ls : List (List ℕ)) → texts (givenLines ls) ≡ ls
+unfolding texts givenLines
+texts-given [] = refl
+texts-given (l ∷ ls) = ap (λ (r : List (List ℕ)). l ∷ r) (texts-given ls)
 
-pub faultNumber-linesOf : (ls : List (List ℕ)) → faultNumber (linesOf ls) ≡ 0
-unfolding faultNumber linesOf
-faultNumber-linesOf [] = refl
-faultNumber-linesOf (l ∷ ls) = faultNumber-linesOf ls
+pub no-fault-given : (ls : List (List ℕ)) → faultNumber (givenLines ls) ≡ 0
+unfolding faultNumber givenLines
+no-fault-given [] = refl
+no-fault-given (l ∷ ls) = no-fault-given ls
 
 -- what a walk gives
 
@@ -105,33 +106,20 @@ module _ (L : Limits) (P : Lines → Type 0) (Q : List ℕ → Type 0)
       (λ text. along s .0 (suc at) (b ∷ []) (begins b text))
 
 -- every line that a walk gives is sound, the lines before a fault too
-pub texts-sound : (L : Limits) → 1 ≤ L .line → (at : ℕ) (m : List ℕ) → Each (SoundLine L) (texts (walkFrom L at m))
+pub texts-sound : (L : Limits) → 1 ≤ L .line → (at : ℕ) (m : List ℕ) → All (SoundLine L) (texts (walkFrom L at m))
 unfolding texts
 texts-sound L some at m =
-    walkFrom-along L (λ (ls : Lines). Each (SoundLine L) (texts ls)) (SoundLine L)
-    tt
-    (λ n p h. tt)
-    (λ t ls q h. (q, h))
-    (λ b text. record { some = lit≤ tt; short = some; text = (text, tt) })
+    walkFrom-along L (λ (ls : Lines). All (SoundLine L) (texts ls)) (SoundLine L)
+    none
+    (λ n p h. none)
+    (λ t ls q h. also q h)
+    (λ b text. record { some = lit≤ tt; short = some; text = also text none })
     (λ t b q text room.
     record {
       some = omega (arith, length-append t (b ∷ []));
       short = omega (arith, length-append t (b ∷ []));
-      text = each-append (λ (b : ℕ). space ≤ b) t (b ∷ []) (q .text) (text, tt);
+      text = all-append (q .text) (also text none);
     })
-    at
-    m
-
--- a walk that ends in no fault says no more than its texts
-pub walkFrom-texts : (L : Limits) (at : ℕ) (m : List ℕ) → faultNumber (walkFrom L at m) ≡ 0 → walkFrom L at m ≡ linesOf (texts (walkFrom L at m))
-unfolding texts linesOf faultNumber
-walkFrom-texts L at m =
-    walkFrom-along L (λ (ls : Lines). faultNumber ls ≡ 0 → ls ≡ linesOf (texts ls)) (λ (t : List ℕ). Unit {0})
-    (λ e. refl)
-    (λ n p h e. absurd (omega arith))
-    (λ t ls q h e. ap (line t) (h e))
-    (λ b text. tt)
-    (λ t b q text room. tt)
     at
     m
 
@@ -176,20 +164,17 @@ module _ (L : Limits) (k : ℕ) where
         (λ text. rw (← add-suc k at) (shifts s .0 (suc at) (b ∷ [])))),
   )
 
-  pub inside-shifted : (at : ℕ) (t s : List ℕ) → inside L (k + at) t s ≡ shifted k (inside L at t s)
-  inside-shifted at t s = shifts s .0 at t
-
   pub between-shifted : (at : ℕ) (s : List ℕ) → between L (k + at) s ≡ shifted k (between L at s)
   between-shifted at s = shifts s .1 at
 
 abbrev pub Low : List ℕ → Type 0
-Low s = Each (λ (b : ℕ). b < space) s
+Low s = All (λ (b : ℕ). b < space) s
 
 -- "Bytes below 32 that follow a CR, further CRs included, are ignored"
 pub between-lows : (L : Limits) (at : ℕ) (low s : List ℕ) → Low low → between L at (low ++ s) ≡ between L (at + length low) s
 between-lows L at [] s h = ap (λ (p : ℕ). between L p s) (omega arith)
-between-lows L at (b ∷ low) s h =
-    between-low L at b (low ++ s) (h .0) ∙ between-lows L (suc at) low s (h .1) ∙ ap (λ (p : ℕ). between L p s) (omega arith)
+between-lows L at (b ∷ low) s (also h hs) =
+    between-low L at b (low ++ s) h ∙ between-lows L (suc at) low s hs ∙ ap (λ (p : ℕ). between L p s) (omega arith)
 
 module _ (L : Limits) (low rest : List ℕ) (h : Low low) where
   pub between-alike : (at : ℕ) → Alike (length low) (between L at (low ++ rest)) (between L at rest)
@@ -199,7 +184,9 @@ module _ (L : Limits) (low rest : List ℕ) (h : Low low) where
       rw moved (alike-shifted (length low) (between L at rest))
 
   -- the message before the CR is walked alike
-  inserted : (a : List ℕ) → ((at : ℕ) (t : List ℕ) → Alike (length low) (inside L at t (a ++ CR ∷ (low ++ rest))) (inside L at t (a ++ CR ∷ rest))) × ((at : ℕ) → Alike (length low) (between L at (a ++ CR ∷ (low ++ rest))) (between L at (a ++ CR ∷ rest)))
+  inserted : (a : List ℕ)
+      → ((at : ℕ) (t : List ℕ) → Alike (length low) (inside L at t (a ++ CR ∷ (low ++ rest))) (inside L at t (a ++ CR ∷ rest)))
+      × ((at : ℕ) → Alike (length low) (between L at (a ++ CR ∷ (low ++ rest))) (between L at (a ++ CR ∷ rest)))
   inserted [] = (
     (λ at t.
         rw (inside-cr L at t (low ++ rest), inside-cr L at t rest)

@@ -66,10 +66,10 @@ handedOut L message at End = end
 handedOut L message at (Fault n p) = fault n p
 
 -- the part of the message that a line found at `at` is: none at the end or a fault
-unfoldable pub partOf : List ℕ → ℕ → Found → List ℕ
-partOf message at (Line e n) = take (e - at) (drop at message)
-partOf message at End = []
-partOf message at (Fault n p) = []
+unfoldable pub partFound : List ℕ → ℕ → Found → List ℕ
+partFound message at (Line e n) = take (e - at) (drop at message)
+partFound message at End = []
+partFound message at (Fault n p) = []
 
 -- the place of the next line: "after the end or a fault it gets the same again", so the place stays
 unfoldable pub nextOf : ℕ → Found → ℕ

@@ -10,8 +10,8 @@ use Rattle.line.specs.Finding.{foundAt, nextOf}
 use Rattle.line.specs.declared.walk.Walk.{Walk}
 
 -- a walk over a message that stands at its first line
-abbrev pub opened : RefT (List ℕ) → Walk
-opened message = record { message = message; at = 0 }
+abbrev pub walkOpened : RefT (List ℕ) → Walk
+walkOpened message = record { message = message; at = 0 }
 
 -- the same walk at the next line; at an end or a fault it stays
 abbrev pub goneOn : Walk → Walk
@@ -19,7 +19,7 @@ goneOn w = record { message = w .message; at = nextOf (w .at) (foundAt form (now
 
 -- a walk that was opened over a message and went on k times
 unfoldable pub walkAfter : RefT (List ℕ) → ℕ → Walk
-walkAfter message zero = opened message
+walkAfter message zero = walkOpened message
 walkAfter message (suc k) = goneOn (walkAfter message k)
 
 -- its place, of a message of any form

@@ -3,13 +3,13 @@
 use mathlib.Core.List.{List, [], _∷_}
 use Prim.Native.Nat.{ℕ, _+_, _≤_}
 use lib.ListN.{length}
-use Rattle.laws.specs.Each.{Each}
+use Rattle.laws.specs.Every.{All}
 use Rattle.form.specs.declared.limits.Limits.{Limits}
 use Rattle.line.specs.Lines.{Lines, end, fault, line, space}
 
 -- every byte is one of text: 32 or more
 abbrev pub Text : List ℕ → Type 0
-Text t = Each (λ (b : ℕ). space ≤ b) t
+Text t = All (λ (b : ℕ). space ≤ b) t
 
 -- a sound line: blank lines vanish, "a line has at most 219 bytes before its CR", and none of them is below 32
 pub record SoundLine (L : Limits) (t : List ℕ) : Type 0 where
@@ -18,9 +18,9 @@ pub record SoundLine (L : Limits) (t : List ℕ) : Type 0 where
   pub text : Text t
 
 -- the walk that gives these lines and ends in no fault
-unfoldable pub linesOf : List (List ℕ) → Lines
-linesOf [] = end
-linesOf (t ∷ ts) = line t (linesOf ts)
+unfoldable pub givenLines : List (List ℕ) → Lines
+givenLines [] = end
+givenLines (t ∷ ts) = line t (givenLines ts)
 
 -- the same walk over a message that begins k bytes later
 unfoldable pub shifted : ℕ → Lines → Lines

@@ -5,7 +5,7 @@ ghost use mathlib.Core.Path.{_≡_};
 ghost use Prim.Native.Nat.{_+_, _-_, _≤_, min};
 ghost use lib.ListN.{length, drop};
 ghost use Rattle.form.specs.Limits.{form};
-ghost use Rattle.line.specs.Finding.{textRun, lowRun, endedLine, foundFrom, foundAt, nextOf, partOf};
+ghost use Rattle.line.specs.Finding.{textRun, lowRun, endedLine, foundFrom, foundAt, nextOf, partFound};
 
 // CR ends a line.
 const CR: u8 = 13;
@@ -128,7 +128,7 @@ pub fn next_place(message: &[u8], at: usize) -> usize
 
 // The part of the message that is the line at a place, without its CR, and an empty part where there is an end or a fault.
 pub fn line_part(message: &[u8], at: usize) -> &[u8]
-    ensures { λ r. ⌜ now r ≡ partOf (now (message .entry)) at (foundAt form (now (message .entry)) at) ⌝ }
+    ensures { λ r. ⌜ now r ≡ partFound (now (message .entry)) at (foundAt form (now (message .entry)) at) ⌝ }
 {
     match line_at(message, at) {
         Found::Line { end, next: _ } => &message[at..end],

@@ -5,8 +5,8 @@ use crate::finder::line_part;
 use crate::finder::next_place;
 ghost use mathlib.Core.Path.{_≡_};
 ghost use Rattle.form.specs.Limits.{form};
-ghost use Rattle.line.specs.Finding.{foundAt, partOf};
-ghost use Rattle.line.specs.Going.{opened, goneOn};
+ghost use Rattle.line.specs.Finding.{foundAt, partFound};
+ghost use Rattle.line.specs.Going.{walkOpened, goneOn};
 
 // The message, and the place in it that the walk has come to.
 pub struct Walk<'a> {
@@ -16,7 +16,7 @@ pub struct Walk<'a> {
 
 // A walk that stands at the message's first line.
 pub fn open<'a>(message: &'a [u8]) -> Walk<'a>
-    ensures { λ r. ⌜ r ≡ opened (message .entry) ⌝ }
+    ensures { λ r. ⌜ r ≡ walkOpened (message .entry) ⌝ }
 {
     Walk { message, at: 0 }
 }
@@ -30,7 +30,7 @@ pub fn look<'a>(walk: Walk<'a>) -> Found
 
 // The line itself, without its CR; an empty part at the end or a fault.
 pub fn part<'a>(walk: Walk<'a>) -> &'a [u8]
-    ensures { λ r. ⌜ now r ≡ partOf (now (walk .entry .message)) (walk .entry .at) (foundAt form (now (walk .entry .message)) (walk .entry .at)) ⌝ }
+    ensures { λ r. ⌜ now r ≡ partFound (now (walk .entry .message)) (walk .entry .at) (foundAt form (now (walk .entry .message)) (walk .entry .at)) ⌝ }
 {
     line_part(walk.message, walk.at)
 }

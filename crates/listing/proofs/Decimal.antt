@@ -10,6 +10,7 @@ use lib.Dec.{ltb}
 use lib.ListN.{length, length-append}
 use borrow.Author.Tests.{lt-ltb, le-ltb}
 use Rattle.laws.proofs.Cases.{less-or-not}
+use Rattle.table.specs.Rows.{width}
 use Rattle.listing.specs.Decimal.{digitsWithin, decimal}
 
 -- a digit is its own text; a number from 10 on is that of a tenth and its last digit
@@ -69,8 +70,8 @@ unfolding tens
 few-digits zero n h = omega (arith, ap length (decimal-digit n h))
 few-digits (suc k) n h = few-by k n h (few-digits k) (less-or-not n 10)
 
--- 16 and 64 bits
-pub five-digits : (n : ℕ) → n < 65536 → length (decimal n) ≤ 5
+-- a row's number, and one of 64 bits
+pub five-digits : (n : ℕ) → n < width → length (decimal n) ≤ 5
 unfolding tens
 five-digits n h = few-digits 4 n (omega arith)
 

@@ -1,6 +1,6 @@
 -- K1's listing is the one that document 01 prints, closed by computation; and listings that the contract shuts out.
 -- Assumes nothing.
-use mathlib.Core.List.{List}
+use mathlib.Core.List.{List, _++_}
 use mathlib.Core.Path.{_≡_, refl, sym, ap, _∙_, subst}
 use Prim.Native.Nat.{ℕ, _≤_, _<_}
 use native.Mathlib.Omega.{arith}
@@ -27,9 +27,13 @@ use Rattle.listing.proofs.Listed.{listed-short, listed-roomy}
 unfoldable pub printed : List ℕ
 printed = bytes "form=1\nanswer=0\nplace=0\ncontext=ORU\nsegments=5\nleaves=24\ntext=41\nwritten=65\nseg=1,H,0,1,7\nseg=2,P,1,8,7\nseg=3,OBR,2,15,2\nseg=4,OBX,3,17,6\nseg=5,L,0,23,2\n"
 
+k1-size : length (written form k1) ≡ 65
+unfolding bytes concat values lineCount roundedUp splitting pieces addenda cut cuts unlines onto split leafAt leavesOf separatorsAt between unsplitFrom unsplit segmentsOf linesOf written filed k1
+k1-size = refl
+
 k1-table : listing form (accepted k1) ≡ printed
-unfolding printed concat bytes values lineCount roundedUp splitting kindNames contextNames pieces addenda cut cuts unlines onto split leafAt leavesOf separatorsAt between unsplitFrom unsplit segmentsOf linesOf written filed k1 digitsWithin decimal entryOf entry nameOf andNumber columns rowLine rowLines answerLines contextLine countLines listing
-k1-table = refl
+unfolding printed concat bytes values kindNames contextNames filed k1 digitsWithin decimal entryOf entry nameOf andNumber columns rowLine rowLines answerLines contextLine countLines listing
+k1-table = ap (λ (n : ℕ). answerLines 0 0 ++ (countLines (k1 .card) n ++ rowLines (k1 .segmentRows) (k1 .card .segments))) k1-size
 
 pub k1-listed : listing form (reading form level (stated form) K1) ≡ printed
 k1-listed = ap (listing form) k1-read ∙ k1-table

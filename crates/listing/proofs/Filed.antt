@@ -1,12 +1,12 @@
 -- The table of an accepted message, as it lies in the reader's buffers: what is counted there is the table, and the writer gives its bytes.
 -- Assumes nothing.
 use mathlib.Core.Bool.{true, _&&_}
-use mathlib.Core.List.{List, [], _∷_, _++_}
+use mathlib.Core.List.{List}
 use mathlib.Core.Path.{_≡_, refl, sym, ap, _∙_, subst⁻¹}
 use Prim.Native.Nat.{ℕ, _+_, _*_, _≤_, _<_}
 use native.Mathlib.Omega.{arith}
 use lib.ListN.{length, take, drop, getD}
-use lib.Seq.{sets, sets-eq, length-sets}
+use lib.Seq.{sets, sets-eq, length-sets, take-at}
 use lib.Dec.{leb}
 use borrow.Author.Tests.{le-ltb, leb-true}
 use Rattle.laws.specs.Lists.{concat}
@@ -30,25 +30,11 @@ use Rattle.write.proofs.RoundTrip.{reads-back}
 use Rattle.write.proofs.RowByRow.{row-by-row}
 use Rattle.write.proofs.LocalTables.{stated-roomy, accepted-local}
 use Rattle.write.proofs.LentTables.{Within, within-buffers, local-within, is-table, table-written-out}
-use Rattle.listing.specs.Listing.{entry, columns, rowLine, rowLines}
-use Rattle.listing.specs.Decimal.{decimal}
+use Rattle.listing.specs.Listing.{columns, rowLine, rowLines}
 
 -- what is stored at the front is taken from there
-taken-front : (s t : List ℕ) → take (length s) (s ++ t) ≡ s
-taken-front [] t = refl
-taken-front (a ∷ s) t = ap (λ (r : List ℕ). a ∷ r) (taken-front s t)
-
 front-taken : (buffer front : List ℕ) (n : ℕ) → length front ≡ n → length front ≤ length buffer → take n (sets buffer 0 front) ≡ front
-front-taken buffer front n e fits =
-    ap (λ (k : ℕ). take k (sets buffer 0 front)) (sym e)
-    ∙ ap (take (length front)) (sets-eq front buffer 0 (omega arith))
-    ∙ taken-front front (drop (0 + length front) buffer)
-
--- a row's columns are those of its four numbers
-columns-same : (rows other : List ℕ) (at : ℕ) → getD rows at 0 ≡ getD other at 0 → getD rows (at + 1) 0 ≡ getD other (at + 1) 0
-    → getD rows (at + 2) 0 ≡ getD other (at + 2) 0 → getD rows (at + 3) 0 ≡ getD other (at + 3) 0 → columns rows at ≡ columns other at
-unfolding columns
-columns-same rows other at kind owner first count = rw (kind, owner, first, count, columns)
+front-taken buffer front n e fits = ap (take n) (sets-eq front buffer 0 (omega arith)) ∙ take-at front (drop (0 + length front) buffer) n e
 
 module _ (L : Limits) (lawful : Lawful L) (levels : ℕ → ℕ → ℕ) (message text segments leaves : List ℕ) (t : Table)
     (read : reading L levels (roomOf text segments leaves) message ≡ accepted t) where
@@ -125,13 +111,18 @@ module _ (L : Limits) (lawful : Lawful L) (levels : ℕ → ℕ → ℕ) (messag
   number-at : (j : ℕ) → j < t .card .segments * segmentRowSize → getD (sets segments 0 (t .segmentRows)) j 0 ≡ getD (t .segmentRows) j 0
   number-at j h = front-at segments (t .segmentRows) j segments-fit (omega (arith, sized .segmentRows))
 
+  row-listed : (k : ℕ) → k < t .card .segments → rowLine (sets segments 0 (t .segmentRows)) k ≡ rowLine (t .segmentRows) k
+  unfolding rowLine columns
+  row-listed k h =
+      rw (
+        number-at (k * segmentRowSize) (omega arith),
+        number-at (k * segmentRowSize + 1) (omega arith),
+        number-at (k * segmentRowSize + 2) (omega arith),
+        number-at (k * segmentRowSize + 3) (omega arith),
+      )
+
   pub filed-rows : rowLines (sets segments 0 (t .segmentRows)) (t .card .segments) ≡ rowLines (t .segmentRows) (t .card .segments)
-  unfolding rowLines rowLine
-  filed-rows = ap concat (values-same (rowLine (sets segments 0 (t .segmentRows))) (rowLine (t .segmentRows)) 0 (t .card .segments) (λ k least most. row k (omega arith)))
-    where
-      row : (k : ℕ) → k < t .card .segments → rowLine (sets segments 0 (t .segmentRows)) k ≡ rowLine (t .segmentRows) k
-      row k h =
-          ap (λ (s : List ℕ). entry "seg=" (decimal (k + 1) ++ s))
-          (columns-same (sets segments 0 (t .segmentRows)) (t .segmentRows) (k * segmentRowSize) (number-at (k * segmentRowSize) (omega arith))
-          (number-at (k * segmentRowSize + 1) (omega arith)) (number-at (k * segmentRowSize + 2) (omega arith))
-          (number-at (k * segmentRowSize + 3) (omega arith)))
+  unfolding rowLines
+  filed-rows =
+      ap concat (values-same (rowLine (sets segments 0 (t .segmentRows))) (rowLine (t .segmentRows)) 0 (t .card .segments)
+      (λ k least most. row-listed k (omega arith)))

@@ -13,7 +13,7 @@ use Rattle.form.specs.declared.limits.Limits.{Limits}
 use Rattle.form.specs.Limits.{Lawful}
 use Rattle.form.specs.Numbers.{shortBuffer}
 use Rattle.table.specs.declared.Card.{Card}
-use Rattle.table.specs.Rows.{Table}
+use Rattle.table.specs.Rows.{Table, width}
 use Rattle.table.specs.Reading.{Outcome, refused, accepted, reading}
 use Rattle.table.specs.Back.{written}
 use Rattle.read.specs.declared.Answer.{Answer}
@@ -22,24 +22,24 @@ use Rattle.read.proofs.OnlyOne.{reading-numbered}
 use Rattle.read.proofs.Acceptance.{number-accepted}
 use Rattle.table.specs.Lent.{lent}
 use Rattle.write.specs.Answer.{writtenSize}
-use Rattle.listing.specs.Listing.{listing, listingSize, listed, shown, Lists, ListedAs, answerLines, countLines, rowLines}
-use Rattle.listing.specs.Putting.{Put, PutWithin}
+use Rattle.listing.specs.Listing.{listing, listingSize, listingFor, shown, Lists, ListedAs, answerLines, countLines, rowLines}
+use Rattle.listing.specs.Putting.{Put, PutWithin, RowsReady}
 use Rattle.listing.proofs.Putting.{put-as, put-then, put-length}
 use Rattle.listing.proofs.Filed.{filed, few-segments, filed-within, filed-size, filed-rows}
 
 -- a buffer that is short, or is not
 module _ (L : Limits) (o : Outcome) (size : ℕ) where
-  pub listed-short : size < listingSize L → listed L o size ≡ []
-  unfolding listed
-  listed-short h = rw (lt-ltb size (listingSize L) h, listed)
+  pub listed-short : size < listingSize L → listingFor L o size ≡ []
+  unfolding listingFor
+  listed-short h = rw (lt-ltb size (listingSize L) h, listingFor)
 
   shown-short : size < listingSize L → shown L o size ≡ refused shortBuffer 0
   unfolding shown
   shown-short h = rw (lt-ltb size (listingSize L) h, shown)
 
-  pub listed-roomy : listingSize L ≤ size → listed L o size ≡ listing L o
-  unfolding listed
-  listed-roomy h = rw (le-ltb size (listingSize L) h, listed)
+  pub listed-roomy : listingSize L ≤ size → listingFor L o size ≡ listing L o
+  unfolding listingFor
+  listed-roomy h = rw (le-ltb size (listingSize L) h, listingFor)
 
   shown-roomy : listingSize L ≤ size → shown L o size ≡ o
   unfolding shown
@@ -90,9 +90,11 @@ module _ (L : Limits) (levels : ℕ → ℕ → ℕ) (message text segments leav
       listed-so L (reading L levels (roomOf text segments leaves) message) room read
       (put-as (refused-lines L (reading L levels (roomOf text segments leaves) message) read h) (p .put))
 
-  module _ (lawful : Lawful L) (h : r .number ≡ 0) where
+  module _ (lawful : Lawful L) (small : L .segments < width) (h : r .number ≡ 0) where
     found : (t : Table) × (reading L levels (roomOf text segments leaves) message ≡ accepted t)
-    found = number-accepted (reading L levels (roomOf text segments leaves) message) read (reading-numbered L levels (roomOf text segments leaves) message) .0 h
+    found =
+        number-accepted (reading L levels (roomOf text segments leaves) message) read
+        (reading-numbered L levels (roomOf text segments leaves) message) .0 h
 
     abbrev table : Table
     table = found .0
@@ -131,15 +133,17 @@ module _ (L : Limits) (levels : ℕ → ℕ → ℕ) (message text segments leav
 
     -- what the lines of the table ask
     module _ {list₁ : List ℕ} {begun : ℕ} (first : PutWithin 64 list 0 (answerLines (r .number) (r .place)) list₁ begun) where
-      pub list-ready : (r .card .segments * 4 ≤ length segments′) × (r .card .segments ≤ L .segments) × (begun + (128 + r .card .segments * 32) ≤ length list₁)
+      pub list-ready : RowsReady segments′ (r .card .segments) list₁ begun (128 + r .card .segments * 32)
       unfolding listingSize segmentsPut
       list-ready =
           let count : r .card .segments ≡ table .card .segments = ap (λ (k : Card). k .segments) card-is in
-          let few = few-segments L lawful levels message text segments leaves table (found .1) in (
-            omega (arith, count, ap length (given .segmentRows), filed-within L lawful levels message text segments leaves table (found .1) .segmentRows),
-            omega (arith, count, few),
-            omega (arith, count, few, first .few, put-length (first .put), room),
-          )
+          let few = few-segments L lawful levels message text segments leaves table (found .1) in
+          let there = filed-within L lawful levels message text segments leaves table (found .1) .segmentRows in
+          record {
+            rows-there = omega (arith, count, ap length (given .segmentRows), there);
+            number = omega (arith, count, few, small);
+            room = omega (arith, count, few, first .few, put-length (first .put), room);
+          }
 
       pub list-accepted : {list₂ : List ℕ} {next : ℕ}
           → Put list₁ begun

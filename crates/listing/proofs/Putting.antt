@@ -40,6 +40,9 @@ module _ {output : List ℕ} {at : ℕ} where
     pub put-within : (most : ℕ) → length first ≤ most → PutWithin most output at first output₁ next
     put-within most few = record { put = p; few = omega (arith, p .reached, few) }
 
+    pub put-exact : PutWithin (length first) output at first output₁ next
+    put-exact = record { put = p; few = omega (arith, p .reached) }
+
     -- room for it and for more leaves room for more
     pub put-room : (more : ℕ) → at + (length first + more) ≤ length output → next + more ≤ length output₁
     put-room more room = omega (arith, p .reached, put-length, room)
@@ -51,6 +54,15 @@ within-as e w = record { put = put-as e (w .put); few = w .few }
 pub within-room : {output piece output′ : List ℕ} {at most next : ℕ} → PutWithin most output at piece output′ next → (more : ℕ)
     → at + (most + more) ≤ length output → next + more ≤ length output′
 within-room w more room = omega (arith, w .few, put-length (w .put), room)
+
+-- one short piece behind another, and one with room to spare
+pub within-then : {output first output₁ second output₂ : List ℕ} {at most next more after : ℕ} → PutWithin most output at first output₁ next
+    → PutWithin more output₁ next second output₂ after → PutWithin (most + more) output at (first ++ second) output₂ after
+within-then v w = record { put = put-then (v .put) (w .put); few = omega (arith, v .few, w .few) }
+
+pub within-more : {output piece output′ : List ℕ} {at most more next : ℕ} → most ≤ more → PutWithin most output at piece output′ next
+    → PutWithin more output at piece output′ next
+within-more h w = record { put = w .put; few = omega (arith, w .few, h) }
 
 -- a text put byte by byte: what is left of it from i on gives the whole
 pub record Copying (text output₀ : List ℕ) (at : ℕ) (output : List ℕ) (i : ℕ) : Type 0 where

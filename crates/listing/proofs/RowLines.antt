@@ -1,6 +1,6 @@
 -- The lines of the segment rows, one behind the other.
 -- Assumes nothing.
-use mathlib.Core.List.{List, [], _∷_, _++_}
+use mathlib.Core.List.{List, [], _++_, append-nil}
 use mathlib.Core.Path.{_≡_, refl, sym, ap, _∙_}
 use Prim.Native.Nat.{ℕ, _+_, _*_, _≤_, _<_}
 use native.Mathlib.Omega.{arith}
@@ -17,16 +17,12 @@ none-yet : (rows : List ℕ) → [] ≡ rowLines rows 0
 unfolding rowLines values concat
 none-yet rows = refl
 
-one-alone : (s : List ℕ) → s ++ [] ≡ s
-one-alone [] = refl
-one-alone (a ∷ s) = ap (λ (t : List ℕ). a ∷ t) (one-alone s)
-
 one-more : (rows : List ℕ) (i : ℕ) → rowLines rows i ++ rowLine rows i ≡ rowLines rows (i + 1)
 unfolding rowLines values concat
 one-more rows i =
     sym (ap concat (values-append (rowLine rows) 0 i 1)
     ∙ concat-append (values (rowLine rows) 0 i) (values (rowLine rows) (0 + i) 1)
-    ∙ ap (λ (s : List ℕ). concat (values (rowLine rows) 0 i) ++ s) (one-alone (rowLine rows (0 + i)))
+    ∙ ap (λ (s : List ℕ). concat (values (rowLine rows) 0 i) ++ s) (append-nil (rowLine rows (0 + i)))
     ∙ ap (λ (k : ℕ). concat (values (rowLine rows) 0 i) ++ rowLine rows k) (let e : 0 + i ≡ i = omega arith in e))
 
 -- the lines of the rows before i stand, at most 32 bytes each

@@ -15,7 +15,7 @@ use Rattle.form.specs.declared.limits.Limits.{Limits}
 use Rattle.form.specs.Names.{kindNames, contextNames}
 use Rattle.form.specs.Numbers.{shortBuffer}
 use Rattle.table.specs.declared.Card.{Card}
-use Rattle.table.specs.Rows.{Table, segmentRowSize}
+use Rattle.table.specs.Rows.{Table, kindIn, ownerIn, firstIn, countIn}
 use Rattle.table.specs.Reading.{Outcome, refused, accepted, reading}
 use Rattle.table.specs.Back.{written}
 use Rattle.read.specs.Answering.{roomOf, textPut, segmentsPut, leavesPut}
@@ -37,16 +37,16 @@ nameOf names (suc n) = getD names n []
 unfoldable pub andNumber : ℕ → List ℕ
 andNumber n = 44 ∷ decimal n
 
--- "`seg` is number, kind, owner, first leaf, leaf count": the last four from the number at `at` of the segment rows on, a comma before each
+-- "`seg` is number, kind, owner, first leaf, leaf count": the last four, of row i of the segment rows, counted from 0, a comma before each
 unfoldable pub columns : List ℕ → ℕ → List ℕ
-columns rows at =
+columns rows i =
     44
-    ∷ (nameOf kindNames (getD rows at 0)
-    ++ (andNumber (getD rows (at + 1) 0) ++ (andNumber (getD rows (at + 2) 0) ++ andNumber (getD rows (at + 3) 0))))
+    ∷ (nameOf kindNames (kindIn rows i)
+    ++ (andNumber (ownerIn rows i) ++ (andNumber (firstIn rows i) ++ andNumber (countIn rows i))))
 
--- the line of row i of the segment rows, counted from 0
+-- the line of row i
 unfoldable pub rowLine : List ℕ → ℕ → List ℕ
-rowLine rows i = entry "seg=" (decimal (i + 1) ++ columns rows (i * segmentRowSize))
+rowLine rows i = entry "seg=" (decimal (i + 1) ++ columns rows i)
 
 -- the lines of so many rows
 unfoldable pub rowLines : List ℕ → ℕ → List ℕ
@@ -78,9 +78,9 @@ listing L (accepted t) =
 unfoldable pub listingSize : Limits → ℕ
 listingSize L = 256 + L .segments * 32
 
--- what is listed of an outcome into a buffer of some length: nothing where that is short
-unfoldable pub listed : Limits → Outcome → ℕ → List ℕ
-listed L o size = elim (ltb size (listingSize L)) [ true ↦ [] | false ↦ listing L o ]
+-- the listing of an outcome for a buffer of some length: nothing where that is short
+unfoldable pub listingFor : Limits → Outcome → ℕ → List ℕ
+listingFor L o size = elim (ltb size (listingSize L)) [ true ↦ [] | false ↦ listing L o ]
 
 -- the outcome that the reader's buffers show: nothing is read where the listing's buffer is short
 unfoldable pub shown : Limits → Outcome → ℕ → Outcome
@@ -88,8 +88,8 @@ shown L o size = elim (ltb size (listingSize L)) [ true ↦ refused shortBuffer 
 
 -- the contract of listing: the listing's bytes, and every lent buffer
 pub record Lists (L : Limits) (o : Outcome) (text segments leaves list : List ℕ) (r : ℕ) (text′ segments′ leaves′ list′ : List ℕ) : Type 0 where
-  pub bytes : r ≡ length (listed L o (length list))
-  pub listing : list′ ≡ sets list 0 (listed L o (length list))
+  pub bytes : r ≡ length (listingFor L o (length list))
+  pub listing : list′ ≡ sets list 0 (listingFor L o (length list))
   pub textArea : text′ ≡ sets text 0 (textPut (shown L o (length list)))
   pub segmentRows : segments′ ≡ sets segments 0 (segmentsPut (shown L o (length list)))
   pub leafRows : leaves′ ≡ sets leaves 0 (leavesPut (shown L o (length list)))

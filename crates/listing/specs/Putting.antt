@@ -2,9 +2,10 @@
 -- Assumes nothing.
 use mathlib.Core.List.{List}
 use mathlib.Core.Path.{_≡_}
-use Prim.Native.Nat.{ℕ, _+_, _≤_}
+use Prim.Native.Nat.{ℕ, _+_, _*_, _≤_, _<_}
 use lib.ListN.{length}
 use lib.Seq.{sets}
+use Rattle.table.specs.Rows.{segmentRowSize, width}
 
 -- a piece stands at a place of the output, and the next place is reached
 pub record Put (output : List ℕ) (at : ℕ) (piece output′ : List ℕ) (next : ℕ) : Type 0 where
@@ -15,3 +16,15 @@ pub record Put (output : List ℕ) (at : ℕ) (piece output′ : List ℕ) (next
 pub record PutWithin (most : ℕ) (output : List ℕ) (at : ℕ) (piece output′ : List ℕ) (next : ℕ) : Type 0 where
   pub put : Put output at piece output′ next
   pub few : next ≤ at + most
+
+-- row i is a row, its number fits one, and the output has room for so many bytes behind a place
+pub record RowReady (rows : List ℕ) (i : ℕ) (output : List ℕ) (at most : ℕ) : Type 0 where
+  pub rows-there : (i + 1) * segmentRowSize ≤ length rows
+  pub number : i + 1 < width
+  pub room : at + most ≤ length output
+
+-- the same of so many rows
+pub record RowsReady (rows : List ℕ) (count : ℕ) (output : List ℕ) (at most : ℕ) : Type 0 where
+  pub rows-there : count * segmentRowSize ≤ length rows
+  pub number : count < width
+  pub room : at + most ≤ length output

@@ -5,15 +5,13 @@ use crate::put::put_kind;
 use crate::put::put_number;
 use crate::put::put_text;
 use table::Card;
+use table::rows;
 ghost use mathlib.Core.List.{_++_};
-ghost use Prim.Native.Nat.{_+_, _*_, _≤_, _<_};
+ghost use Prim.Native.Nat.{_+_, _*_, _≤_};
 ghost use lib.ListN.{length};
 ghost use Rattle.listing.specs.Decimal.{decimal};
 ghost use Rattle.listing.specs.Listing.{andNumber, columns, rowLine, rowLines, answerLines, contextLine, countLines, entryOf};
-ghost use Rattle.listing.specs.Putting.{PutWithin};
-
-// Numbers of a segment row.
-const SIZE: usize = 4;
+ghost use Rattle.listing.specs.Putting.{PutWithin, RowReady, RowsReady};
 
 const LF: u8 = b'\n';
 
@@ -28,7 +26,7 @@ fn put_entry(name: &[u8], n: usize, output: &mut [u8], at: usize) -> usize
 }
 
 // A comma and a number of a row.
-fn put_next(n: u16, output: &mut [u8], at: usize) -> usize
+fn put_next(n: rows::Entry, output: &mut [u8], at: usize) -> usize
     requires { ⌜ at + 6 ≤ length (now output) ⌝ }
     ensures { λ r. ⌜ PutWithin 6 (now (output .entry)) at (andNumber n) (now (output .exit)) r ⌝ }
 {
@@ -36,32 +34,38 @@ fn put_next(n: u16, output: &mut [u8], at: usize) -> usize
     put_number(n as usize, output, next)
 }
 
-// A row's kind, owner, first leaf and leaf count, from the number at `row` on, a comma before each.
-fn put_columns(segments: &[u16], row: usize, output: &mut [u8], at: usize) -> usize
-    requires { ⌜ (row + 4 ≤ length (now segments)) × (at + 22 ≤ length (now output)) ⌝ }
-    ensures { λ r. ⌜ PutWithin 22 (now (output .entry)) at (columns (now (segments .entry)) row) (now (output .exit)) r ⌝ }
+// The kind, owner, first leaf and leaf count of row i of the segment rows, counted from 0, a comma before each.
+fn put_columns(segments: &[rows::Entry], i: usize, output: &mut [u8], at: usize) -> usize
+    requires { ⌜ RowReady (now segments) i (now output) at 22 ⌝ }
+    ensures { λ r. ⌜ PutWithin 22 (now (output .entry)) at (columns (now (segments .entry)) i) (now (output .exit)) r ⌝ }
 {
+    let row = i * rows::SEGMENT_ROW;
     let parted = put_byte(b',', output, at);
     let kinded = put_kind(segments[row], output, parted);
-    let owned = put_next(segments[row + 1], output, kinded);
-    let led = put_next(segments[row + 2], output, owned);
-    put_next(segments[row + 3], output, led)
+    let owned = put_next(segments[row + rows::OWNER], output, kinded);
+    let led = put_next(segments[row + rows::FIRST], output, owned);
+    put_next(segments[row + rows::COUNT], output, led)
 }
 
-// The line of row i of the segment rows, counted from 0.
-fn put_row(segments: &[u16], i: usize, output: &mut [u8], at: usize) -> usize
-    requires { ⌜ (i * 4 + 4 ≤ length (now segments)) × (i < 65535) × (at + 32 ≤ length (now output)) ⌝ }
+// The line of row i.
+fn put_row(segments: &[rows::Entry], i: usize, output: &mut [u8], at: usize) -> usize
+    requires { ⌜ RowReady (now segments) i (now output) at 32 ⌝ }
     ensures { λ r. ⌜ PutWithin 32 (now (output .entry)) at (rowLine (now (segments .entry)) i) (now (output .exit)) r ⌝ }
 {
     let named = put_text(b"seg=", output, at);
     let numbered = put_number(i + 1, output, named);
-    let filled = put_columns(segments, i * SIZE, output, numbered);
+    let filled = put_columns(segments, i, output, numbered);
     put_byte(LF, output, filled)
 }
 
 // The lines of so many rows.
-pub(crate) fn put_rows(segments: &[u16], count: usize, output: &mut [u8], at: usize) -> usize
-    requires { ⌜ (count * 4 ≤ length (now segments)) × (count ≤ 65535) × (at + count * 32 ≤ length (now output)) ⌝ }
+pub(crate) fn put_rows(
+    segments: &[rows::Entry],
+    count: usize,
+    output: &mut [u8],
+    at: usize,
+) -> usize
+    requires { ⌜ RowsReady (now segments) count (now output) at (count * 32) ⌝ }
     ensures { λ r. ⌜ PutWithin (count * 32) (now (output .entry)) at (rowLines (now (segments .entry)) count) (now (output .exit)) r ⌝ }
 {
     let mut next = at;

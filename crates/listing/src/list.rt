@@ -4,6 +4,7 @@ use crate::lines::put_counts;
 use crate::lines::put_rows;
 use form::number::Number;
 use table::Card;
+use table::rows;
 ghost use mathlib.Core.List.{_++_};
 ghost use Prim.Native.Nat.{_+_, _*_, _≤_};
 ghost use lib.ListN.{length};
@@ -12,7 +13,7 @@ ghost use Rattle.order.specs.Owners.{level};
 ghost use Rattle.table.specs.Lent.{lent};
 ghost use Rattle.write.specs.Answer.{writtenSize};
 ghost use Rattle.listing.specs.Listing.{ListedAs, countLines, rowLines};
-ghost use Rattle.listing.specs.Putting.{PutWithin};
+ghost use Rattle.listing.specs.Putting.{PutWithin, RowsReady};
 
 // The bytes that every listing has room in: 256 for the first lines and 32 for each of 256 segments.
 pub const SIZE: usize = 8448;
@@ -22,8 +23,8 @@ pub const SIZE: usize = 8448;
 pub fn list(
     message: &[u8],
     text: &mut [u8],
-    segments: &mut [u16],
-    leaves: &mut [u16],
+    segments: &mut [rows::Entry],
+    leaves: &mut [rows::Entry],
     list: &mut [u8],
 ) -> usize
     ensures { λ r. ⌜ ListedAs form level (now (message .entry)) (now (text .entry)) (now (segments .entry)) (now (leaves .entry)) (now (list .entry))
@@ -44,13 +45,13 @@ pub fn list(
 // The lines of a table behind the first three.
 fn put_table(
     card: Card,
-    segments: &[u16],
-    leaves: &[u16],
+    segments: &[rows::Entry],
+    leaves: &[rows::Entry],
     text: &[u8],
     list: &mut [u8],
     at: usize,
 ) -> usize
-    requires { ⌜ (card .segments * 4 ≤ length (now segments)) × (card .segments ≤ 65535) × (at + (128 + card .segments * 32) ≤ length (now list)) ⌝ }
+    requires { ⌜ RowsReady (now segments) (card .segments) (now list) at (128 + card .segments * 32) ⌝ }
     ensures { λ r. ⌜ PutWithin (128 + card .segments * 32) (now (list .entry)) at
         (countLines card (writtenSize form level (lent card (now (segments .entry)) (now (leaves .entry)) (now (text .entry))))
         ++ rowLines (now (segments .entry)) (card .segments)) (now (list .exit)) r ⌝ }

@@ -1,9 +1,11 @@
 // Pieces of a text, put one behind the other: each function puts its piece at a place of the output and answers the place after it.
+use table::rows;
 ghost use mathlib.Core.List.{[], _∷_};
 ghost use mathlib.Core.Path.{_≡_};
 ghost use Prim.Native.Nat.{_+_, _≤_, _<_};
 ghost use lib.ListN.{length, take, drop};
 ghost use Rattle.form.specs.Names.{kindNames, contextNames};
+ghost use Rattle.table.specs.Rows.{width};
 ghost use Rattle.listing.specs.Decimal.{decimal};
 ghost use Rattle.listing.specs.Listing.{nameOf};
 ghost use Rattle.listing.specs.Names.{upToSpace, nameIn};
@@ -64,7 +66,7 @@ fn name_end(letters: &[u8], from: usize) -> usize
 
 // The name with a number, counted from 1, among names of three letters each, spaces behind a shorter one; nothing where none has it.
 fn put_name(letters: &[u8], number: usize, output: &mut [u8], at: usize) -> usize
-    requires { ⌜ (number < 65536) × (at + 3 ≤ length (now output)) ⌝ }
+    requires { ⌜ (number < width) × (at + 3 ≤ length (now output)) ⌝ }
     ensures { λ r. ⌜ PutWithin 3 (now (output .entry)) at (nameIn (now (letters .entry)) number) (now (output .exit)) r ⌝ }
 {
     let before = number * LETTERS;
@@ -80,7 +82,7 @@ fn put_name(letters: &[u8], number: usize, output: &mut [u8], at: usize) -> usiz
 }
 
 // The name of a kind; nothing where no kind has the number.
-pub(crate) fn put_kind(kind: u16, output: &mut [u8], at: usize) -> usize
+pub(crate) fn put_kind(kind: rows::Entry, output: &mut [u8], at: usize) -> usize
     requires { ⌜ at + 3 ≤ length (now output) ⌝ }
     ensures { λ r. ⌜ PutWithin 3 (now (output .entry)) at (nameOf kindNames kind) (now (output .exit)) r ⌝ }
 {

@@ -15,47 +15,38 @@ use Rattle.laws.proofs.Parts.{part-taken}
 use Rattle.laws.proofs.Searching.{firstOf-same}
 use Rattle.laws.proofs.Tests.{Tested, passed, failed, tested, and-first, and-second, and-where}
 use Rattle.table.specs.declared.Card.{Card}
-use Rattle.table.specs.Lent.{Lent, countsFit, withinBuffers, counted}
-use Rattle.table.specs.Rows.{Table, segmentRowSize, leafRowSize}
+use Rattle.table.specs.Lent.{Lent, withinBuffers, counted, SameCounted}
+use Rattle.table.specs.Rows.{Table, segmentRowSize, leafRowSize, kindIn, ownerIn, startIn, lengthIn}
+use Rattle.table.proofs.Lent.{same-within}
 use Rattle.look.specs.declared.leaf.Sought.{Sought}
 use Rattle.look.specs.declared.leaf.Sought.the-variants.{At, Nothing}
 use Rattle.look.specs.declared.leaf.Place.{Place}
-use Rattle.look.specs.Looking.{startAt, lengthAt, fits, soughtFrom, soughtIn, partOf, lookedUp, hasKindAndOwner, rowFrom, rowAfter, isOrder, orderPlace, sameTexts, sameOrder}
+use Rattle.look.specs.Looking.{
+  fits,
+  soughtFrom,
+  soughtIn,
+  soughtPart,
+  lookedUp,
+  segmentsFit,
+  hasKindAndOwner,
+  rowFrom,
+  rowAfter,
+  isOrder,
+  orderAt,
+  orderPlace,
+  sameTexts,
+  sameOrder,
+}
 use Rattle.look.specs.Ordering.{orderText}
 use Rattle.look.proofs.Seeking.{foundAt, sought-first, Within, sought-counted, sought-uncounted, sought-in-card}
 use Rattle.look.proofs.RowSearch.{row-first}
 use Rattle.look.proofs.Orders.{order-text, no-order, same-order-texts}
 
--- two lent tables with one card, buffers of the same lengths, and the same counted entries
-pub record SameCounted (t u : Lent) : Type 0 where
-  pub segmentRows : length (t .segmentRows) ≡ length (u .segmentRows)
-  pub leafRows : length (t .leafRows) ≡ length (u .leafRows)
-  pub text : length (t .text) ≡ length (u .text)
-  pub entries : counted t ≡ counted u
-
--- the counts against the buffers
-
-within : Table → ℕ → ℕ → ℕ → Bool
-within T segments leaves text =
-    leb (T .card .segments * segmentRowSize) segments && leb (T .card .leaves * leafRowSize) leaves && leb (T .card .text) text
-
-same-within : (t u : Lent) → SameCounted t u → withinBuffers t ≡ withinBuffers u
-unfolding countsFit within counted
-same-within t u w =
-    let segments = w .segmentRows in
-    let leaves = w .leafRows in
-    let text = w .text in
-    let entries = w .entries in
-    let e
-    : within (counted t) (length (t .segmentRows)) (length (t .leafRows)) (length (t .text))
-    ≡ within (counted u) (length (u .segmentRows)) (length (u .leafRows)) (length (u .text)) = cc in
-    e
-
 -- the search for a leaf, in the counted rows
 
 module _ (rows : List ℕ) (bytes : ℕ) (p : Place) (m : ℕ) where
   fits-taken : (k : ℕ) → k < m → fits (take (m * leafRowSize) rows) bytes p k ≡ fits rows bytes p k
-  unfolding fits startAt lengthAt
+  unfolding fits
   fits-taken k h =
       rw (
         part-taken rows (k * leafRowSize) 5 (m * leafRowSize) (omega arith),
@@ -64,7 +55,6 @@ module _ (rows : List ℕ) (bytes : ℕ) (p : Place) (m : ℕ) where
       )
 
   found-taken : (k : ℕ) → k < m → foundAt (take (m * leafRowSize) rows) k ≡ foundAt rows k
-  unfolding startAt lengthAt
   found-taken k h =
       rw (
         getD-take (m * leafRowSize) rows (k * leafRowSize + 5) 0 (omega arith),
@@ -125,14 +115,14 @@ orderIn T long row =
     leb (T .card .segments * segmentRowSize) long
     && leb 1 row
     && leb row (T .card .segments)
-    && eqb (getD (T .segmentRows) ((row - 1) * segmentRowSize) 0) 5
+    && eqb (kindIn (T .segmentRows) (row - 1)) 5
 
-order-by-entries : (t : Lent) (row : ℕ) → isOrder t row ≡ orderIn (counted t) (length (t .segmentRows)) row
+order-by-entries : (t : Lent) (row : ℕ) → orderAt t row ≡ orderIn (counted t) (length (t .segmentRows)) row
 unfolding isOrder orderIn counted
 order-by-entries t row =
-    let fits : Bool = leb (t .card .segments * segmentRowSize) (length (t .segmentRows)) in
-    and-where (fits && leb 1 row && leb row (t .card .segments)) (eqb (getD (t .segmentRows) ((row - 1) * segmentRowSize) 0) 5)
-    (eqb (getD (take (t .card .segments * segmentRowSize) (t .segmentRows)) ((row - 1) * segmentRowSize) 0) 5)
+    let fits : Bool = segmentsFit (t .segmentRows) (t .card .segments) in
+    and-where (fits && leb 1 row && leb row (t .card .segments)) (eqb (kindIn (t .segmentRows) (row - 1)) 5)
+    (eqb (kindIn (counted t .segmentRows) (row - 1)) 5)
     (λ e.
     let most = leb-true row (t .card .segments) (and-second (fits && leb 1 row) (leb row (t .card .segments)) e) in
     let least = leb-true 1 row (and-second fits (leb 1 row) (and-first (fits && leb 1 row) (leb row (t .card .segments)) e)) in
@@ -145,8 +135,8 @@ partIn T substitute (At start n) = take n (drop start (T .text))
 partIn T substitute Nothing = substitute
 
 part-by-entries : (t : Lent) (substitute : List ℕ) (s : Sought) → Within (t .card .text) s
-    → partOf t substitute s ≡ partIn (counted t) substitute s
-unfolding partOf partIn counted
+    → soughtPart t substitute s ≡ partIn (counted t) substitute s
+unfolding soughtPart partIn counted
 part-by-entries t substitute (At start n) h = sym (part-taken (t .text) start n (t .card .text) h)
 part-by-entries t substitute Nothing h = refl
 
@@ -159,9 +149,9 @@ texts-by-entries t u (At a n) Nothing h k = refl
 texts-by-entries t u Nothing r h k = refl
 
 order-in-card : (t : Lent) (row : ℕ) → Within (t .card .text) (orderText t row)
-order-in-card t row = go (tested (isOrder t row))
+order-in-card t row = go (tested (orderAt t row))
   where
-    go : Tested (isOrder t row) → Within (t .card .text) (orderText t row)
+    go : Tested (orderAt t row) → Within (t .card .text) (orderText t row)
     go (passed e) = subst⁻¹ (Within (t .card .text)) (order-text t row e) (sought-in-card t (orderPlace row))
     go (failed e) = subst⁻¹ (Within (t .card .text)) (no-order t row e) tt
 
@@ -185,7 +175,7 @@ module _ (t u : Lent) (w : SameCounted t u) where
       ∙ ap₂ (λ (T : Table) (s : Sought). partIn T substitute s) (w .entries) (uncounted-leaf p)
       ∙ sym (part-by-entries u substitute (soughtIn u p) (sought-in-card u p))
 
-  uncounted-order : (row : ℕ) → isOrder t row ≡ isOrder u row
+  uncounted-order : (row : ℕ) → orderAt t row ≡ orderAt u row
   uncounted-order row =
       order-by-entries t row ∙ ap₂ (λ (T : Table) (n : ℕ). orderIn T n row) (w .entries) (w .segmentRows) ∙ sym (order-by-entries u row)
 

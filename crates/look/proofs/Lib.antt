@@ -1,4 +1,3 @@
-pub mod Counts
 pub mod Seeking
 pub mod TextParts
 pub mod RowSearch

@@ -1,69 +1,60 @@
 -- The same-order test: what makes a row an order, and that it compares where the text of leaf 9.4.2 of each order lies.
 -- Assumes nothing.
 use mathlib.Core.Bool.{true, false}
-use mathlib.Core.List.{List, []}
+use mathlib.Core.List.{List}
 use mathlib.Core.Path.{_≡_, refl, sym, ap, ap₂, _∙_}
-use Prim.Native.Nat.{ℕ, _+_, _-_, _*_, _<_, _≤_}
+use Prim.Native.Nat.{ℕ, _+_, _-_, _<_, _≤_}
 use native.Mathlib.Omega.{arith}
 use borrow.Author.Tests.{le-leb, lt-leb}
 use lib.Dec.{eqb}
-use lib.ListN.{length, getD, take, drop}
+use lib.ListN.{length, take, drop}
 use Rattle.laws.specs.Lists.{same}
 use Rattle.laws.proofs.Tests.{Tested, passed, failed, tested}
-use Rattle.table.specs.declared.Card.{Card}
 use Rattle.table.specs.Lent.{Lent}
-use Rattle.table.specs.Rows.{segmentRowSize}
+use Rattle.table.specs.Rows.{kindIn}
 use Rattle.look.specs.declared.leaf.Sought.{Sought}
 use Rattle.look.specs.declared.leaf.Sought.the-variants.{At, Nothing}
-use Rattle.table.specs.Lent.{lent}
-use Rattle.look.specs.Looking.{soughtIn, isOrder, orderPlace, sameTexts, sameOrder}
+use Rattle.look.specs.Looking.{soughtIn, segmentsFit, isOrder, orderAt, orderPlace, sameTexts, sameOrder}
 use Rattle.look.specs.Ordering.{orderText}
 use Rattle.look.proofs.Seeking.{found-within}
 use Rattle.look.proofs.TextParts.{part-long}
 
 -- whether a row is an order
 
-module _ (card : Card) (segments leaves text : List ℕ) (row : ℕ) where
-  pub count-past : length segments < card .segments * segmentRowSize → false ≡ isOrder (lent card segments leaves text) row
+module _ (rows : List ℕ) (count row : ℕ) where
+  pub count-past : segmentsFit rows count ≡ false → false ≡ isOrder rows count row
   unfolding isOrder
-  count-past h = rw (lt-leb (card .segments * segmentRowSize) (length segments) h)
+  count-past e = rw e
 
-  module _ (within : card .segments * segmentRowSize ≤ length segments) where
-    pub row-zero : row < 1 → false ≡ isOrder (lent card segments leaves text) row
+  module _ (fit : segmentsFit rows count ≡ true) where
+    pub row-zero : row < 1 → false ≡ isOrder rows count row
     unfolding isOrder
-    row-zero h = rw (le-leb (card .segments * segmentRowSize) (length segments) within, lt-leb 1 row h)
+    row-zero h = rw (fit, lt-leb 1 row h)
 
     module _ (some : 1 ≤ row) where
-      pub row-past : card .segments < row → false ≡ isOrder (lent card segments leaves text) row
+      pub row-past : count < row → false ≡ isOrder rows count row
       unfolding isOrder
-      row-past h = rw (le-leb (card .segments * segmentRowSize) (length segments) within, le-leb 1 row some, lt-leb row (card .segments) h)
+      row-past h = rw (fit, le-leb 1 row some, lt-leb row count h)
 
-      pub kind-decides : row ≤ card .segments
-          → eqb (getD segments ((row - 1) * segmentRowSize) 0) 5 ≡ isOrder (lent card segments leaves text) row
+      pub kind-decides : row ≤ count → eqb (kindIn rows (row - 1)) 5 ≡ isOrder rows count row
       unfolding isOrder
-      kind-decides h = rw (le-leb (card .segments * segmentRowSize) (length segments) within, le-leb 1 row some, le-leb row (card .segments) h)
-
--- only the card and the segment rows are asked
-pub order-by-segments : (card : Card) (segments leaves text : List ℕ) (row : ℕ)
-    → isOrder (lent card segments [] []) row ≡ isOrder (lent card segments leaves text) row
-unfolding isOrder
-order-by-segments card segments leaves text row = refl
+      kind-decides h = rw (fit, le-leb 1 row some, le-leb row count h)
 
 -- where the text of an order lies
 
 module _ (t : Lent) (row : ℕ) where
-  pub order-text : isOrder t row ≡ true → orderText t row ≡ soughtIn t (orderPlace row)
+  pub order-text : orderAt t row ≡ true → orderText t row ≡ soughtIn t (orderPlace row)
   unfolding orderText
   order-text e = rw (e, orderText)
 
-  pub no-order : isOrder t row ≡ false → orderText t row ≡ Nothing
+  pub no-order : orderAt t row ≡ false → orderText t row ≡ Nothing
   unfolding orderText
   no-order e = rw (e, orderText)
 
   pub order-within : (start n : ℕ) → orderText t row ≡ At start n → start + n ≤ length (t .text)
-  order-within start n found = go (tested (isOrder t row))
+  order-within start n found = go (tested (orderAt t row))
     where
-      go : Tested (isOrder t row) → start + n ≤ length (t .text)
+      go : Tested (orderAt t row) → start + n ≤ length (t .text)
       go (passed e) = found-within t (orderPlace row) start n (sym (order-text e) ∙ found)
       go (failed e) = let z : _≡_ {A = ℕ} 0 1 = cc (no-order e) in let n : ⊥ = omega arith in absurd n
 
@@ -77,12 +68,13 @@ nothing-same text Nothing other = refl
 module _ (t : Lent) (row : ℕ) (u : Lent) (other : ℕ) where
   pub same-order-texts : sameOrder t row u other ≡ sameTexts (t .text) (orderText t row) (u .text) (orderText u other)
   unfolding sameOrder sameTexts
-  same-order-texts = go (tested (isOrder t row)) (tested (isOrder u other))
+  same-order-texts = go (tested (orderAt t row)) (tested (orderAt u other))
     where
-      go : Tested (isOrder t row) → Tested (isOrder u other)
+      go : Tested (orderAt t row) → Tested (orderAt u other)
           → sameOrder t row u other ≡ sameTexts (t .text) (orderText t row) (u .text) (orderText u other)
       go (passed e) (passed f) = rw (order-text t row e, order-text u other f, e, f)
-      go (passed e) (failed f) = rw (order-text t row e, no-order u other f, e, f) (sym (nothing-same (t .text) (soughtIn t (orderPlace row)) (u .text)))
+      go (passed e) (failed f) =
+          rw (order-text t row e, no-order u other f, e, f) (sym (nothing-same (t .text) (soughtIn t (orderPlace row)) (u .text)))
       go (failed e) f = rw (no-order t row e, e)
 
   -- the answer where both are there, and where one is not

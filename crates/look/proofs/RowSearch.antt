@@ -2,16 +2,27 @@
 -- Assumes nothing.
 use mathlib.Core.Bool.{true, false}
 use mathlib.Core.List.{List}
+use mathlib.Core.Logic.{_⊎_, inl, inr}
 use mathlib.Core.Path.{_≡_, refl, sym, ap, _∙_}
-use Prim.Native.Nat.{ℕ, zero, suc, _+_, _*_, _-_, _<_, _≤_}
+use Prim.Native.Nat.{ℕ, zero, suc, _+_, _*_, _/_, _-_, _<_, _≤_}
 use native.Mathlib.Numerals.{add-one}
-use borrow.Author.Tests.{le-leb, lt-leb, eq-eqb, ne-eqb}
-use lib.Dec.{eqb}
-use lib.ListN.{length, getD}
+use native.Mathlib.Omega.{arith}
+use borrow.Author.Tests.{leb-true, le-leb, lt-leb, eq-eqb, ne-eqb}
+use lib.Dec.{leb, eqb}
+use lib.ListN.{length}
+use Rattle.laws.proofs.Cases.{less-or-not}
 use Rattle.laws.proofs.Searching.{firstOf, Searching, search-begins, search-hit, search-miss, search-done}
 use Rattle.laws.proofs.Tests.{and-both, and-fails-first, and-fails-second}
-use Rattle.table.specs.Rows.{segmentRowSize}
-use Rattle.look.specs.Looking.{hasKindAndOwner, rowFrom, rowAfter}
+use Rattle.table.specs.Rows.{segmentRowSize, kindIn, ownerIn}
+use Rattle.look.specs.Looking.{segmentsFit, hasKindAndOwner, rowFrom, rowAfter}
+
+-- the count against the buffer, by division
+pub fit-divided : (rows : List ℕ) (count : ℕ) → leb count (length rows / segmentRowSize) ≡ segmentsFit rows count
+fit-divided rows count = go (less-or-not (length rows) (count * segmentRowSize))
+  where
+    go : (length rows < count * segmentRowSize) ⊎ (count * segmentRowSize ≤ length rows) → leb count (length rows / segmentRowSize) ≡ segmentsFit rows count
+    go (inl h) = lt-leb count (length rows / segmentRowSize) (omega arith) ∙ sym (lt-leb (count * segmentRowSize) (length rows) h)
+    go (inr h) = le-leb count (length rows / segmentRowSize) (omega arith) ∙ sym (le-leb (count * segmentRowSize) (length rows) h)
 
 -- the search is one for the first row that has the kind and the owner
 pub row-first : (rows : List ℕ) (kind owner i n : ℕ) → rowFrom rows kind owner i n ≡ firstOf (hasKindAndOwner rows kind owner) suc 0 i n
@@ -20,45 +31,50 @@ row-first rows kind owner i zero = refl
 row-first rows kind owner i (suc n) =
     ap (λ (r : ℕ). elim (hasKindAndOwner rows kind owner i) [ true ↦ suc i | false ↦ r ]) (row-first rows kind owner (suc i) n)
 
-module _ (rows : List ℕ) (count after kind owner : ℕ) where
-  pub rows-past : length rows < count * segmentRowSize → rowAfter rows count after kind owner ≡ 0
+-- a count past its buffer
+pub rows-past : (rows : List ℕ) (count after kind owner : ℕ) → segmentsFit rows count ≡ false → 0 ≡ rowAfter rows count after kind owner
+unfolding rowAfter
+rows-past rows count after kind owner e = rw (e, rowAfter)
+
+-- the loop over the rows after a given one, before its turn at row i
+pub record RowSearch (rows : List ℕ) (count after kind owner i : ℕ) : Type 0 where
+  pub fit : segmentsFit rows count ≡ true
+  pub within : count * segmentRowSize ≤ length rows
+  pub search : Searching (hasKindAndOwner rows kind owner) suc 0 after count i
+
+pub rows-begin : {rows : List ℕ} {count after kind owner : ℕ} → segmentsFit rows count ≡ true → RowSearch rows count after kind owner after
+rows-begin {rows} {count} {after} {kind} {owner} e =
+    record {
+      fit = e;
+      within = leb-true (count * segmentRowSize) (length rows) e;
+      search = search-begins (hasKindAndOwner rows kind owner) suc 0 after count;
+    }
+
+module _ {rows : List ℕ} {count after kind owner i : ℕ} (s : RowSearch rows count after kind owner i) where
+  whole : firstOf (hasKindAndOwner rows kind owner) suc 0 after (count - after) ≡ rowAfter rows count after kind owner
   unfolding rowAfter
-  rows-past h = rw (lt-leb (count * segmentRowSize) (length rows) h, rowAfter)
+  whole = sym ((rw (s .fit, rowAfter)) ∙ row-first rows kind owner after (count - after))
 
-  pub rows-within : count * segmentRowSize ≤ length rows
-      → rowAfter rows count after kind owner ≡ firstOf (hasKindAndOwner rows kind owner) suc 0 after (count - after)
-  unfolding rowAfter
-  rows-within h = (rw (le-leb (count * segmentRowSize) (length rows) h, rowAfter)) ∙ row-first rows kind owner after (count - after)
+  pub no-row : count ≤ i → 0 ≡ rowAfter rows count after kind owner
+  no-row h = search-done (hasKindAndOwner rows kind owner) suc 0 (s .search) h ∙ whole
 
-  -- the loop over the rows after a given one, before its turn at row i
-  abbrev pub RowSearch : ℕ → Type 0
-  RowSearch i = Searching (hasKindAndOwner rows kind owner) suc 0 after count i
+  module _ (h : i < count) where
+    missed : hasKindAndOwner rows kind owner i ≡ false → RowSearch rows count after kind owner (i + 1)
+    missed e =
+        record { fit = s .fit; within = s .within; search = search-miss (hasKindAndOwner rows kind owner) suc 0 (s .search) h e }
 
-  pub rows-begin : RowSearch after
-  rows-begin = search-begins (hasKindAndOwner rows kind owner) suc 0 after count
-
-  module _ (i : ℕ) (s : RowSearch i) where
-    pub other-kind : i < count → (getD rows (i * segmentRowSize) 0 ≡ kind → ⊥) → RowSearch (i + 1)
+    pub other-kind : (kindIn rows i ≡ kind → ⊥) → RowSearch rows count after kind owner (i + 1)
     unfolding hasKindAndOwner
-    other-kind h n =
-        search-miss (hasKindAndOwner rows kind owner) suc 0 s h
-        (and-fails-first (eqb (getD rows (i * segmentRowSize + 1) 0) owner) (ne-eqb (getD rows (i * segmentRowSize) 0) kind n))
+    other-kind n = missed (and-fails-first (eqb (ownerIn rows i) owner) (ne-eqb (kindIn rows i) kind n))
 
-    pub other-owner : i < count → (getD rows (i * segmentRowSize + 1) 0 ≡ owner → ⊥) → RowSearch (i + 1)
+    pub other-owner : (ownerIn rows i ≡ owner → ⊥) → RowSearch rows count after kind owner (i + 1)
     unfolding hasKindAndOwner
-    other-owner h n =
-        search-miss (hasKindAndOwner rows kind owner) suc 0 s h
-        (and-fails-second (eqb (getD rows (i * segmentRowSize) 0) kind) (ne-eqb (getD rows (i * segmentRowSize + 1) 0) owner n))
+    other-owner n = missed (and-fails-second (eqb (kindIn rows i) kind) (ne-eqb (ownerIn rows i) owner n))
 
-    module _ (within : count * segmentRowSize ≤ length rows) where
-      pub row-found : i < count → getD rows (i * segmentRowSize) 0 ≡ kind → getD rows (i * segmentRowSize + 1) 0 ≡ owner
-          → i + 1 ≡ rowAfter rows count after kind owner
-      unfolding hasKindAndOwner
-      row-found h k o =
-          add-one i
-          ∙ search-hit (hasKindAndOwner rows kind owner) suc 0 s h
-          (and-both (eq-eqb (getD rows (i * segmentRowSize) 0) kind k) (eq-eqb (getD rows (i * segmentRowSize + 1) 0) owner o))
-          ∙ sym (rows-within within)
-
-      pub no-row : count ≤ i → 0 ≡ rowAfter rows count after kind owner
-      no-row h = search-done (hasKindAndOwner rows kind owner) suc 0 s h ∙ sym (rows-within within)
+    pub row-found : kindIn rows i ≡ kind → ownerIn rows i ≡ owner → i + 1 ≡ rowAfter rows count after kind owner
+    unfolding hasKindAndOwner
+    row-found k o =
+        add-one i
+        ∙ search-hit (hasKindAndOwner rows kind owner) suc 0 (s .search) h
+        (and-both (eq-eqb (kindIn rows i) kind k) (eq-eqb (ownerIn rows i) owner o))
+        ∙ whole

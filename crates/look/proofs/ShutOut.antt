@@ -14,8 +14,6 @@ use Rattle.look.specs.declared.leaf.Sought.the-variants.{At, Nothing}
 use Rattle.look.specs.declared.leaf.Place.{Place}
 use Rattle.look.specs.Looking.{
   numbersOf,
-  startAt,
-  lengthAt,
   fits,
   soughtFrom,
   soughtIn,
@@ -46,7 +44,7 @@ table leaves bytes rows text = record { card = counts leaves bytes; segmentRows 
 module _ (f : Lent → Place → Sought) (meets : (t : Lent) (p : Place) → f t p ≡ soughtIn t p) where
   -- two rows have the place: the second is not what comes back
   pub last-match : f (table 2 2 (row 0 1 (row 1 1 [])) (65 ∷ 66 ∷ [])) (orderPlace 1) ≡ At 1 1 → ⊥
-  unfolding soughtIn soughtFrom fits startAt lengthAt numbersOf orderPlace countsFit same
+  unfolding soughtIn soughtFrom fits numbersOf orderPlace countsFit same
   last-match h =
       let e : At 0 1 ≡ At 1 1 = sym (meets (table 2 2 (row 0 1 (row 1 1 [])) (65 ∷ 66 ∷ [])) (orderPlace 1)) ∙ h in
       let z : _≡_ {A = ℕ} 0 1 = cc in
@@ -54,7 +52,7 @@ module _ (f : Lent → Place → Sought) (meets : (t : Lent) (p : Place) → f t
 
   -- the row points past the card's text, though not past the buffer: it is passed over
   pub past-the-text : f (table 1 2 (row 0 3 []) (65 ∷ 66 ∷ 67 ∷ [])) (orderPlace 1) ≡ At 0 3 → ⊥
-  unfolding soughtIn soughtFrom fits startAt lengthAt numbersOf orderPlace countsFit same
+  unfolding soughtIn soughtFrom fits numbersOf orderPlace countsFit same
   past-the-text h =
       let e : Nothing ≡ At 0 3 = sym (meets (table 1 2 (row 0 3 []) (65 ∷ 66 ∷ 67 ∷ [])) (orderPlace 1)) ∙ h in
       let z : _≡_ {A = ℕ} 0 1 = cc in
@@ -62,12 +60,12 @@ module _ (f : Lent → Place → Sought) (meets : (t : Lent) (p : Place) → f t
 
   -- and the next row that has the place comes back
   pub after-the-row-past : f (table 2 2 (row 0 3 (row 1 1 [])) (65 ∷ 66 ∷ 67 ∷ [])) (orderPlace 1) ≡ At 1 1
-  unfolding soughtIn soughtFrom fits startAt lengthAt numbersOf orderPlace countsFit same
+  unfolding soughtIn soughtFrom fits numbersOf orderPlace countsFit same
   after-the-row-past = meets (table 2 2 (row 0 3 (row 1 1 [])) (65 ∷ 66 ∷ 67 ∷ [])) (orderPlace 1)
 
   -- a row that is not counted is not found
   pub whole-buffer : f (table 0 2 (row 0 1 []) (65 ∷ 66 ∷ [])) (orderPlace 1) ≡ At 0 1 → ⊥
-  unfolding soughtIn soughtFrom fits startAt lengthAt numbersOf orderPlace countsFit same
+  unfolding soughtIn soughtFrom fits numbersOf orderPlace countsFit same
   whole-buffer h =
       let e : Nothing ≡ At 0 1 = sym (meets (table 0 2 (row 0 1 []) (65 ∷ 66 ∷ [])) (orderPlace 1)) ∙ h in
       let z : _≡_ {A = ℕ} 0 1 = cc in
@@ -88,9 +86,9 @@ module _ (f : List ℕ → ℕ → ℕ → ℕ → ℕ → ℕ) (meets : (rows :
 -- what meets the contract of `same_order`
 module _ (f : Lent → ℕ → Lent → ℕ → Bool) (meets : (t : Lent) (row : ℕ) (u : Lent) (other : ℕ) → f t row u other ≡ sameOrder t row u other) where
   pub different-bytes : f (table 1 1 (row 0 1 []) (65 ∷ [])) 1 (table 1 1 (row 0 1 []) (66 ∷ [])) 1 ≡ true → ⊥
-  unfolding sameOrder isOrder sameTexts soughtIn soughtFrom fits startAt lengthAt numbersOf orderPlace countsFit same
+  unfolding sameOrder isOrder sameTexts soughtIn soughtFrom fits numbersOf orderPlace countsFit same
   different-bytes h = true≢false (sym h ∙ meets (table 1 1 (row 0 1 []) (65 ∷ [])) 1 (table 1 1 (row 0 1 []) (66 ∷ [])) 1)
 
   pub same-bytes-elsewhere : f (table 1 1 (row 0 1 []) (65 ∷ [])) 1 (table 1 2 (row 1 1 []) (66 ∷ 65 ∷ [])) 1 ≡ true
-  unfolding sameOrder isOrder sameTexts soughtIn soughtFrom fits startAt lengthAt numbersOf orderPlace countsFit same
+  unfolding sameOrder isOrder sameTexts soughtIn soughtFrom fits numbersOf orderPlace countsFit same
   same-bytes-elsewhere = meets (table 1 1 (row 0 1 []) (65 ∷ [])) 1 (table 1 2 (row 1 1 []) (66 ∷ 65 ∷ [])) 1

@@ -9,7 +9,7 @@ use Rattle.table.specs.Lent.{Lent}
 use Rattle.look.specs.declared.leaf.Sought.{Sought}
 use Rattle.look.specs.declared.leaf.Sought.the-variants.{At, Nothing}
 use Rattle.look.specs.declared.leaf.Place.{Place}
-use Rattle.look.specs.Looking.{soughtIn, partOf, lookedUp}
+use Rattle.look.specs.Looking.{soughtIn, soughtPart, lookedUp}
 
 -- a part from its start to its end is a part of its length
 pub part-long : (text : List ℕ) (start n : ℕ) → take (start + n - start) (drop start text) ≡ take n (drop start text)
@@ -17,9 +17,9 @@ part-long text start n = ap (λ (k : ℕ). take k (drop start text)) (let e : st
 
 module _ (t : Lent) (p : Place) (substitute : List ℕ) where
   pub part-found : (start n : ℕ) → soughtIn t p ≡ At start n → take (start + n - start) (drop start (t .text)) ≡ lookedUp t p substitute
-  unfolding lookedUp partOf
-  part-found start n e = part-long (t .text) start n ∙ sym (ap (λ (s : Sought). partOf t substitute s) e)
+  unfolding lookedUp soughtPart
+  part-found start n e = part-long (t .text) start n ∙ sym (ap (λ (s : Sought). soughtPart t substitute s) e)
 
   pub no-part : soughtIn t p ≡ Nothing → substitute ≡ lookedUp t p substitute
-  unfolding lookedUp partOf
-  no-part e = sym (ap (λ (s : Sought). partOf t substitute s) e)
+  unfolding lookedUp soughtPart
+  no-part e = sym (ap (λ (s : Sought). soughtPart t substitute s) e)

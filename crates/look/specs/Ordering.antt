@@ -5,8 +5,8 @@ use Prim.Native.Nat.{ℕ}
 use Rattle.table.specs.Lent.{Lent}
 use Rattle.look.specs.declared.leaf.Sought.{Sought}
 use Rattle.look.specs.declared.leaf.Sought.the-variants.{Nothing}
-use Rattle.look.specs.Looking.{soughtIn, isOrder, orderPlace}
+use Rattle.look.specs.Looking.{soughtIn, orderAt, orderPlace}
 
 -- where the text of leaf 9.4.2 of an order lies; a row that is no order has none
 unfoldable pub orderText : Lent → ℕ → Sought
-orderText t row = elim (isOrder t row) [ true ↦ soughtIn t (orderPlace row) | false ↦ Nothing ]
+orderText t row = elim (orderAt t row) [ true ↦ soughtIn t (orderPlace row) | false ↦ Nothing ]

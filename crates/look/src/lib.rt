@@ -4,4 +4,3 @@
 pub mod leaf;
 pub mod order;
 pub mod row;
-pub mod size;

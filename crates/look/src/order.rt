@@ -2,11 +2,11 @@
 use crate::leaf;
 use crate::leaf::Place;
 use crate::leaf::Sought;
-use crate::size;
+use crate::row::segments_fit;
 use form::kind::Kind;
 use table::Card;
+use table::rows;
 ghost use mathlib.Core.Path.{_≡_};
-ghost use mathlib.Core.List.{[]};
 ghost use Rattle.laws.specs.Lists.{same};
 ghost use Rattle.table.specs.Lent.{lent};
 ghost use Rattle.look.specs.Looking.{isOrder, sameOrder};
@@ -16,15 +16,15 @@ ghost use Rattle.look.specs.Ordering.{orderText};
 // texts have the same bytes. Row 0 and a row past the count are no orders.
 pub fn same_order(
     card: Card,
-    segments: &[u16],
-    leaves: &[u16],
+    segments: &[rows::Entry],
+    leaves: &[rows::Entry],
     text: &[u8],
-    row: u16,
+    row: rows::Entry,
     other_card: Card,
-    other_segments: &[u16],
-    other_leaves: &[u16],
+    other_segments: &[rows::Entry],
+    other_leaves: &[rows::Entry],
     other_text: &[u8],
-    other_row: u16,
+    other_row: rows::Entry,
 ) -> bool
     ensures { λ r.
         ⌜ r
@@ -54,10 +54,16 @@ pub fn same_order(
 }
 
 // Where the text of leaf 9.4.2 of an order lies; a row that is no OBR has none.
-fn order_text(card: Card, segments: &[u16], leaves: &[u16], text: &[u8], row: u16) -> Sought
+fn order_text(
+    card: Card,
+    segments: &[rows::Entry],
+    leaves: &[rows::Entry],
+    text: &[u8],
+    row: rows::Entry,
+) -> Sought
     ensures { λ r. ⌜ r ≡ orderText (lent card (now (segments .entry)) (now (leaves .entry)) (now (text .entry))) row ⌝ }
 {
-    if is_order(card, segments, row) {
+    if is_order(segments, card.segments, row) {
         let place = Place {
             segment: row,
             field: 4,
@@ -70,21 +76,21 @@ fn order_text(card: Card, segments: &[u16], leaves: &[u16], text: &[u8], row: u1
     Sought::Nothing
 }
 
-// Whether a row is one of the counted rows and an OBR.
-fn is_order(card: Card, segments: &[u16], row: u16) -> bool
-    ensures { λ r. ⌜ r ≡ isOrder (lent card (now (segments .entry)) [] []) row ⌝ }
+// Whether a row is one of so many counted rows and an OBR.
+fn is_order(segments: &[rows::Entry], count: usize, row: rows::Entry) -> bool
+    ensures { λ r. ⌜ r ≡ isOrder (now (segments .entry)) count row ⌝ }
 {
-    if segments.len() / size::SEGMENT_ROW < card.segments {
+    if !segments_fit(segments, count) {
         return false;
     }
     let number = row as usize;
     if number < 1 {
         return false;
     }
-    if card.segments < number {
+    if count < number {
         return false;
     }
-    segments[(number - 1) * size::SEGMENT_ROW] == Kind::OBR as u16
+    segments[(number - 1) * rows::SEGMENT_ROW] == Kind::OBR as rows::Entry
 }
 
 // Whether two texts have the same bytes.

@@ -1,27 +1,40 @@
 // The row finder.
-use crate::size;
 use table::Card;
+use table::rows;
 ghost use mathlib.Core.Path.{_≡_};
-ghost use Rattle.look.specs.Looking.{rowAfter};
+ghost use Rattle.look.specs.Looking.{segmentsFit, rowAfter};
 
 // The number of the first row after a given one (0 for the start) with a given kind and owner, or 0 where there is none or the
 // segment count goes past its buffer.
-pub fn next_row(card: Card, segments: &[u16], after: usize, kind: u16, owner: u16) -> usize
+pub fn next_row(
+    card: Card,
+    segments: &[rows::Entry],
+    after: usize,
+    kind: rows::Entry,
+    owner: rows::Entry,
+) -> usize
     ensures { λ r. ⌜ r ≡ rowAfter (now (segments .entry)) (card .segments) after kind owner ⌝ }
 {
-    let rows = card.segments;
-    if segments.len() / size::SEGMENT_ROW < rows {
+    let count = card.segments;
+    if !segments_fit(segments, count) {
         return 0;
     }
     let mut row = after;
-    while row < rows {
-        let at = row * size::SEGMENT_ROW;
+    while row < count {
+        let at = row * rows::SEGMENT_ROW;
         row += 1;
         if segments[at] == kind {
-            if segments[at + 1] == owner {
+            if segments[at + rows::OWNER] == owner {
                 return row;
             }
         }
     }
     0
+}
+
+// Whether so many rows are within the segment rows. Division, since a count may be anything and its product may not fit a number.
+pub(crate) fn segments_fit(segments: &[rows::Entry], count: usize) -> bool
+    ensures { λ r. ⌜ r ≡ segmentsFit (now (segments .entry)) count ⌝ }
+{
+    count <= segments.len() / rows::SEGMENT_ROW
 }

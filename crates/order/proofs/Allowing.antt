@@ -19,10 +19,6 @@ unfolding allowsC
 C-after x h = rw (le-leb 1 x h, allowsC)
 
 -- the context
-pub context-in : (c : ℕ) → 1 ≤ c → c ≤ 7 → isContext c ≡ true
-unfolding isContext
-context-in c h g = rw (le-leb 1 c h, le-leb c 7 g, isContext)
-
 pub no-context-below : (c : ℕ) → c < 1 → isContext c ≡ false
 unfolding isContext
 no-context-below c h = rw (lt-leb 1 c h, isContext)

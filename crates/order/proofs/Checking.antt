@@ -8,12 +8,11 @@ use Prim.Native.Nat.{ℕ, suc, _+_, _≤_, _<_}
 use native.Mathlib.Numerals.{add-one}
 use native.Mathlib.Omega.{arith}
 use borrow.Author.Tests.{eq-eqb, ne-eqb}
-use lib.Dec.{T, eqb}
+use lib.Dec.{eqb}
 use lib.ListN.{length, drop, getD, drop-of-length-le}
 use lib.Seq.{drop-cons}
 use Rattle.laws.specs.Tables.{below, everyFrom}
-use Rattle.laws.proofs.Bools.{true-T, where-true, equal-tests}
-use Rattle.laws.proofs.Tables.{at}
+use Rattle.laws.proofs.Tests.{where-holds, equal-tests}
 use Rattle.order.specs.Grammar.{Shape}
 use Rattle.order.specs.Contexts.{isContext}
 use Rattle.order.specs.Place.{rowsTold, rowEmpties, rowsEmpty, someLeft, placeFrom, misplaced}
@@ -55,37 +54,37 @@ module _ (at : ℕ) (w : Watcher) where
 ends : ℕ → ℕ → Bool
 ends c x = elim (someLeft (leftAt c x)) [ true ↦ Bool·beq (rowsEmpty (leftAt c x)) (eqb x 11) | false ↦ true ]
 
-all-end : T (below 7 (λ i. below 12 (λ x. ends (suc i) x)))
+all-end : below 7 (λ i. below 12 (λ x. ends (suc i) x)) ≡ true
 unfolding ends states rowsEmpty rowEmpties everyFrom
-all-end = tt
+all-end = refl
 
-module _ (c : ℕ) (t : T (isContext c)) where
-  ends-at-L : (x : ℕ) → x < 12 → T (someLeft (leftAt c x)) → rowsEmpty (leftAt c x) ≡ eqb x 11
+module _ (c : ℕ) (t : isContext c ≡ true) where
+  ends-at-L : (x : ℕ) → x < 12 → someLeft (leftAt c x) ≡ true → rowsEmpty (leftAt c x) ≡ eqb x 11
   unfolding ends
   ends-at-L x hx left =
       equal-tests (rowsEmpty (leftAt c x)) (eqb x 11)
-      (where-true (someLeft (leftAt c x)) (Bool·beq (rowsEmpty (leftAt c x)) (eqb x 11)) left (all-seven₂ 12 ends all-end c t x hx))
+      (where-holds (Bool·beq (rowsEmpty (leftAt c x)) (eqb x 11)) left (all-seven₂ 12 ends all-end c t x hx))
 
   abbrev Same : ℕ → ℕ → List ℕ → Type 0
   Same at x ks = placeBy at (record { context = c; last = x }) ks ≡ placeFrom at (leftAt c x) ks
 
-  same-by : (at x : ℕ) → x < 12 → T (someLeft (leftAt c x)) → (k : ℕ) (ks : List ℕ)
-      → ((y : ℕ) → y < 12 → T (someLeft (leftAt c y)) → Same (suc at) y ks)
+  same-by : (at x : ℕ) → x < 12 → someLeft (leftAt c x) ≡ true → (k : ℕ) (ks : List ℕ)
+      → ((y : ℕ) → y < 12 → someLeft (leftAt c y) ≡ true → Same (suc at) y ks)
       → (b : Bool) → tellOf (record { context = c; last = x }) k .yes ≡ b → Same at x (k ∷ ks)
   unfolding follows
   same-by at x hx left k ks next true y =
       let w : Watcher = record { context = c; last = x } in
-      let s : T (someLeft (rowsTold k (leftAt c x))) = true-T (someLeft (rowsTold k (leftAt c x))) (sym (says w k ∙ allows-follows c t x hx left k) ∙ y) in
+      let s : someLeft (rowsTold k (leftAt c x)) ≡ true = sym (says w k ∙ allows-follows c t x hx left k) ∙ y in
       let e = next-state c t x k hx s in
       place-yes at w k ks y ∙ ap (λ (v : Watcher). placeBy (suc at) v ks) (goes-on w k y)
-      ∙ next (lastAfter x k) (next-last c t x k hx s) (subst (λ (r : List (List Shape)). T (someLeft r)) e s)
+      ∙ next (lastAfter x k) (next-last c t x k hx s) (subst (λ (r : List (List Shape)). someLeft r ≡ true) e s)
       ∙ sym (place-behind at k ks (leftAt c x) s ∙ ap (λ (r : List (List Shape)). placeFrom (suc at) r ks) e)
   same-by at x hx left k ks next false y =
       let w : Watcher = record { context = c; last = x } in
       let n : follows c x k ≡ false = sym (says w k ∙ allows-follows c t x hx left k) ∙ y in
-      place-no at w k ks y ∙ sym (place-here at k ks (leftAt c x) (λ s. subst T n s))
+      place-no at w k ks y ∙ sym (place-here at k ks (leftAt c x) n)
 
-  same-place : (at x : ℕ) → x < 12 → T (someLeft (leftAt c x)) → (ks : List ℕ) → Same at x ks
+  same-place : (at x : ℕ) → x < 12 → someLeft (leftAt c x) ≡ true → (ks : List ℕ) → Same at x ks
   unfolding placeBy
   same-place at x hx left [] =
       ap {B = ℕ} (λ (b : Bool). elim b [ true ↦ 0 | false ↦ at ]) (sym (ends-at-L x hx left)) ∙ sym (place-end at (leftAt c x))
@@ -94,7 +93,7 @@ module _ (c : ℕ) (t : T (isContext c)) where
 
   in-context : (ks : List ℕ) → placeBy 1 (begun c) ks ≡ misplaced c ks
   unfolding misplaced leftAt someLeft
-  in-context ks = same-place 1 0 (omega arith) tt ks
+  in-context ks = same-place 1 0 (omega arith) refl ks
 
 bad-place : (c : ℕ) → isContext c ≡ false → (ks : List ℕ) → placeBy 1 (begun c) ks ≡ 1
 bad-place c e [] = place-short 1 (begun c) (λ q. let z : ⊥ = omega arith in z)
@@ -105,8 +104,8 @@ pub place-by-watcher : (c : ℕ) (ks : List ℕ) → placeBy 1 (begun c) ks ≡ 
 place-by-watcher c ks = by (isContext c) refl
   where
     by : (b : Bool) → isContext c ≡ b → placeBy 1 (begun c) ks ≡ misplaced c ks
-    by true e = in-context c (true-T (isContext c) e) ks
-    by false e = bad-place c e ks ∙ sym (bad-context c (λ h. subst T e h) ks)
+    by true e = in-context c e ks
+    by false e = bad-place c e ks ∙ sym (bad-context c e ks)
 
 -- the turns of a loop over the kinds ks: the watcher w has said yes to the first i of them, and r is what it says of the next, be it
 -- told by the grammar or by the table

@@ -1,22 +1,24 @@
--- The table of levels says what the levels are: for every context number and every kind number.
+-- Levels by rows and by table: for any rows of levels that pass the computed tests of `Fitting`, the table says what the rows say, for every context
+-- number and every kind number, and all levels are below `topLevel`. The levels in force pass.
 -- Assumes nothing.
-use mathlib.Core.Bool.{Bool, true, false, and-false}
+use mathlib.Core.Bool.{true, false, and-false}
 use mathlib.Core.List.{List, []}
-use mathlib.Core.Path.{_≡_, refl, sym, ap, ap₂, _∙_, subst}
-use Prim.Native.Nat.{ℕ, zero, suc, _+_, _*_, _-_, _/_, _%_, _≤_, _<_}
+use mathlib.Core.Logic.{_⊎_, inl, inr}
+use mathlib.Core.Path.{_≡_, refl, sym, ap, ap₂, _∙_, subst⁻¹, fun-ext}
+use Prim.Native.Nat.{ℕ, _+_, _*_, _-_, _/_, _%_, _≤_, _<_}
 use native.Mathlib.Nat.{le-trans}
 use native.Mathlib.Omega.{arith}
-use borrow.Author.Tests.{le-leb, lt-leb, leb-true, leb-false}
-use lib.Dec.{T, leb, ltb, leb→le, ltb→lt}
+use borrow.Author.Tests.{leb-true, ltb-true, le-leb, lt-leb}
+use lib.Dec.{leb, ltb}
 use lib.ListN.{length, getD, List·getD-eq-default}
 use Rattle.laws.specs.Tables.{below, everyFrom}
-use Rattle.laws.proofs.Bools.{true-T}
-use Rattle.laws.proofs.Tables.{getD-values-zero}
+use Rattle.laws.proofs.Cases.{less-or-not}
+use Rattle.laws.proofs.Tables.{at, getD-values-zero}
 use Rattle.order.specs.Contexts.{isContext}
-use Rattle.order.specs.Owners.{levels, level}
-use Rattle.order.specs.Levels.{levelIn, flat, levelTable}
-use Rattle.order.proofs.Seven.{all-seven, all-seven₂, context-from, context-to}
-use Rattle.order.proofs.Allowing.{no-context-below, no-context-above, context-in}
+use Rattle.order.specs.Owners.{levelBy, levels, level}
+use Rattle.order.specs.Levels.{levelIn, levelTableOf, levelTable, topLevel, LevelsBelow}
+use Rattle.order.proofs.Seven.{context-within}
+use Rattle.order.proofs.Allowing.{no-context-below, no-context-above}
 
 -- the cases of `levelIn`
 module _ (table : List ℕ) (c k : ℕ) where
@@ -36,71 +38,79 @@ module _ (table : List ℕ) (c k : ℕ) where
 
   pub level-there : 1 ≤ c → c ≤ 7 → k ≤ 11 → levelIn table c k ≡ getD table ((c - 1) * 12 + k) 0
   unfolding levelIn
-  level-there h g l = rw (context-in c h g, le-leb k 11 l, levelIn)
+  level-there h g l = rw (context-within c h g, le-leb k 11 l, levelIn)
 
--- the table of any levels gives them back
-pub flat-level : (lv : ℕ → ℕ → ℕ) (c k : ℕ) → 1 ≤ c → c ≤ 7 → k ≤ 11 → levelIn (flat lv) c k ≡ lv c k
-unfolding flat
-flat-level lv c k h g l =
+-- the table of any levels gives them back, for the seven contexts and the kinds 1 to 11
+table-there : (lv : ℕ → ℕ → ℕ) (c k : ℕ) → 1 ≤ c → c ≤ 7 → k ≤ 11 → levelIn (levelTableOf lv) c k ≡ lv c k
+unfolding levelTableOf
+table-there lv c k h g l =
     let i = (c - 1) * 12 + k in
     let p : i / 12 + 1 ≡ c = omega arith in
     let q : i % 12 ≡ k = omega arith in
-    level-there (flat lv) c k h g l ∙ getD-values-zero (λ n. lv (n / 12 + 1) (n % 12)) 84 i 0 (omega arith) ∙ ap₂ lv p q
+    level-there (levelTableOf lv) c k h g l ∙ getD-values-zero (λ n. lv (n / 12 + 1) (n % 12)) 84 i 0 (omega arith) ∙ ap₂ lv p q
 
--- document 01 has a level for the kinds 1 to 11 of the seven contexts alone
+-- what rows of levels must pass, by computation: no level at 0 and no row after the seven contexts, at most twelve levels in each row, all
+-- below `topLevel`
+pub record Fitting (rows : List (List ℕ)) : Type 0 where
+  pub none : leb (length (getD rows 0 [])) 0 ≡ true
+  pub seven : leb (length rows) 8 ≡ true
+  pub twelve : below 8 (λ c. leb (length (getD rows c [])) 12) ≡ true
+  pub low : below 8 (λ c. below 12 (λ k. ltb (levelBy rows c k) topLevel)) ≡ true
 
-twelve : T (below 7 (λ i. leb (length (getD levels (suc i) [])) 12))
+module _ (rows : List (List ℕ)) (fits : Fitting rows) where
+  -- where there is no level
+  no-row : (c k : ℕ) → 8 ≤ c → levelBy rows c k ≡ 0
+  no-row c k h =
+      ap (λ (row : List ℕ). getD row k 0) (List·getD-eq-default rows [] (le-trans (leb-true (length rows) 8 (fits .seven)) h))
+
+  no-kind : (c k : ℕ) → c < 8 → 12 ≤ k → levelBy rows c k ≡ 0
+  no-kind c k h g =
+      let few = leb-true (length (getD rows c [])) 12 (at 8 (λ n. leb (length (getD rows n [])) 12) (fits .twelve) c h) in
+      List·getD-eq-default (getD rows c []) 0 (le-trans few g)
+
+  none-at-0 : (k : ℕ) → levelBy rows 0 k ≡ 0
+  none-at-0 k = List·getD-eq-default (getD rows 0 []) 0 (let e = leb-true (length (getD rows 0 [])) 0 (fits .none) in omega arith)
+
+  -- all levels are below `topLevel`
+  pub rows-below : LevelsBelow (levelBy rows)
+  rows-below c k = by (less-or-not c 8) (less-or-not k 12)
+    where
+      by : (c < 8) ⊎ (8 ≤ c) → (k < 12) ⊎ (12 ≤ k) → levelBy rows c k < topLevel
+      by (inl h) (inl g) =
+          ltb-true (levelBy rows c k) topLevel
+          (at 12 (λ j. ltb (levelBy rows c j) topLevel) (at 8 (λ n. below 12 (λ j. ltb (levelBy rows n j) topLevel)) (fits .low) c h) k g)
+      by (inl h) (inr g) = rw (no-kind c k h g) (omega arith)
+      by (inr h) g = rw (no-row c k h) (omega arith)
+
+  -- the table of the rows gives their levels back, for every two numbers
+  pub rows-table : (c k : ℕ) → levelIn (levelTableOf (levelBy rows)) c k ≡ levelBy rows c k
+  rows-table c k = by (levelTableOf (levelBy rows)) (table-there (levelBy rows) c k) (less-or-not c 1) (less-or-not 7 c) (less-or-not 11 k)
+    where
+      by : (t : List ℕ) → (1 ≤ c → c ≤ 7 → k ≤ 11 → levelIn t c k ≡ levelBy rows c k)
+          → (c < 1) ⊎ (1 ≤ c) → (7 < c) ⊎ (c ≤ 7) → (11 < k) ⊎ (k ≤ 11) → levelIn t c k ≡ levelBy rows c k
+      by t there (inl h) g l =
+          let z : 0 ≡ c = omega arith in
+          no-level-below t c k h ∙ sym (none-at-0 k) ∙ ap (λ (n : ℕ). levelBy rows n k) z
+      by t there (inr h) (inl g) l = no-level-above t c k g ∙ sym (no-row c k g)
+      by t there (inr h) (inr g) (inl l) = no-level-kind t c k l ∙ sym (no-kind c k (omega arith) l)
+      by t there (inr h) (inr g) (inr l) = there h g l
+
+-- the levels in force
+
+levels-fit : Fitting levels
 unfolding levels everyFrom
-twelve = tt
+levels-fit = record { none = refl; seven = refl; twelve = refl; low = refl }
 
-no-kind-level : (c k : ℕ) → T (isContext c) → 12 ≤ k → level c k ≡ 0
+pub level-few : LevelsBelow level
 unfolding level
-no-kind-level c k t h =
-    let w : length (getD levels c []) ≤ 12 = leb→le (length (getD levels c [])) 12 (all-seven (λ n. leb (length (getD levels n [])) 12) twelve c t) in
-    List·getD-eq-default (getD levels c []) 0 (le-trans w h)
-
-no-seven : (c : ℕ) (b : Bool) → leb c 7 ≡ b → 1 ≤ c → isContext c ≡ false → 8 ≤ c
-no-seven c true e h f = absurd (subst T (sym (context-in c h (leb-true c 7 e)) ∙ f) tt)
-no-seven c false e h f = leb-false c 7 e
-
-no-context-level : (c k : ℕ) → isContext c ≡ false → level c k ≡ 0
-unfolding level levels
-no-context-level zero k e = refl
-no-context-level (suc c) k e =
-    let over : 8 ≤ suc c = no-seven (suc c) (leb (suc c) 7) refl (omega arith) e in
-    ap (λ (row : List ℕ). getD row k 0) (List·getD-eq-default levels [] over)
-
--- the table of document 01's levels gives them back, for every two numbers
-pub level-in : (c k : ℕ) → levelIn levelTable c k ≡ level c k
-unfolding levelTable
-level-in c k = by (isContext c) refl (leb k 11) refl
-  where
-    by : (b : Bool) → isContext c ≡ b → (d : Bool) → leb k 11 ≡ d → levelIn (flat level) c k ≡ level c k
-    by true e true f =
-        let t = true-T (isContext c) e in
-        flat-level level c k (context-from c t) (context-to c t) (leb→le k 11 (true-T (leb k 11) f))
-    by true e false f = let h = leb-false k 11 f in no-level-kind (flat level) c k h ∙ sym (no-kind-level c k (true-T (isContext c) e) h)
-    by false e true f = no-level (flat level) c k e ∙ sym (no-context-level c k e)
-    by false e false f = no-level (flat level) c k e ∙ sym (no-context-level c k e)
+level-few = rows-below levels levels-fit
 
 pub level-in-this : (table : List ℕ) → table ≡ levelTable → (c k : ℕ) → levelIn table c k ≡ level c k
-level-in-this table e c k = ap (λ (l : List ℕ). levelIn l c k) e ∙ level-in c k
+unfolding levelTable level
+level-in-this table e c k = ap (λ (t : List ℕ). levelIn t c k) e ∙ rows-table levels levels-fit c k
 
--- no level is over 7
+pub levels-are : {table : List ℕ} → table ≡ levelTable → levelIn table ≡ level
+levels-are {table} e = fun-ext (λ c. fun-ext (λ k. level-in-this table e c k))
 
-low : T (below 7 (λ i. below 12 (λ k. ltb (level (suc i) k) 8)))
-unfolding level levels everyFrom
-low = tt
-
-pub level-few : (c k : ℕ) → level c k < 8
-level-few c k = by (isContext c) refl (leb k 11) refl
-  where
-    none : level c k ≡ 0 → level c k < 8
-    none e = omega arith
-
-    by : (b : Bool) → isContext c ≡ b → (d : Bool) → leb k 11 ≡ d → level c k < 8
-    by true e true f =
-        ltb→lt (level c k) 8 (all-seven₂ 12 (λ n j. ltb (level n j) 8) low c (true-T (isContext c) e) k (let h = leb-true k 11 f in omega arith))
-    by true e false f = none (no-kind-level c k (true-T (isContext c) e) (leb-false k 11 f))
-    by false e true f = none (no-context-level c k e)
-    by false e false f = none (no-context-level c k e)
+pub levels-below : {table : List ℕ} → table ≡ levelTable → LevelsBelow (levelIn table)
+levels-below e = subst⁻¹ LevelsBelow (levels-are e) level-few

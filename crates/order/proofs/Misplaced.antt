@@ -1,16 +1,16 @@
 -- The place of refusal 10 is right: 0 exactly where the order is derived, and else one past the longest part that begins one.
 -- Assumes nothing.
-use mathlib.Core.Bool.{Bool, true, false}
+use mathlib.Core.Bool.{Bool, true, false, true≢false, false≢true}
 use mathlib.Core.List.{List, [], _∷_, _++_, append-assoc}
 use mathlib.Core.Logic.{_⊎_, inl, inr, ⊎-elim, _↔_}
 use mathlib.Core.Path.{_≡_, refl, sym, ap, _∙_, subst, subst⁻¹}
 use Prim.Native.Nat.{ℕ, zero, suc, _+_, _≤_, _<_, zero-le, suc-le-suc}
 use native.Mathlib.Nat.{add-zero, add-suc, suc-add}
 use native.Mathlib.Omega.{arith}
-use lib.Dec.{T, ltb, ltb→lt, nltb→le}
 use lib.ListN.{length, take, drop, take-append-drop}
 use lib.Seq.{take-take}
-use Rattle.laws.proofs.Bools.{passes-or-not}
+use Rattle.laws.proofs.Cases.{less-or-not}
+use Rattle.laws.proofs.Tests.{either, never-both}
 use Rattle.order.specs.Grammar.{Shape, never, Derives, Begins}
 use Rattle.order.specs.Contexts.{grammar, isContext}
 use Rattle.order.specs.Place.{empties, told, rowTold, rowsTold, rowEmpties, rowsEmpty, rowsAfter, someLeft, start, placeFrom, misplaced}
@@ -25,51 +25,45 @@ pub place-end : (at : ℕ) (rows : List (List Shape)) → placeFrom at rows [] �
 unfolding placeFrom
 place-end at rows = refl
 
-place-stop : (at k : ℕ) (w : List ℕ) (rows left : List (List Shape)) → rowsTold k rows ≡ left → (T (someLeft left) → ⊥) → placeFrom at rows (k ∷ w) ≡ at
+place-stop : (at k : ℕ) (w : List ℕ) (rows left : List (List Shape)) → rowsTold k rows ≡ left → someLeft left ≡ false → placeFrom at rows (k ∷ w) ≡ at
 unfolding placeFrom someLeft
 place-stop at k w rows [] e h = rw (e, placeFrom)
-place-stop at k w rows (row ∷ more) e h = absurd (h tt)
+place-stop at k w rows (row ∷ more) e h = absurd (true≢false h)
 
-place-go : (at k : ℕ) (w : List ℕ) (rows left : List (List Shape)) → rowsTold k rows ≡ left → T (someLeft left) → placeFrom at rows (k ∷ w) ≡ placeFrom (suc at) (rowsTold k rows) w
+place-go : (at k : ℕ) (w : List ℕ) (rows left : List (List Shape)) → rowsTold k rows ≡ left → someLeft left ≡ true → placeFrom at rows (k ∷ w) ≡ placeFrom (suc at) (rowsTold k rows) w
 unfolding placeFrom someLeft
-place-go at k w rows [] e h = absurd h
+place-go at k w rows [] e h = absurd (false≢true h)
 place-go at k w rows (row ∷ more) e h = rw (e, placeFrom)
 
 -- a kind that leaves nothing is the place; after one that leaves something the place is looked for behind it
-pub place-here : (at k : ℕ) (w : List ℕ) (rows : List (List Shape)) → (T (someLeft (rowsTold k rows)) → ⊥) → placeFrom at rows (k ∷ w) ≡ at
+pub place-here : (at k : ℕ) (w : List ℕ) (rows : List (List Shape)) → someLeft (rowsTold k rows) ≡ false → placeFrom at rows (k ∷ w) ≡ at
 place-here at k w rows h = place-stop at k w rows (rowsTold k rows) refl h
 
-pub place-behind : (at k : ℕ) (w : List ℕ) (rows : List (List Shape)) → T (someLeft (rowsTold k rows)) → placeFrom at rows (k ∷ w) ≡ placeFrom (suc at) (rowsTold k rows) w
+pub place-behind : (at k : ℕ) (w : List ℕ) (rows : List (List Shape)) → someLeft (rowsTold k rows) ≡ true → placeFrom at rows (k ∷ w) ≡ placeFrom (suc at) (rowsTold k rows) w
 place-behind at k w rows h = place-go at k w rows (rowsTold k rows) refl h
 
--- something is left or nothing is
-left-or-not : (rows : List (List Shape)) → T (someLeft rows) ⊎ (T (someLeft rows) → ⊥)
-unfolding someLeft
-left-or-not [] = inr (λ z. z)
-left-or-not (row ∷ rows) = inl tt
-
-none-derives : (rows : List (List Shape)) (v : List ℕ) → (T (someLeft rows) → ⊥) → OneDerives rows v → ⊥
+none-derives : (rows : List (List Shape)) (v : List ℕ) → someLeft rows ≡ false → OneDerives rows v → ⊥
 unfolding someLeft
 none-derives [] v h d = d
-none-derives (row ∷ rows) v h d = h tt
+none-derives (row ∷ rows) v h d = true≢false h
 
 -- where a walk over the alternatives stops
 record StopsAt (rows : List (List Shape)) (w : List ℕ) (p : ℕ) : Type 0 where
   within : p ≤ length w
-  begun : T (someLeft (rowsAfter rows (take p w)))
-  stopped : ((p ≡ length w) × (OneDerives rows w → ⊥)) ⊎ ((p < length w) × (T (someLeft (rowsAfter rows (take (suc p) w))) → ⊥))
+  begun : someLeft (rowsAfter rows (take p w)) ≡ true
+  stopped : ((p ≡ length w) × (OneDerives rows w → ⊥)) ⊎ ((p < length w) × (someLeft (rowsAfter rows (take (suc p) w)) ≡ false))
 
 abbrev Placed : ℕ → List (List Shape) → List ℕ → Type 0
 Placed at rows w =
     ((placeFrom at rows w ≡ 0) × OneDerives rows w) ⊎ ((p : ℕ) × (placeFrom at rows w ≡ at + p) × StopsAt rows w p)
 
-placed-end : (at : ℕ) (rows : List (List Shape)) → T (someLeft rows) → (b : Bool) → rowsEmpty rows ≡ b → Placed at rows []
+placed-end : (at : ℕ) (rows : List (List Shape)) → someLeft rows ≡ true → (b : Bool) → rowsEmpty rows ≡ b → Placed at rows []
 unfolding placeFrom rowsAfter
-placed-end at rows s true e = inl ((rw (e, placeFrom)), rows-empty rows .0 (subst⁻¹ T e tt))
+placed-end at rows s true e = inl ((rw (e, placeFrom)), rows-empty rows .0 e)
 placed-end at rows s false e =
-    inr (0, place-end at rows ∙ (rw e) ∙ sym (add-zero at), record { within = zero-le; begun = s; stopped = inl (refl, λ d. subst T e (rows-empty rows .1 d)) })
+    inr (0, place-end at rows ∙ (rw e) ∙ sym (add-zero at), record { within = zero-le; begun = s; stopped = inl (refl, λ d. never-both (rows-empty rows .1 d) e) })
 
-placed : (at : ℕ) (rows : List (List Shape)) (w : List ℕ) → T (someLeft rows) → Placed at rows w
+placed : (at : ℕ) (rows : List (List Shape)) (w : List ℕ) → someLeft rows ≡ true → Placed at rows w
 unfolding rowsAfter
 placed at rows [] s = placed-end at rows s (rowsEmpty rows) refl
 placed at rows (k ∷ w) s =
@@ -79,7 +73,7 @@ placed at rows (k ∷ w) s =
     (λ q. inr (suc (q .0), place-behind at k w rows t ∙ q .1 ∙ suc-add at (q .0) ∙ sym (add-suc at (q .0)), further (q .0) (q .2)))
     (placed (suc at) (rowsTold k rows) w t))
     (λ n. inr (0, place-here at k w rows n ∙ sym (add-zero at), record { within = zero-le; begun = s; stopped = inr (suc-le-suc zero-le, n) }))
-    (left-or-not (rowsTold k rows))
+    (either (someLeft (rowsTold k rows)))
   where
     further : (p : ℕ) → StopsAt (rowsTold k rows) w p → StopsAt rows (k ∷ w) (suc p)
     further p x = record {
@@ -110,14 +104,14 @@ derived-begins r n w d = (drop n w, subst (λ (u : List ℕ). Derives r u) (sym 
 no-context : (c : ℕ) → grammar c ≡ never → (w : List ℕ) → misplaced c w ≡ 1
 unfolding misplaced placeFrom rowsEmpty rowEmpties empties someLeft rowsTold rowTold told
 no-context c e [] = rw e
-no-context c e (k ∷ w) = rw e (place-here 1 k w (start never) (λ z. z))
+no-context c e (k ∷ w) = rw e (place-here 1 k w (start never) refl)
 
-pub bad-context : (c : ℕ) → (T (isContext c) → ⊥) → (w : List ℕ) → misplaced c w ≡ 1
-bad-context c h w = ⊎-elim (λ t. absurd (h t)) (λ e. no-context c e w) (context-or-never c)
+pub bad-context : (c : ℕ) → isContext c ≡ false → (w : List ℕ) → misplaced c w ≡ 1
+bad-context c h w = ⊎-elim (λ t. absurd (never-both t h)) (λ e. no-context c e w) (context-or-never c)
 
 placed-start : (c : ℕ) (w : List ℕ) → Placed 1 (start (grammar c)) w
 unfolding someLeft
-placed-start c w = placed 1 (start (grammar c)) w tt
+placed-start c w = placed 1 (start (grammar c)) w refl
 
 pub derived-unless-misplaced : (c : ℕ) (w : List ℕ) → (misplaced c w ≡ 0) ↔ Derives (grammar c) w
 unfolding misplaced
@@ -133,7 +127,7 @@ derived-unless-misplaced c w = (λ e. whole e (placed-start c w), λ d. unless d
 
 -- of a context's order that is not derived, the place is the first kind that may not stand there, or one past the end
 
-pub first-misplaced : (c : ℕ) → T (isContext c) → (w : List ℕ) (p : ℕ) → misplaced c w ≡ suc p → FirstMisplaced c w p
+pub first-misplaced : (c : ℕ) → isContext c ≡ true → (w : List ℕ) (p : ℕ) → misplaced c w ≡ suc p → FirstMisplaced c w p
 unfolding misplaced
 first-misplaced c t w p e = found (placed-start c w)
   where
@@ -143,7 +137,7 @@ first-misplaced c t w p e = found (placed-start c w)
       begun = begins-left (grammar c) (take q w) (grammar-alive c t) .1 (x .begun);
       stopped = ⊎-elim
           (λ y. inl (y .0, λ d. y .1 (derived-by-start (grammar c) w .0 d)))
-          (λ y. inr (y .0, λ b. y .1 (begins-left (grammar c) (take (suc q) w) (grammar-alive c t) .0 b)))
+          (λ y. inr (y .0, λ b. never-both (begins-left (grammar c) (take (suc q) w) (grammar-alive c t) .0 b) (y .1)))
           (x .stopped);
     }
 
@@ -160,11 +154,11 @@ no-later c w p q h x y =
 
 pub one-place : (c : ℕ) (w : List ℕ) (p q : ℕ) → FirstMisplaced c w p → FirstMisplaced c w q → p ≡ q
 one-place c w p q x y =
-    let no-less : q ≤ p = ⊎-elim (λ t. absurd (no-later c w p q (ltb→lt p q t) x y)) (λ t. nltb→le p q t) (passes-or-not (ltb p q)) in
-    let no-more : p ≤ q = ⊎-elim (λ t. absurd (no-later c w q p (ltb→lt q p t) y x)) (λ t. nltb→le q p t) (passes-or-not (ltb q p)) in
+    let no-less : q ≤ p = ⊎-elim (λ h. absurd (no-later c w p q h x y)) (λ h. h) (less-or-not p q) in
+    let no-more : p ≤ q = ⊎-elim (λ h. absurd (no-later c w q p h y x)) (λ h. h) (less-or-not q p) in
     omega arith
 
-pub misplaced-first : (c : ℕ) → T (isContext c) → (w : List ℕ) (p : ℕ) → FirstMisplaced c w p → misplaced c w ≡ suc p
+pub misplaced-first : (c : ℕ) → isContext c ≡ true → (w : List ℕ) (p : ℕ) → FirstMisplaced c w p → misplaced c w ≡ suc p
 misplaced-first c t w p x = by (misplaced c w) refl
   where
     derived-no : Derives (grammar c) w → ⊥
@@ -175,5 +169,5 @@ misplaced-first c t w p x = by (misplaced c w) refl
     by (suc q) e = e ∙ ap suc (one-place c w q p (first-misplaced c t w q e) x)
 
 -- the place says what it should, and what it says determines it
-pub misplaced-means : (c : ℕ) → T (isContext c) → (w : List ℕ) (p : ℕ) → (misplaced c w ≡ suc p) ↔ FirstMisplaced c w p
+pub misplaced-means : (c : ℕ) → isContext c ≡ true → (w : List ℕ) (p : ℕ) → (misplaced c w ≡ suc p) ↔ FirstMisplaced c w p
 misplaced-means c t w p = (first-misplaced c t w p, misplaced-first c t w p)

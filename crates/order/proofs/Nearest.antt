@@ -10,21 +10,21 @@ use borrow.Author.Tests.{eq-eqb, ne-eqb, lt-ltb, le-ltb}
 use lib.ListN.{length, getD, set, replicate, length-set}
 use lib.Seq.{sets, length-sets, getD-set-same, getD-set-other}
 use Rattle.order.specs.Owners.{isC}
-use Rattle.order.specs.Owning.{placeOf, added}
+use Rattle.order.specs.Owning.{levelPlace, added}
 
 -- the cases of a kind's place
 module _ (k l : ℕ) where
-  pub place-C : k ≡ 12 → placeOf k l ≡ 8
-  unfolding placeOf isC
-  place-C e = rw (eq-eqb k 12 e, placeOf, isC)
+  pub place-C : k ≡ 12 → levelPlace k l ≡ 8
+  unfolding levelPlace isC
+  place-C e = rw (eq-eqb k 12 e, levelPlace, isC)
 
-  pub place-level : (k ≡ 12 → ⊥) → l < 8 → placeOf k l ≡ l
-  unfolding placeOf isC
-  place-level n h = rw (ne-eqb k 12 n, lt-ltb l 8 h, placeOf, isC)
+  pub place-level : (k ≡ 12 → ⊥) → l < 8 → levelPlace k l ≡ l
+  unfolding levelPlace isC
+  place-level n h = rw (ne-eqb k 12 n, lt-ltb l 8 h, levelPlace, isC)
 
-  pub place-above : (k ≡ 12 → ⊥) → 8 ≤ l → placeOf k l ≡ 8
-  unfolding placeOf isC
-  place-above n h = rw (ne-eqb k 12 n, le-ltb l 8 h, placeOf, isC)
+  pub place-above : (k ≡ 12 → ⊥) → 8 ≤ l → levelPlace k l ≡ 8
+  unfolding levelPlace isC
+  place-above n h = rw (ne-eqb k 12 n, le-ltb l 8 h, levelPlace, isC)
 
 -- a run of one row: what stands before it is kept, what lies in it is the row
 run-before : (n i s : ℕ) (l : List ℕ) (row : ℕ) → s < i → getD (sets l i (replicate n row)) s 0 ≡ getD l s 0

@@ -6,11 +6,11 @@ use mathlib.Core.Path.{_≡_, refl, sym, ap, _∙_, subst, subst⁻¹}
 use Prim.Native.Nat.{ℕ, suc, _-_, _<_}
 use native.Mathlib.Nat.{le-of-lt}
 use native.Mathlib.Omega.{arith}
-use lib.Dec.{T, ltb, ltb→lt}
+use lib.Dec.{ltb}
 use lib.ListN.{length, getD, take, length-reverse}
 use lib.Seq.{length-take-le, getD-take}
-use borrow.Author.Tests.{not-true}
-use Rattle.laws.proofs.Bools.{T-true, true-T, both-left, both-right}
+use borrow.Author.Tests.{ltb-true, not-true}
+use Rattle.laws.proofs.Tests.{never-both, and-first, and-second}
 use Rattle.laws.proofs.Members.{getD-reversed}
 use Rattle.order.specs.Owners.{nearest, isC, owner, owners}
 use Rattle.order.proofs.Owner.{owners-at}
@@ -57,14 +57,13 @@ module _ (lv : ℕ → ℕ) (ks : List ℕ) (i n : ℕ) (h : i < length ks) wher
   unfolding owner
   owner-by true q e =
       let r = earlier (λ j. not (isC j)) (sym (rw (q, owner)) ∙ e) in
-      record { before = r .0; no-C = not-true (isC (getD ks n 0)) (r .1); smaller = λ f. absurd (subst T (sym q ∙ f) tt) }
+      record { before = r .0; no-C = not-true (isC (getD ks n 0)) (r .1); smaller = λ f. absurd (never-both q f) }
   owner-by false q e =
       let r = earlier (λ j. not (isC j) && ltb (lv j) (lv (getD ks i 0))) (sym (rw (q, owner)) ∙ e) in
-      let t = true-T (not (isC (getD ks n 0)) && ltb (lv (getD ks n 0)) (lv (getD ks i 0))) (r .1) in
       record {
         before = r .0;
-        no-C = not-true (isC (getD ks n 0)) (T-true (not (isC (getD ks n 0))) (both-left (not (isC (getD ks n 0))) (ltb (lv (getD ks n 0)) (lv (getD ks i 0))) t));
-        smaller = λ f. ltb→lt (lv (getD ks n 0)) (lv (getD ks i 0)) (both-right (not (isC (getD ks n 0))) (ltb (lv (getD ks n 0)) (lv (getD ks i 0))) t);
+        no-C = not-true (isC (getD ks n 0)) (and-first (not (isC (getD ks n 0))) (ltb (lv (getD ks n 0)) (lv (getD ks i 0))) (r .1));
+        smaller = λ f. ltb-true (lv (getD ks n 0)) (lv (getD ks i 0)) (and-second (not (isC (getD ks n 0))) (ltb (lv (getD ks n 0)) (lv (getD ks i 0))) (r .1));
       }
 
   pub owner-earlier : getD (owners lv ks) i 0 ≡ suc n → EarlierOwner

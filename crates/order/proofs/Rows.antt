@@ -1,14 +1,15 @@
 -- Rows of shapes that are still to come, their derivations, and that derivatives are right: an order that begins with a kind
 -- is derived by a row exactly where what follows the kind is derived by one of the rows that are left once it has been told.
 -- Assumes nothing.
-use mathlib.Core.Bool.{Bool, true, false}
+use mathlib.Core.Bool.{Bool, true, false, false≢true}
 use mathlib.Core.List.{List, [], _∷_, _++_, head-eq-of-cons-eq, tail-eq-of-cons-eq, nil≢cons}
 use mathlib.Core.Logic.{_⊎_, inl, inr, ⊎-elim, _↔_}
 use mathlib.Core.Option.{none, some}
-use mathlib.Core.Path.{_≡_, refl, sym, ap, _∙_, subst}
+use mathlib.Core.Path.{_≡_, refl, sym, ap, _∙_}
 use Prim.Native.Nat.{ℕ}
-use lib.Dec.{T, eqb, eqb→eq, eqb-refl}
-use Rattle.laws.proofs.Bools.{both, both-left, both-right}
+use borrow.Author.Tests.{eqb-true, eq-eqb}
+use lib.Dec.{eqb}
+use Rattle.laws.proofs.Tests.{and-first, and-second, and-both}
 use Rattle.order.specs.Grammar.{Shape, never, only, _▸_, any, plus, maybe, Tree, word, each, present}
 use Rattle.order.specs.Place.{empties, told, rowTold, rowsTold}
 
@@ -45,22 +46,22 @@ module _ (w : List ℕ) where
   one-cases (row ∷ xs) ys (inl d) = inl (inl d)
   one-cases (row ∷ xs) ys (inr d) = ⊎-elim (λ e. inl (inr e)) (λ e. inr e) (one-cases xs ys d)
 
-  one-where : (b : Bool) (ys : List (List Shape)) → T b → OneDerives ys w → OneDerives (elim b [ true ↦ ys | false ↦ [] ]) w
+  one-where : (b : Bool) (ys : List (List Shape)) → b ≡ true → OneDerives ys w → OneDerives (elim b [ true ↦ ys | false ↦ [] ]) w
   one-where true ys t d = d
-  one-where false ys t d = absurd t
+  one-where false ys t d = absurd (false≢true t)
 
-  one-where-cases : (b : Bool) (ys : List (List Shape)) → OneDerives (elim b [ true ↦ ys | false ↦ [] ]) w → T b × OneDerives ys w
-  one-where-cases true ys d = (tt, d)
+  one-where-cases : (b : Bool) (ys : List (List Shape)) → OneDerives (elim b [ true ↦ ys | false ↦ [] ]) w → (b ≡ true) × OneDerives ys w
+  one-where-cases true ys d = (refl, d)
   one-where-cases false ys d = absurd d
 
 -- a shape that derives the empty order has a derivation that writes nothing
-pub writes-nothing : (r : Shape) → T (empties r) → (t : Tree r) × ((v : List ℕ) → word r t v ≡ v)
+pub writes-nothing : (r : Shape) → empties r ≡ true → (t : Tree r) × ((v : List ℕ) → word r t v ≡ v)
 unfolding empties word each present
-writes-nothing never h = absurd h
-writes-nothing (only k) h = absurd h
+writes-nothing never h = absurd (false≢true h)
+writes-nothing (only k) h = absurd (false≢true h)
 writes-nothing (a ▸ b) h =
-    let x = writes-nothing a (both-left (empties a) (empties b) h) in
-    let y = writes-nothing b (both-right (empties a) (empties b) h) in
+    let x = writes-nothing a (and-first (empties a) (empties b) h) in
+    let y = writes-nothing b (and-second (empties a) (empties b) h) in
     ((x .0, y .0), λ v. x .1 (word b (y .0) v) ∙ y .1 v)
 writes-nothing (any a) h = ([], λ v. refl)
 writes-nothing (plus a) h = let x = writes-nothing a h in ((x .0, []), λ v. x .1 v)
@@ -69,11 +70,11 @@ writes-nothing (maybe a) h = (none, λ v. refl)
 module _ (k : ℕ) (w : List ℕ) where
   -- what stands after a shape where an order begins with k: the shape has begun it, or it writes nothing
   abbrev Begun : Shape → List Shape → List ℕ → Type 0
-  Begun r rest v = OneDerives (told k r rest) w ⊎ (T (empties r) × (v ≡ k ∷ w))
+  Begun r rest v = OneDerives (told k r rest) w ⊎ ((empties r ≡ true) × (v ≡ k ∷ w))
 
   only-begun : (j : ℕ) (rest : List Shape) (s : RowTree rest) → j ∷ rowWord rest s ≡ k ∷ w → OneDerives (told k (only j) rest) w
   unfolding told
-  only-begun j rest s e = one-where w (eqb k j) (rest ∷ []) (subst (λ (n : ℕ). T (eqb k n)) (sym (head-eq-of-cons-eq e)) (eqb-refl k)) (inl (s, tail-eq-of-cons-eq e))
+  only-begun j rest s e = one-where w (eqb k j) (rest ∷ []) (eq-eqb k j (sym (head-eq-of-cons-eq e))) (inl (s, tail-eq-of-cons-eq e))
 
   any-begun : (a : Shape) (rest : List Shape) (v : List ℕ)
       → ((t : Tree a) (ts : List (Tree a)) → word a t (each (word a) ts v) ≡ k ∷ w → Begun a (any a ∷ rest) (each (word a) ts v))
@@ -90,26 +91,26 @@ module _ (k : ℕ) (w : List ℕ) where
       ⊎-elim (λ d. inl (one-left w (told k a (b ∷ rest)) (elim (empties a) [ true ↦ told k b rest | false ↦ [] ]) d))
       (λ q. ⊎-elim
       (λ d. inl (one-right w (told k a (b ∷ rest)) (elim (empties a) [ true ↦ told k b rest | false ↦ [] ]) (one-where w (empties a) (told k b rest) (q .0) d)))
-      (λ p. inr (both (empties a) (empties b) (q .0) (p .0), p .1))
+      (λ p. inr (and-both (q .0) (p .0), p .1))
       (shape-begun b rest (t .1) s (q .1)))
       (shape-begun a (b ∷ rest) (t .0) (t .1, s) e)
   shape-begun (any a) rest ts s e =
-      ⊎-elim (λ d. inl d) (λ q. inr (tt, q))
+      ⊎-elim (λ d. inl d) (λ q. inr (refl, q))
       (any-begun a rest (rowWord rest s) (λ t us h. shape-begun a (any a ∷ rest) t (us, s) h) ts e)
   shape-begun (plus a) rest t s e =
       ⊎-elim (λ d. inl d)
       (λ p. ⊎-elim (λ d. inl d) (λ q. inr (p .0, q))
       (any-begun a rest (rowWord rest s) (λ u us h. shape-begun a (any a ∷ rest) u (us, s) h) (t .1) (p .1)))
       (shape-begun a (any a ∷ rest) (t .0) (t .1, s) e)
-  shape-begun (maybe a) rest none s e = inr (tt, e)
-  shape-begun (maybe a) rest (some t) s e = ⊎-elim (λ d. inl d) (λ q. inr (tt, q .1)) (shape-begun a rest t s e)
+  shape-begun (maybe a) rest none s e = inr (refl, e)
+  shape-begun (maybe a) rest (some t) s e = ⊎-elim (λ d. inl d) (λ q. inr (refl, q .1)) (shape-begun a rest t s e)
 
   only-told : (j : ℕ) (rest : List Shape) → OneDerives (told k (only j) rest) w → RowDerives (only j ∷ rest) (k ∷ w)
   unfolding told rowWord word
   only-told j rest d = found (one-where-cases w (eqb k j) (rest ∷ []) d)
     where
-      found : T (eqb k j) × OneDerives (rest ∷ []) w → RowDerives (only j ∷ rest) (k ∷ w)
-      found p = ⊎-elim (λ q. ((tt, q .0), ap {B = List ℕ} (λ n. n ∷ rowWord rest (q .0)) (sym (eqb→eq k j (p .0))) ∙ ap {B = List ℕ} (λ v. k ∷ v) (q .1))) (λ z. absurd z) (p .1)
+      found : (eqb k j ≡ true) × OneDerives (rest ∷ []) w → RowDerives (only j ∷ rest) (k ∷ w)
+      found p = ⊎-elim (λ q. ((tt, q .0), ap {B = List ℕ} (λ n. n ∷ rowWord rest (q .0)) (sym (eqb-true k j (p .0))) ∙ ap {B = List ℕ} (λ v. k ∷ v) (q .1))) (λ z. absurd z) (p .1)
 
   pub shape-told : (r : Shape) (rest : List Shape) → OneDerives (told k r rest) w → RowDerives (r ∷ rest) (k ∷ w)
   unfolding told word each present rowWord

@@ -6,10 +6,11 @@ use mathlib.Core.Logic.{_⊎_, ⊎-elim}
 use mathlib.Core.Path.{_≡_, refl, sym, ap, _∙_}
 use Prim.Native.Nat.{ℕ, suc, _≤_}
 use native.Mathlib.Omega.{arith}
-use lib.Dec.{T, leb, ltb, eqb, ltb→lt, nltb→le}
+use lib.Dec.{leb, eqb}
 use borrow.Author.Tests.{eqb-true, eqb-false, ne-eqb, not-true}
 use Rattle.laws.specs.Tables.{below, everyFrom}
-use Rattle.laws.proofs.Bools.{T-true, true-T, not-T-false, passes-or-not}
+use Rattle.laws.proofs.Cases.{less-or-not}
+use Rattle.laws.proofs.Tests.{never-holds}
 use Rattle.order.specs.Contexts.{isContext}
 use Rattle.order.specs.Followers.{follows}
 use Rattle.order.specs.Watcher.{begun, allowsC, allowsNext, allows, tellBy, tellOf}
@@ -58,25 +59,24 @@ no-kind-no w k h =
 
 -- after L
 
-none-after-L : T (below 7 (λ i. below 13 (λ k. not (follows (suc i) 11 k))))
+none-after-L : below 7 (λ i. below 13 (λ k. not (follows (suc i) 11 k))) ≡ true
 unfolding follows states everyFrom
-none-after-L = tt
+none-after-L = refl
 
-no-follower : (c : ℕ) → T (isContext c) → (k : ℕ) → follows c 11 k ≡ false
+no-follower : (c : ℕ) → isContext c ≡ true → (k : ℕ) → follows c 11 k ≡ false
 unfolding follows
 no-follower c t k =
     ⊎-elim
-    (λ h. not-true (follows c 11 k) (T-true (not (follows c 11 k))
-    (all-seven₂ 13 (λ n j. not (follows n 11 j)) none-after-L c t k (ltb→lt k 13 h))))
-    (λ h. not-T-false (follows c 11 k) (λ s. let l = kind-left c t 11 k (omega arith) s in let g = nltb→le k 13 h in let n : ⊥ = omega arith in n))
-    (passes-or-not (ltb k 13))
+    (λ h. not-true (follows c 11 k) (all-seven₂ 13 (λ n j. not (follows n 11 j)) none-after-L c t k h))
+    (λ h. never-holds (follows c 11 k) (λ s. let l = kind-left c t 11 k (omega arith) s in let n : ⊥ = omega arith in n))
+    (less-or-not k 13)
 
 L-next : (c : ℕ) → isContext c ≡ true → (k : ℕ) (b : Bool) → eqb k 12 ≡ b → allows follows c 11 k ≡ false
 unfolding allowsC allowsNext
 L-next c t k true e = allows-C follows c 11 k t (eqb-true k 12 e)
 L-next c t k false e =
     allows-other follows c 11 k t (eqb-false k 12 e)
-    ∙ (rw (no-follower c (true-T (isContext c) t) k, and-false (leb k 11), and-false (leb 1 k)))
+    ∙ (rw (no-follower c t k, and-false (leb k 11), and-false (leb 1 k)))
 
 pub after-L-no : (c k : ℕ) → tellOf (record { context = c; last = 11 }) k .yes ≡ false
 after-L-no c k = no-by (record { context = c; last = 11 }) k (λ e. L-next c e k (eqb k 12) refl)

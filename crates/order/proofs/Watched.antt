@@ -6,9 +6,9 @@ use mathlib.Core.List.{List, [], _∷_, _++_, append-assoc, append-nil}
 use mathlib.Core.Logic.{⊎-elim, _↔_}
 use mathlib.Core.Path.{_≡_, refl, sym, ap, _∙_, subst, subst⁻¹}
 use Prim.Native.Nat.{ℕ}
-use lib.Dec.{T, eqb}
+use lib.Dec.{eqb}
 use borrow.Author.Tests.{eqb-true, eqb-false}
-use Rattle.laws.proofs.Bools.{T-true, true-T}
+use Rattle.laws.proofs.Tests.{never-both}
 use Rattle.order.specs.Grammar.{Shape, never, Begins}
 use Rattle.order.specs.Contexts.{grammar, isContext}
 use Rattle.order.specs.Place.{rowsAfter, someLeft}
@@ -72,19 +72,19 @@ same-context w (k ∷ ks) = same-context (tellOf w k .watcher) ks ∙ keeps-cont
 unfoldable pub stateOf : ℕ → List ℕ → Watcher
 stateOf c a = record { context = c; last = lastOf 0 a }
 
-module _ (c : ℕ) (t : T (isContext c)) where
+module _ (c : ℕ) (t : isContext c ≡ true) where
   module _ (a : List ℕ) (b : Begins (grammar c) a) where
-    pub left-there : T (someLeft (leftAt c (lastOf 0 a)))
-    left-there = subst (λ (r : List (List Shape)). T (someLeft r)) (begun-state c t a b) (begins-left (grammar c) a (grammar-alive c t) .0 b)
+    pub left-there : someLeft (leftAt c (lastOf 0 a)) ≡ true
+    left-there = subst (λ (r : List (List Shape)). someLeft r ≡ true) (begun-state c t a b) (begins-left (grammar c) a (grammar-alive c t) .0 b)
 
     yes-follows : (k : ℕ) → tellOf (stateOf c a) k .yes ≡ follows c (lastOf 0 a) k
     unfolding stateOf
     yes-follows k = says (stateOf c a) k ∙ allows-follows c t (lastOf 0 a) (begun-last c t a b) left-there k
 
-    pub yes-begins : (k : ℕ) → T (tellOf (stateOf c a) k .yes) ↔ Begins (grammar c) (a ++ (k ∷ []))
+    pub yes-begins : (k : ℕ) → (tellOf (stateOf c a) k .yes ≡ true) ↔ Begins (grammar c) (a ++ (k ∷ []))
     yes-begins k =
         let m = begins-more c t a k b in
-        (λ s. m .1 (subst T (yes-follows k) s), λ d. subst⁻¹ T (yes-follows k) (m .0 d))
+        (λ s. m .1 (sym (yes-follows k) ∙ s), λ d. yes-follows k ∙ m .0 d)
 
     pub state-yes : (k : ℕ) → tellOf (stateOf c a) k .yes ≡ true → tellOf (stateOf c a) k .watcher ≡ stateOf c (a ++ (k ∷ []))
     unfolding stateOf lastOf
@@ -101,7 +101,7 @@ module _ (c : ℕ) (t : T (isContext c)) where
   led-by a w l k ks next true y =
       let y′ = ap (λ (x : Watcher). tellOf x k .yes) (sym (l .0)) ∙ y in
       let here : Led (tellOf w k .watcher) (a ++ (k ∷ [])) =
-      (ap (λ (x : Watcher). tellOf x k .watcher) (l .0) ∙ state-yes a (l .1) k y′, yes-begins a (l .1) k .0 (true-T (tellOf (stateOf c a) k .yes) y′)) in
+      (ap (λ (x : Watcher). tellOf x k .watcher) (l .0) ∙ state-yes a (l .1) k y′, yes-begins a (l .1) k .0 y′) in
       subst (λ (u : List ℕ). Led (watched (tellOf w k .watcher) ks) u)
       (append-assoc a (k ∷ []) (said (tellOf w k .watcher) ks) ∙ ap (λ (u : List ℕ). a ++ u) (sym (said-yes w k ks y)))
       (next (a ++ (k ∷ [])) (tellOf w k .watcher) here)
@@ -121,7 +121,7 @@ module _ (c : ℕ) (t : T (isContext c)) where
   says-yes-to-all a x l (k ∷ w) b =
       let b′ : Begins (grammar c) (a ++ (k ∷ []) ++ w) = subst⁻¹ (λ (u : List ℕ). Begins (grammar c) u) (append-assoc a (k ∷ []) w) b in
       let here : Begins (grammar c) (a ++ (k ∷ [])) = begins-front (grammar c) (a ++ (k ∷ [])) w b′ in
-      let y : tellOf (stateOf c a) k .yes ≡ true = T-true (tellOf (stateOf c a) k .yes) (yes-begins a (l .1) k .1 here) in
+      let y : tellOf (stateOf c a) k .yes ≡ true = yes-begins a (l .1) k .1 here in
       let next : Led (tellOf x k .watcher) (a ++ (k ∷ [])) = (ap (λ (v : Watcher). tellOf v k .watcher) (l .0) ∙ state-yes a (l .1) k y, here) in
       let q = says-yes-to-all (a ++ (k ∷ [])) (tellOf x k .watcher) next w b′ in (
         q .0 ∙ ap (stateOf c) (append-assoc a (k ∷ []) w),
@@ -130,7 +130,7 @@ module _ (c : ℕ) (t : T (isContext c)) where
 
   begins-nothing : Begins (grammar c) []
   unfolding rowsAfter someLeft
-  begins-nothing = begins-left (grammar c) [] (grammar-alive c t) .1 tt
+  begins-nothing = begins-left (grammar c) [] (grammar-alive c t) .1 refl
 
   led-none : Led (begun c) []
   unfolding stateOf lastOf
@@ -140,11 +140,11 @@ module _ (c : ℕ) (t : T (isContext c)) where
   pub begun-watched : (w : List ℕ) → Begins (grammar c) w → (watched (begun c) w ≡ stateOf c w) × (said (begun c) w ≡ w)
   begun-watched w b = says-yes-to-all [] (begun c) led-none w b
 
-  in-context : (ks : List ℕ) (k : ℕ) → T (tellOf (watched (begun c) ks) k .yes) ↔ Begins (grammar c) (said (begun c) ks ++ (k ∷ []))
+  in-context : (ks : List ℕ) (k : ℕ) → (tellOf (watched (begun c) ks) k .yes ≡ true) ↔ Begins (grammar c) (said (begun c) ks ++ (k ∷ []))
   unfolding stateOf lastOf
   in-context ks k =
       let l = led [] (begun c) led-none ks in
-      subst⁻¹ (λ (w : Watcher). T (tellOf w k .yes) ↔ Begins (grammar c) (said (begun c) ks ++ (k ∷ []))) (l .0) (yes-begins (said (begun c) ks) (l .1) k)
+      subst⁻¹ (λ (w : Watcher). (tellOf w k .yes ≡ true) ↔ Begins (grammar c) (said (begun c) ks ++ (k ∷ []))) (l .0) (yes-begins (said (begun c) ks) (l .1) k)
 
 -- a bad context says no to all, and nothing begins there
 
@@ -158,19 +158,14 @@ no-to-all w k e = says w k ∙ no-context-no follows (w .context) (w .last) k e
 pub bad-context-no : (c : ℕ) → isContext c ≡ false → (ks : List ℕ) (k : ℕ) → tellOf (watched (begun c) ks) k .yes ≡ false
 bad-context-no c e ks k = no-to-all (watched (begun c) ks) k (ap isContext (same-context (begun c) ks) ∙ e)
 
-pub watcher-yes : (c : ℕ) (ks : List ℕ) (k : ℕ) → T (tellOf (watched (begun c) ks) k .yes) ↔ Begins (grammar c) (said (begun c) ks ++ (k ∷ []))
-watcher-yes c ks k = by (isContext c) refl
-  where
-    by : (v : Bool) → isContext c ≡ v → T (tellOf (watched (begun c) ks) k .yes) ↔ Begins (grammar c) (said (begun c) ks ++ (k ∷ []))
-    by true e = in-context c (true-T (isContext c) e) ks k
-    by false e = (
-      λ s. absurd (subst T (bad-context-no c e ks k) s),
-      λ d. absurd (⊎-elim (λ h. subst T e h) (λ n. never-begins c n (said (begun c) ks ++ (k ∷ [])) d) (context-or-never c)),
-    )
-
 -- "Yes is said exactly when the kinds it has said yes to, with this one put after them, begin some order that the context's grammar,
 -- C included, derives", for every context number, all kinds told before and every kind number
 pub yes-exactly : (c : ℕ) (ks : List ℕ) (k : ℕ) → (tellOf (watched (begun c) ks) k .yes ≡ true) ↔ Begins (grammar c) (said (begun c) ks ++ (k ∷ []))
-yes-exactly c ks k =
-    let m = watcher-yes c ks k in
-    (λ e. m .0 (true-T (tellOf (watched (begun c) ks) k .yes) e), λ d. T-true (tellOf (watched (begun c) ks) k .yes) (m .1 d))
+yes-exactly c ks k = by (isContext c) refl
+  where
+    by : (v : Bool) → isContext c ≡ v → (tellOf (watched (begun c) ks) k .yes ≡ true) ↔ Begins (grammar c) (said (begun c) ks ++ (k ∷ []))
+    by true e = in-context c e ks k
+    by false e = (
+      λ s. absurd (never-both s (bad-context-no c e ks k)),
+      λ d. absurd (⊎-elim (λ h. never-both h e) (λ n. never-begins c n (said (begun c) ks ++ (k ∷ [])) d) (context-or-never c)),
+    )

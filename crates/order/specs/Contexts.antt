@@ -70,12 +70,12 @@ bodies =
     ∷ []
 
 -- "C left aside, a message is H, a body, L"
-unfoldable pub message : Shape → Shape
-message body = H ▸ body ▸ L
+unfoldable pub messageShape : Shape → Shape
+messageShape body = H ▸ body ▸ L
 
 -- the grammar of a context, by its number: a number that is no context derives nothing
 unfoldable pub grammar : ℕ → Shape
-grammar c = getD (never ∷ map message bodies) c never
+grammar c = getD (never ∷ map messageShape bodies) c never
 
 -- "a context number 1 to 7 in the order listed above"
 unfoldable pub isContext : ℕ → Bool

@@ -2,7 +2,7 @@
 -- Assumes nothing.
 use mathlib.Core.Bool.{true, false, _&&_}
 use mathlib.Core.List.{List}
-use Prim.Native.Nat.{ℕ, _+_, _*_, _-_, _/_, _%_}
+use Prim.Native.Nat.{ℕ, _+_, _*_, _-_, _/_, _%_, _<_}
 use lib.Dec.{leb}
 use lib.ListN.{getD}
 use Rattle.laws.specs.Tables.{values}
@@ -14,9 +14,16 @@ unfoldable pub levelIn : List ℕ → ℕ → ℕ → ℕ
 levelIn table c k = elim (isContext c && leb k 11) [ true ↦ getD table ((c - 1) * 12 + k) 0 | false ↦ 0 ]
 
 -- the table of some levels
-unfoldable pub flat : (ℕ → ℕ → ℕ) → List ℕ
-flat lv = values (λ i. lv (i / 12 + 1) (i % 12)) 0 84
+unfoldable pub levelTableOf : (ℕ → ℕ → ℕ) → List ℕ
+levelTableOf lv = values (λ i. lv (i / 12 + 1) (i % 12)) 0 84
 
--- the table of document 01's levels
+-- the table of the levels in force
 unfoldable pub levelTable : List ℕ
-levelTable = flat level
+levelTable = levelTableOf level
+
+-- the number above all levels, and that levels are below it: all that the laws of owners ask of levels
+abbrev pub topLevel : ℕ
+topLevel = 8
+
+abbrev pub LevelsBelow : (ℕ → ℕ → ℕ) → Type 0
+LevelsBelow lv = (context kind : ℕ) → lv context kind < topLevel

@@ -6,8 +6,12 @@ use Prim.Native.Nat.{ℕ, suc}
 use lib.Dec.{ltb, eqb}
 use lib.ListN.{length, getD}
 
+-- the level of a kind in a context by rows of levels: a row is a context, a column a kind, both by number; 0 where there is none
+abbrev pub levelBy : List (List ℕ) → ℕ → ℕ → ℕ
+levelBy rows context kind = getD (getD rows context []) kind 0
+
 -- "Levels: H and L 1, P 2, ERR 2; OBR 3, OBX 4 in ORM and ORU; AP 3, AC 4, OBR 5, OBX 6 in ORA; AP 3, AC 4 in ADM;
--- AP 3, AC 4, FAC 5, REG 6, ACT 7 in FAC; REG 3 in REG." A row is a context, a column a kind, both by number; 0 where there is none.
+-- AP 3, AC 4, FAC 5, REG 6, ACT 7 in FAC; REG 3 in REG."
 unfoldable pub levels : List (List ℕ)
 levels =
     --      H   P   AP  AC  OBR OBX FAC REG ACT ERR L
@@ -21,8 +25,9 @@ levels =
     ∷ (0 ∷ 1 ∷ 2 ∷ 3 ∷ 4 ∷ 0 ∷ 0 ∷ 5 ∷ 6 ∷ 7 ∷ 0 ∷ 1 ∷ [])  -- FAC
     ∷ []
 
+-- the levels in force
 unfoldable pub level : ℕ → ℕ → ℕ
-level context kind = getD (getD levels context []) kind 0
+level context kind = levelBy levels context kind
 
 -- the row of the nearest of some earlier kinds that passes a test, or 0; the nearest stands first
 unfoldable pub nearest : (ℕ → Bool) → List ℕ → ℕ

@@ -15,8 +15,8 @@ abbrev pub begun : ℕ → Watcher
 begun c = record { context = c; last = 0 }
 
 -- what a follower table lists: its entry for a context, a kind that stands and a kind that comes is 1
-unfoldable pub listed : List ℕ → ℕ → ℕ → ℕ → Bool
-listed table c x k = eqb (getD table ((c - 1) * 121 + (x - 1) * 11 + (k - 1)) 0) 1
+unfoldable pub followsBy : List ℕ → ℕ → ℕ → ℕ → Bool
+followsBy table c x k = eqb (getD table ((c - 1) * 121 + (x - 1) * 11 + (k - 1)) 0) 1
 
 -- the numbers that the table has an entry for
 pub record InTable (c x k : ℕ) : Type 0 where

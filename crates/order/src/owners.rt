@@ -3,7 +3,10 @@
 use form::kind::Kind;
 ghost use mathlib.Core.Path.{_≡_};
 ghost use Prim.Native.Nat.{_≤_};
-ghost use Rattle.order.specs.Owning.{placeOf, noRows, Owned};
+ghost use Rattle.order.specs.Owning.{levelPlace, noRows, Owned};
+
+// The number of a row, or 0: one number of a table's rows, which takes its width from here.
+pub type Row = u16;
 
 // What is known of the rows so far has a place for each level, and one above all levels.
 pub const PLACES: usize = 9;
@@ -12,15 +15,15 @@ const ABOVE: usize = 8;
 
 // What is known before any row: at place l stands the row of the nearest segment, C aside, with a level below l, or 0. Place 8 is
 // above all levels.
-pub fn no_rows() -> [u16; PLACES]
+pub fn no_rows() -> [Row; PLACES]
     ensures { λ r. ⌜ r ≡ noRows ⌝ }
 {
-    [0u16; PLACES]
+    [0; PLACES]
 }
 
 // The owner of the next row, by what is known of the rows before it, which the row is then added to. A level over 8 counts as 8. The
 // loop goes over all places, whatever the row's own is: with a fixed number of turns it is compiled to straight code.
-pub fn owner_of(nearest: &mut [u16; PLACES], row: u16, kind: u8, level: u8) -> u16
+pub fn owner_of(nearest: &mut [Row; PLACES], row: Row, kind: u8, level: u8) -> Row
     ensures { λ r. ⌜ Owned (now (nearest .entry)) (now (nearest .exit)) row kind level r ⌝ }
 {
     let place = place_of(kind, level);
@@ -38,7 +41,7 @@ pub fn owner_of(nearest: &mut [u16; PLACES], row: u16, kind: u8, level: u8) -> u
 
 // The place of a kind: its level; C, which has none and is near to nothing, goes by the last.
 fn place_of(kind: u8, level: u8) -> usize
-    ensures { λ r. ⌜ (r ≡ placeOf kind level) × (r ≤ 8) ⌝ }
+    ensures { λ r. ⌜ (r ≡ levelPlace kind level) × (r ≤ 8) ⌝ }
 {
     if kind == Kind::C {
         return ABOVE;

@@ -4,7 +4,7 @@ use form::context::Context;
 use form::kind::Kind;
 ghost use mathlib.Core.Path.{_≡_};
 ghost use Prim.Native.Nat.{_≤_};
-ghost use Rattle.order.specs.Watcher.{begun, InTable, listed, allowsC, allowsNext, allows, tookKind, tellBy, tellOf};
+ghost use Rattle.order.specs.Watcher.{begun, InTable, followsBy, allowsC, allowsNext, allows, tookKind, tellBy, tellOf};
 use crate::followers::PER_CONTEXT;
 use crate::followers::PER_KIND;
 
@@ -38,7 +38,7 @@ impl Watcher {
 
     // The same by a table that the caller binds once: who tells many kinds does not build the table for each.
     pub fn tell_by(self, followers: &[u8; 847], kind: u8) -> Told
-        ensures { λ r. ⌜ r ≡ tellBy (listed (now (followers .entry))) self kind ⌝ }
+        ensures { λ r. ⌜ r ≡ tellBy (followsBy (now (followers .entry))) self kind ⌝ }
     {
         let context = self.context;
         let last = self.last;
@@ -68,7 +68,7 @@ impl Watcher {
 
 // Whether a kind may come next in a context after the last kind, C aside, or after nothing where that is 0.
 fn may_come(followers: &[u8; 847], context: u8, last: u8, kind: u8) -> bool
-    ensures { λ r. ⌜ r ≡ allows (listed (now (followers .entry))) context last kind ⌝ }
+    ensures { λ r. ⌜ r ≡ allows (followsBy (now (followers .entry))) context last kind ⌝ }
 {
     if context < 1 {
         return false;
@@ -85,7 +85,7 @@ fn may_come(followers: &[u8; 847], context: u8, last: u8, kind: u8) -> bool
 // The same of a kind that is no C, in a context.
 fn may_be_next(followers: &[u8; 847], context: u8, last: u8, kind: u8) -> bool
     requires { ⌜ (1 ≤ context) × (context ≤ 7) ⌝ }
-    ensures { λ r. ⌜ r ≡ allowsNext (listed (now (followers .entry))) context last kind ⌝ }
+    ensures { λ r. ⌜ r ≡ allowsNext (followsBy (now (followers .entry))) context last kind ⌝ }
 {
     if last == 0 {
         return kind == Kind::H;
@@ -115,7 +115,7 @@ fn may_have_c(last: u8) -> bool
 // Whether the table's entry for three numbers that are within it is 1.
 fn is_listed(followers: &[u8; 847], context: u8, last: u8, kind: u8) -> bool
     requires { ⌜ InTable context last kind ⌝ }
-    ensures { λ r. ⌜ r ≡ listed (now (followers .entry)) context last kind ⌝ }
+    ensures { λ r. ⌜ r ≡ followsBy (now (followers .entry)) context last kind ⌝ }
 {
     let entry = (context as usize - 1) * PER_CONTEXT
         + (last as usize - 1) * PER_KIND

@@ -8,12 +8,12 @@ use mathlib.Core.Option.{Option, none, some}
 use mathlib.Core.Path.{_≡_, refl, sym, ap, _∙_, subst, subst⁻¹}
 use Prim.Native.Nat.{ℕ, _≤_}
 use native.Mathlib.Omega.{arith}
-use lib.Dec.{T, leb, leb→le}
+use lib.Dec.{leb}
 use lib.ListN.{length}
-use borrow.Author.Tests.{le-ltb}
+use borrow.Author.Tests.{le-ltb, leb-true}
 use Rattle.laws.specs.Every.{All, none as nothing, also}
 use Rattle.laws.specs.Tables.{everyFrom}
-use Rattle.laws.proofs.Bools.{both-left, both-right}
+use Rattle.laws.proofs.Tests.{and-first, and-second}
 use Rattle.form.specs.declared.limits.Limits.{Limits}
 use Rattle.form.specs.declared.separators.Separators.{Separators}
 use Rattle.form.specs.declared.separators.Header.{Header}
@@ -60,22 +60,22 @@ unfolding present
 present-kinds f step none v h = h
 present-kinds f step (some t) v h = step t v h
 
-word-kinds : (r : Shape) → T (namesKinds r) → (t : Tree r) (v : List ℕ) → All IsKind v → All IsKind (word r t v)
+word-kinds : (r : Shape) → namesKinds r ≡ true → (t : Tree r) (v : List ℕ) → All IsKind v → All IsKind (word r t v)
 unfolding word namesKinds
 word-kinds never g t v h = absurd t
 word-kinds (only k) g t v h =
-    also (leb→le 1 k (both-left (leb 1 k) (leb k 12) g), leb→le k 12 (both-right (leb 1 k) (leb k 12) g)) h
+    also (leb-true 1 k (and-first (leb 1 k) (leb k 12) g), leb-true k 12 (and-second (leb 1 k) (leb k 12) g)) h
 word-kinds (a ▸ b) g t v h =
-    word-kinds a (both-left (namesKinds a) (namesKinds b) g) (t .0) (word b (t .1) v)
-    (word-kinds b (both-right (namesKinds a) (namesKinds b) g) (t .1) v h)
+    word-kinds a (and-first (namesKinds a) (namesKinds b) g) (t .0) (word b (t .1) v)
+    (word-kinds b (and-second (namesKinds a) (namesKinds b) g) (t .1) v h)
 word-kinds (any a) g t v h = each-kinds (word a) (word-kinds a g) t v h
 word-kinds (plus a) g t v h = word-kinds a g (t .0) (each (word a) (t .1) v) (each-kinds (word a) (word-kinds a g) (t .1) v h)
 word-kinds (maybe a) g t v h = present-kinds (word a) (word-kinds a g) t v h
 
-grammar-kinds : (c : ℕ) → T (namesKinds (grammar c))
+grammar-kinds : (c : ℕ) → namesKinds (grammar c) ≡ true
 unfolding namesKinds grammars everyFrom
 grammar-kinds c =
-    ⊎-elim (all-seven (λ n. namesKinds (grammar n)) tt c) (λ e. subst⁻¹ (λ (r : Shape). T (namesKinds r)) e tt) (context-or-never c)
+    ⊎-elim (all-seven (λ n. namesKinds (grammar n)) refl c) (λ e. subst⁻¹ (λ (r : Shape). namesKinds r ≡ true) e refl) (context-or-never c)
 
 pub derived-kinds : (c : ℕ) (w : List ℕ) → Derives (grammar c) w → All IsKind w
 derived-kinds c w d = subst (All IsKind) (d .1) (word-kinds (grammar c) (grammar-kinds c) (d .0) [] nothing)

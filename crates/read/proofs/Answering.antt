@@ -4,7 +4,7 @@ use mathlib.Core.List.{List}
 use mathlib.Core.Path.{_≡_, refl, ap, _∙_, subst₂}
 use Prim.Native.Nat.{ℕ}
 use Rattle.form.specs.declared.limits.Limits.{Limits}
-use Rattle.order.specs.Levels.{levelIn}
+use Rattle.order.specs.Levels.{levelIn, LevelsBelow}
 use Rattle.table.specs.declared.Card.{Card}
 use Rattle.table.specs.Rows.{Table, tableOf}
 use Rattle.table.specs.Reading.{Outcome, refused, accepted, reading}
@@ -14,7 +14,7 @@ use Rattle.read.specs.declared.Answer.{Answer}
 use Rattle.read.specs.declared.decide.Decision.{Decision}
 use Rattle.read.specs.Answering.{Gives, ReadAs, answerOf, roomOf, textPut, segmentsPut, leavesPut}
 use Rattle.read.specs.Deciding.{DecidesAs}
-use Rattle.read.specs.Filling.{tableIn, LevelsBelow, Prepared, Filled}
+use Rattle.read.specs.Filling.{tableIn, Prepared, Filled}
 use Rattle.read.proofs.Deciding.{decided-refuses, decided-accepts}
 
 module _ {o : Outcome} {text segments leaves : List ℕ} where

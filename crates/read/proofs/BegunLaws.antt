@@ -11,7 +11,7 @@ use Rattle.form.specs.declared.separators.Separators.{Separators}
 use Rattle.form.specs.Header.{splitting}
 use Rattle.line.specs.Lines.{CR}
 use Rattle.order.specs.Levels.{levelIn}
-use Rattle.order.specs.Owning.{noRows, placeOf, added, owned, knownAfter}
+use Rattle.order.specs.Owning.{noRows, levelPlace, added, owned, knownAfter}
 use Rattle.order.proofs.Coming.{length-owned, owned-last, known-last}
 use Rattle.table.specs.Leaves.{Leaf, kindOfSegment, messageLeaves}
 use Rattle.table.specs.Rows.{segmentRowSize, leafRowSize, segmentRow, segmentRowsFrom, kindsOf, allLeaves}
@@ -45,7 +45,7 @@ module _ (lv : ℕ → ℕ) (ps : Separators) where
 
   -- the owner of a kind by what is known of those before it
   abbrev ownerBehind : List (List ℕ) → ℕ → ℕ
-  ownerBehind done k = getD (knownAfter lv noRows 1 (kindsOf ps done)) (placeOf k (lv k)) 0
+  ownerBehind done k = getD (knownAfter lv noRows 1 (kindsOf ps done)) (levelPlace k (lv k)) 0
 
   pub closedRows-last : (done : List (List ℕ)) (s : List ℕ)
       → closedRows lv ps (done ++ (s ∷ []))
@@ -109,8 +109,8 @@ module _ {lv : ℕ → ℕ} {ps : Separators} {text₀ segments₀ leaves₀ : L
   -- the segment is closed by its kind: its row comes behind the rows
   module _ {kind : ℕ} {levels : List ℕ} {context : ℕ} {nearest′ segments′ leaves′ : List ℕ} (by : (k : ℕ) → lv k ≡ levelIn levels context k)
       (is : kind ≡ kindOfSegment ps last) (w : ClosedBy f kind levels context nearest segments leaves nearest′ segments′ leaves′) where
-    place-by : placeOf kind (levelIn levels context kind) ≡ placeOf (kindOfSegment ps last) (lv (kindOfSegment ps last))
-    place-by = ap (placeOf kind) (sym (by kind)) ∙ ap (λ (j : ℕ). placeOf j (lv j)) is
+    place-by : levelPlace kind (levelIn levels context kind) ≡ levelPlace (kindOfSegment ps last) (lv (kindOfSegment ps last))
+    place-by = ap (levelPlace kind) (sym (by kind)) ∙ ap (λ (j : ℕ). levelPlace j (lv j)) is
 
     owner-by : w .owner ≡ ownerBehind lv ps done (kindOfSegment ps last)
     owner-by = w .owns .owner ∙ ap₂ (λ (n : List ℕ) (p : ℕ). getD n p 0) (b .known) place-by
@@ -137,7 +137,7 @@ module _ {lv : ℕ → ℕ} {ps : Separators} {text₀ segments₀ leaves₀ : L
         let row : f .laying .segment ≡ 1 + length (kindsOf ps done) = omega (arith, b .number, length-kinds ps done) in
         w .owns .known
         ∙ ap₂ (λ (n : List ℕ) (p : ℕ). added n p (f .laying .segment)) (b .known) place-by
-        ∙ ap (added (knownAfter lv noRows 1 (kindsOf ps done)) (placeOf (kindOfSegment ps last) (lv (kindOfSegment ps last)))) row
+        ∙ ap (added (knownAfter lv noRows 1 (kindsOf ps done)) (levelPlace (kindOfSegment ps last) (lv (kindOfSegment ps last)))) row
         ∙ sym (known-last lv noRows 1 (kindsOf ps done) (kindOfSegment ps last))
         ∙ ap (knownAfter lv noRows 1) (sym (kindsOf-last ps done last))
 

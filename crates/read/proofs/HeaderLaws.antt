@@ -11,7 +11,7 @@ use Rattle.laws.specs.Every.{none, also}
 use Rattle.form.specs.declared.limits.Limits.{Limits}
 use Rattle.form.specs.declared.separators.Separators.{Separators}
 use Rattle.form.proofs.HeaderRule.{SoundHeader, sound-header}
-use Rattle.form.proofs.Packing.{Bytes}
+use Rattle.laws.proofs.Bytes.{Bytes}
 use Rattle.line.specs.Joining.{addendum}
 use Rattle.line.specs.Finding.{textRun}
 use Rattle.line.specs.Left.{LeftAt}

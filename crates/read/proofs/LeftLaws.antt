@@ -13,7 +13,6 @@ use lib.Seq.{take-add, drop-at, drop-drop, length-take-le}
 use borrow.Author.Tests.{ne-eqb}
 use Rattle.laws.specs.Lists.{among, count}
 use Rattle.laws.specs.Every.{All, none, also}
-use Rattle.laws.specs.Each.{Each}
 use Rattle.laws.proofs.Tests.{Tested, passed, failed, tested}
 use Rattle.laws.proofs.Cases.{less-or-not}
 use Rattle.laws.proofs.Lists.{count-append, count-more}
@@ -21,7 +20,7 @@ use Rattle.laws.proofs.Every.{all-append, all-drop}
 use Rattle.form.specs.declared.limits.Limits.{Limits}
 use Rattle.form.specs.declared.separators.Separators.{Separators}
 use Rattle.form.specs.Header.{splitting}
-use Rattle.form.proofs.Packing.{Bytes}
+use Rattle.laws.proofs.Bytes.{Bytes}
 use Rattle.line.specs.Lines.{line, CR, space, walkFrom, walk, texts, faultNumber}
 use Rattle.line.specs.Joining.{letterA, addendum, carried, joined}
 use Rattle.line.specs.Finding.{textRun}
@@ -53,23 +52,23 @@ run-clear (b ∷ s) =
     (less-or-not b space)
 
 module _ (L : Limits) (f : ℕ) where
-  carried-clear : (ls : List (List ℕ)) → Each (SoundLine L) ls → Without CR (carried f ls)
+  carried-clear : (ls : List (List ℕ)) → All (SoundLine L) ls → Without CR (carried f ls)
   unfolding carried
   carried-clear [] h = none
-  carried-clear (l ∷ ls) h = go (tested (addendum f l)) (carried-clear ls (h .1))
+  carried-clear (l ∷ ls) (also h hs) = go (tested (addendum f l)) (carried-clear ls hs)
     where
       go : Tested (addendum f l) → Without CR (carried f ls) → Without CR (carried f (l ∷ ls))
-      go (passed e) ih = rw (carried-addendum f l ls e) (all-append (all-drop 2 (text-clear l (h .0 .text))) ih)
+      go (passed e) ih = rw (carried-addendum f l ls e) (all-append (all-drop 2 (text-clear l (h .text))) ih)
       go (failed e) ih = rw (carried-segment f l ls e) none
 
-  joined-clear : (ls : List (List ℕ)) → Each (SoundLine L) ls → All (Without CR) (joined f ls)
+  joined-clear : (ls : List (List ℕ)) → All (SoundLine L) ls → All (Without CR) (joined f ls)
   unfolding joined
   joined-clear [] h = none
-  joined-clear (l ∷ ls) h = go (tested (addendum f l)) (joined-clear ls (h .1))
+  joined-clear (l ∷ ls) (also h hs) = go (tested (addendum f l)) (joined-clear ls hs)
     where
       go : Tested (addendum f l) → All (Without CR) (joined f ls) → All (Without CR) (joined f (l ∷ ls))
       go (passed e) ih = rw (joined-addendum f l ls e) ih
-      go (failed e) ih = rw (joined-segment f l ls e) (also (all-append (text-clear l (h .0 .text)) (carried-clear ls (h .1))) ih)
+      go (failed e) ih = rw (joined-segment f l ls e) (also (all-append (text-clear l (h .text)) (carried-clear ls hs)) ih)
 
 -- a byte that is no `A` begins no addendum
 pub no-addendum : (f : ℕ) (s : List ℕ) → (getD s 0 0 ≡ letterA → ⊥) → addendum f s ≡ false
@@ -190,7 +189,7 @@ module _ {L : Limits} {ps : Separators} {class m : List ℕ} (s : Readable L ps 
       let js : List (List ℕ) = joined (ps .field) (texts (walkFrom L at (drop at m))) in
       let whole : segmentsIn L ps m ≡ done ++ ((last ++ (t ++ c)) ∷ js)
       = left .joins ∙ ap (λ (x : List ℕ). done ++ (x ∷ js)) (append-assoc last t c) in
-      let lines : Each (SoundLine L) (texts (walkFrom L at (drop at m))) = texts-sound L (s .one) at (drop at m) in
+      let lines : All (SoundLine L) (texts (walkFrom L at (drop at m))) = texts-sound L (s .one) at (drop at m) in
       let all : Filed ps (done ++ ((last ++ (t ++ c)) ∷ js))
       = filed-grows ps done last (t ++ c) js f (all-append clear (carried-clear L (ps .field) (texts (walkFrom L at (drop at m))) lines))
       (joined-clear L (ps .field) (texts (walkFrom L at (drop at m))) lines) in

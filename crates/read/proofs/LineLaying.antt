@@ -11,7 +11,7 @@ use Rattle.laws.specs.Lists.{among}
 use Rattle.laws.specs.Every.{All}
 use Rattle.laws.proofs.Every.{all-at, all-drop}
 use Rattle.form.specs.Header.{splitting}
-use Rattle.form.proofs.Packing.{Bytes}
+use Rattle.laws.proofs.Bytes.{Bytes}
 use Rattle.line.specs.Lines.{CR}
 use Rattle.table.specs.Flat.{step, steps}
 use Rattle.table.proofs.Passes.{steps-append}

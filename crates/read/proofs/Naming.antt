@@ -13,7 +13,8 @@ use Rattle.laws.proofs.Cases.{equal-or-not, less-or-not}
 use Rattle.laws.proofs.Every.{all-drop}
 use Rattle.laws.proofs.Parts.{part-cons, part-none}
 use Rattle.form.specs.Names.{kindNames, contextNames, numberAmong, kindOf, contextOf, packedOnto, packedAmong, tooMany}
-use Rattle.form.proofs.Packing.{Bytes, Packable, packed-number, long-unknown, kinds-packable, contexts-packable}
+use Rattle.laws.proofs.Bytes.{Bytes}
+use Rattle.form.proofs.Packing.{Packable, packed-number, long-unknown, kinds-packable, contexts-packable}
 use Rattle.form.specs.declared.separators.Separators.{Separators}
 use Rattle.table.specs.Leaves.{split, kindOfSegment, contextOfHeader}
 use Rattle.read.specs.declared.name.Name.{Name}

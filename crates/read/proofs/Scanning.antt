@@ -15,7 +15,7 @@ use Rattle.laws.proofs.Tests.{either}
 use Rattle.laws.proofs.Parts.{part-cons, part-none}
 use Rattle.form.specs.declared.separators.Separators.{Separators}
 use Rattle.form.specs.Header.{splitting}
-use Rattle.form.proofs.Packing.{Bytes}
+use Rattle.laws.proofs.Bytes.{Bytes}
 use Rattle.line.specs.Finding.{textRun}
 use Rattle.line.proofs.Runs.{textRun-nil, textRun-more, textRun-stop}
 use Rattle.table.specs.Classes.{classTable}

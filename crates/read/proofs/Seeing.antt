@@ -23,7 +23,7 @@ use Rattle.form.specs.declared.separators.Separators.{Separators}
 use Rattle.form.specs.Header.{splitting}
 use Rattle.form.specs.Names.{contextNames, kindNames, numberAmong, contextOf}
 use Rattle.order.specs.Followers.{followers}
-use Rattle.order.specs.Watcher.{begun, listed, tellBy, tellOf, watched}
+use Rattle.order.specs.Watcher.{begun, followsBy, tellBy, tellOf, watched}
 use Rattle.order.specs.Refusing.{firstNo}
 use Rattle.order.specs.Place.{misplaced}
 use Rattle.order.specs.declared.watcher.Watcher.{Watcher}
@@ -214,7 +214,7 @@ module _ (ps : Separators) (s : Survey) (table : List ℕ) (is : table ≡ follo
   misplaced-seen (h ∷ ds) last w = w .judged .misplaced
 
   module _ (done : List (List ℕ)) (last : List ℕ) (w : Seen ps done last s) where
-    told-seen : toldNow (listed table) s ≡ tellOf (watched (watcherOf done last) (kindsOf ps done)) (kindOfSegment ps last)
+    told-seen : toldNow (followsBy table) s ≡ tellOf (watched (watcherOf done last) (kindsOf ps done)) (kindOfSegment ps last)
     unfolding toldNow
     told-seen = by-this-table table is (watching s) (kindSeen s) ∙ ap₂ tellOf (watching-seen done last w) (kind-seen ps s done last w)
 
@@ -228,7 +228,7 @@ module _ (ps : Separators) (s : Survey) (table : List ℕ) (is : table ≡ follo
         (λ (e : k ≡ 0 → ⊥). ne-eqb k 0 e ∙ sym (ne-eqb 0 k (λ q. e (sym q))))
         (equal-or-not k 0)
 
-    unknown-closed : segmentShut (listed table) s .unknown ≡ firstUnknown (kindsOf ps (segmentsOf done last))
+    unknown-closed : segmentShut (followsBy table) s .unknown ≡ firstUnknown (kindsOf ps (segmentsOf done last))
     unfolding firstUnknown
     unknown-closed =
         ap₂ (λ (a : ℕ) (b : Bool). firstOf a b (s .segments)) (w .judged .unknown) (zero-test (kindSeen s) ∙ ap (eqb 0) (kind-seen ps s done last w))
@@ -236,7 +236,7 @@ module _ (ps : Separators) (s : Survey) (table : List ℕ) (is : table ≡ follo
         ∙ sym (first-append (eqb 0) 0 (kindsOf ps done) (kindOfSegment ps last))
         ∙ ap (firstFrom (eqb 0) 1) (sym (kinds-last done last))
 
-    misplaced-closed : segmentShut (listed table) s .misplaced ≡ firstNo 1 (watcherOf done last) (kindsOf ps (segmentsOf done last))
+    misplaced-closed : segmentShut (followsBy table) s .misplaced ≡ firstNo 1 (watcherOf done last) (kindsOf ps (segmentsOf done last))
     misplaced-closed =
         ap₂ (λ (a : ℕ) (b : Bool). firstOf a (not b) (s .segments)) (misplaced-seen done last w) (ap (λ (x : Told). x .yes) told-seen)
         ∙ ap
@@ -246,14 +246,14 @@ module _ (ps : Separators) (s : Survey) (table : List ℕ) (is : table ≡ follo
         ∙ sym (no-append 0 (watcherOf done last) (kindsOf ps done) (kindOfSegment ps last))
         ∙ ap (firstNo 1 (watcherOf done last)) (sym (kinds-last done last))
 
-    watcher-closed : segmentShut (listed table) s .watcher ≡ watched (watcherOf done last) (kindsOf ps (segmentsOf done last))
+    watcher-closed : segmentShut (followsBy table) s .watcher ≡ watched (watcherOf done last) (kindsOf ps (segmentsOf done last))
     watcher-closed =
         ap (λ (x : Told). x .watcher) told-seen
         ∙ sym (watched-append (watcherOf done last) (kindsOf ps done) (kindOfSegment ps last))
         ∙ ap (watched (watcherOf done last)) (sym (kinds-last done last))
 
     -- the open segment closed and the next begun
-    pub seen-next : Seen ps (segmentsOf done last) [] (segmentBegun (segmentShut (listed table) s))
+    pub seen-next : Seen ps (segmentsOf done last) [] (segmentBegun (segmentShut (followsBy table) s))
     seen-next =
         record {
           count = omega (arith, w .count, length-append done (last ∷ []));
@@ -265,7 +265,7 @@ module _ (ps : Separators) (s : Survey) (table : List ℕ) (is : table ≡ follo
           bytes = none;
         }
 
-    place-closed : placeSeen (segmentShut (listed table) s) ≡ misplaced (contextIn ps (segmentsOf done last)) (kindsOf ps (segmentsOf done last))
+    place-closed : placeSeen (segmentShut (followsBy table) s) ≡ misplaced (contextIn ps (segmentsOf done last)) (kindsOf ps (segmentsOf done last))
     unfolding placeSeen placeTold
     place-closed =
         let past : s .segments + 1 ≡ suc 0 + length (kindsOf ps (segmentsOf done last))
@@ -279,7 +279,7 @@ module _ (ps : Separators) (s : Survey) (table : List ℕ) (is : table ≡ follo
         ∙ place-by-watcher (contextIn ps (segmentsOf done last)) (kindsOf ps (segmentsOf done last))
 
     -- all segments closed: what tests 7 to 11 ask
-    pub seen-closed : SegmentsKnown ps (segmentsOf done last) (segmentShut (listed table) s)
+    pub seen-closed : SegmentsKnown ps (segmentsOf done last) (segmentShut (followsBy table) s)
     seen-closed =
         record {
           count = omega (arith, w .count, length-append done (last ∷ []));

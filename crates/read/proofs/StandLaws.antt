@@ -13,7 +13,7 @@ use Rattle.laws.proofs.Cases.{less-or-not}
 use Rattle.form.specs.declared.limits.Limits.{Limits}
 use Rattle.form.specs.declared.separators.Separators.{Separators}
 use Rattle.form.proofs.HeaderRule.{sound-header}
-use Rattle.form.proofs.Packing.{Bytes}
+use Rattle.laws.proofs.Bytes.{Bytes}
 use Rattle.line.specs.Joining.{addendum}
 use Rattle.line.specs.Left.{LeftAt}
 use Rattle.line.proofs.Left.{none-left, segments-left}

@@ -13,10 +13,10 @@ use Rattle.laws.proofs.Lists.{count-within}
 use Rattle.form.specs.declared.limits.Limits.{Limits}
 use Rattle.form.specs.declared.separators.Separators.{Separators}
 use Rattle.form.specs.Header.{splitting}
-use Rattle.form.proofs.Packing.{Bytes}
+use Rattle.laws.proofs.Bytes.{Bytes}
 use Rattle.form.proofs.HeaderRule.{SoundHeader}
 use Rattle.order.specs.Followers.{followers}
-use Rattle.order.specs.Watcher.{listed}
+use Rattle.order.specs.Watcher.{followsBy}
 use Rattle.line.specs.Lines.{fault, line, walkFrom, walk, texts, faultNumber, faultPlace}
 use Rattle.line.specs.Finding.{textRun, foundAt, handedOut, endedLine}
 use Rattle.line.specs.Joining.{letterA, addendum, joined}
@@ -46,7 +46,7 @@ module _ (L : Limits) (ps : Separators) (m : List ℕ) (at : ℕ) (s : Survey) w
   -- that is no addendum begins a segment
   segment-begins :
       (table : List ℕ) → table ≡ followers → at < length m → Underway L ps m at s → addendum (ps .field) (drop at m) ≡ false
-      → LineBegun L ps m at at (segmentBegun (segmentShut (listed table) s))
+      → LineBegun L ps m at at (segmentBegun (segmentShut (followsBy table) s))
   segment-begins table is some w a =
       record {
         done = w .done ++ w .last ∷ [];
@@ -111,7 +111,7 @@ module _ {L : Limits} {ps : Separators} {m : List ℕ} {at from : ℕ} {s : Surv
 
   -- or one that begins a segment, once the open one is closed
   pub begins-next : {table : List ℕ} {shut next : Survey} → table ≡ followers → from ≡ at → at < length m
-      → shut ≡ segmentShut (listed table) s → next ≡ segmentBegun shut → LineBegun L ps m at from next
+      → shut ≡ segmentShut (followsBy table) s → next ≡ segmentBegun shut → LineBegun L ps m at from next
   begins-next {table = table} {next = next} is here some shuts opens =
       let segment = begins-segment (ps .field) at (drop at m) (sym is-from ∙ here) in
       subst⁻¹ (λ (n : ℕ). LineBegun L ps m at n next) here
@@ -271,11 +271,11 @@ message-begins L ps m b wide h =
 
 -- the last line has been seen: no fault, and all that is asked of the segments is known
 pub survey-ends : {L : Limits} {ps : Separators} {m : List ℕ} {at : ℕ} {s shut : Survey} {table : List ℕ}
-    → Underway L ps m at s → table ≡ followers → length m ≤ at → shut ≡ segmentShut (listed table) s
+    → Underway L ps m at s → table ≡ followers → length m ≤ at → shut ≡ segmentShut (followsBy table) s
     → (faultNumber (walk L m) ≡ 0) × SegmentsKnown ps (joined (ps .field) (texts (walk L m))) shut
 survey-ends {L} {ps} {m} {at} {s} {shut} {table} w is past shuts = (
   none-faulty L m at (w .left) past,
   subst⁻¹ (SegmentsKnown ps (joined (ps .field) (texts (walk L m)))) shuts
-      (subst⁻¹ (λ (ss : List (List ℕ)). SegmentsKnown ps ss (segmentShut (listed table) s)) (none-left L m at (w .left) past)
+      (subst⁻¹ (λ (ss : List (List ℕ)). SegmentsKnown ps ss (segmentShut (followsBy table) s)) (none-left L m at (w .left) past)
       (seen-closed ps s table is (w .done) (w .last) (w .seen))),
 )

@@ -11,12 +11,12 @@ use Rattle.form.specs.declared.separators.Separators.{Separators}
 use Rattle.form.specs.declared.separators.Header.the-variants.{Sound}
 use Rattle.form.specs.Header.{headerOf}
 use Rattle.form.specs.Numbers.{manySegments, unknownKind, noContext, misplacedKind, manyLeaves}
-use Rattle.order.specs.Levels.{levelIn}
+use Rattle.order.specs.Levels.{levelIn, LevelsBelow}
 use Rattle.table.specs.Rows.{FitsRows, allLeaves, tableOf}
 use Rattle.table.specs.Reading.{Outcome, refused, accepted}
 use Rattle.read.specs.declared.decide.Decision.{Decision}
 use Rattle.read.specs.declared.survey.Survey.{Survey}
-use Rattle.read.specs.Filling.{segmentsIn, LevelsBelow, Fillable}
+use Rattle.read.specs.Filling.{segmentsIn, Fillable}
 use Rattle.read.specs.Surveying.{placeSeen}
 
 -- a decision that refuses, by its number and its place

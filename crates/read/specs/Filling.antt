@@ -11,7 +11,7 @@ use Rattle.form.specs.declared.separators.Header.the-variants.{Sound}
 use Rattle.form.specs.Header.{headerOf}
 use Rattle.line.specs.Lines.{walk, texts, faultNumber}
 use Rattle.line.specs.Joining.{joined}
-use Rattle.order.specs.Levels.{levelIn}
+use Rattle.order.specs.Levels.{levelIn, LevelsBelow}
 use Rattle.table.specs.Rows.{FitsRows, Table, contextIn, allLeaves, tableOf, segmentRowSize, leafRowSize}
 use Rattle.table.specs.Classes.{classTable}
 use Rattle.read.specs.Noting.{Noted}
@@ -19,10 +19,6 @@ use Rattle.read.specs.Noting.{Noted}
 -- the joined segments of a message
 abbrev pub segmentsIn : Limits → Separators → List ℕ → List (List ℕ)
 segmentsIn L ps message = joined (ps .field) (texts (walk L message))
-
--- all levels lie below the place above all levels
-abbrev pub LevelsBelow : (ℕ → ℕ → ℕ) → Type 0
-LevelsBelow lv = (context kind : ℕ) → lv context kind < 8
 
 -- what deciding has shown of a message that it accepts: its numbers fit the rows, and its kinds are noted
 pub record Fillable (L : Limits) (class kinds : List ℕ) (ps : Separators) (context : ℕ) (message : List ℕ) : Type 0 where

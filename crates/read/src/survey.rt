@@ -16,7 +16,7 @@ ghost use mathlib.Core.Path.{_≡_};
 ghost use Prim.Native.Nat.{_+_, _-_, _≤_, _<_};
 ghost use lib.ListN.{length, set, take, drop};
 ghost use Rattle.laws.specs.Lists.{firstOf};
-ghost use Rattle.order.specs.Watcher.{listed};
+ghost use Rattle.order.specs.Watcher.{followsBy};
 ghost use Rattle.read.specs.Seeing.{nothingSeen, textJoined, kindSeen, watching, segmentShut, segmentBegun};
 ghost use Rattle.read.specs.Underway.{Seeable, StepOf};
 ghost use Rattle.read.specs.Surveying.{Ready, SurveyOf};
@@ -105,7 +105,7 @@ impl Survey {
     // The open segment is closed: its kind is noted and judged, and the watcher told.
     fn closed(self, followers: &[u8; 847], kinds: &mut [u8]) -> Survey
         requires { ⌜ 1 ≤ self .segments ⌝ }
-        ensures { λ r. ⌜ (r ≡ segmentShut (listed (now (followers .entry))) self)
+        ensures { λ r. ⌜ (r ≡ segmentShut (followsBy (now (followers .entry))) self)
             × (now (kinds .exit) ≡ set (now (kinds .entry)) (self .segments - 1) (kindSeen self)) ⌝ }
     {
         let kind = self.kind_number();

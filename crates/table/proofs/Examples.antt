@@ -11,7 +11,7 @@ use Rattle.form.specs.Names.{kindNames, contextNames, numberAmong, kindOf, cont
 use Rattle.line.specs.Lines.{inside, walkFrom, walk, texts, faultNumber, faultPlace}
 use Rattle.line.specs.Joining.{addendum, carried, joined}
 use Rattle.line.specs.Cutting.{pieces, addenda, cut, cuts, unlines}
-use Rattle.order.specs.Contexts.{segment, H, P, AP, AC, OBR, OBX, FAC, REG, ACT, ERR, L, orders, cover, invoices, bodies, message, grammar}
+use Rattle.order.specs.Contexts.{segment, H, P, AP, AC, OBR, OBX, FAC, REG, ACT, ERR, L, orders, cover, invoices, bodies, messageShape, grammar}
 use Rattle.order.specs.Place.{empties, told, rowTold, rowsTold, rowEmpties, rowsEmpty, placeFrom, misplaced}
 use Rattle.order.specs.Owners.{levels, level, nearest, isC, owner, ownersAfter, owners}
 use Rattle.table.specs.Leaves.{onto, split, leaves, segmentLeaves, headerLeaves, leavesFrom, messageLeaves, kindOfSegment, contextOfHeader}
@@ -22,5 +22,11 @@ use Rattle.table.specs.Examples.{Example, Says, says, read, filed, examp
 
 -- reading each message gives what the example says
 pub examples-hold : map (λ (e : Example). read (e .message)) examples ≡ map (λ (e : Example). e .expected) examples
-unfolding same among count concat numbered firstFrom bytes values lineCount roundedUp within allowed allAllowed different separatorsOf five splitting soundHeader headerOf kindNames contextNames numberAmong kindOf contextOf inside walkFrom walk texts faultNumber faultPlace addendum carried joined pieces addenda cut cuts unlines segment H P AP AC OBR OBX FAC REG ACT ERR L orders cover invoices bodies message grammar empties told rowTold rowsTold rowEmpties rowsEmpty placeFrom misplaced levels level nearest isC owner ownersAfter owners onto split leaves segmentLeaves headerLeaves leavesFrom messageLeaves kindOfSegment contextOfHeader segmentRowsFrom leafRowsFrom textOf kindsOf contextIn allLeaves tableOf refuseIf refuseAt short firstUnknown judged ofMessage reading leafAt leavesOf separatorsAt between unsplitFrom unsplit segmentsOf linesOf written says stated read filed examples k1 k5 k6 k10 k11 k12
+unfolding same among count concat numbered firstFrom bytes values lineCount roundedUp within allowed allAllowed different separatorsOf five splitting
+    soundHeader headerOf kindNames contextNames numberAmong kindOf contextOf inside walkFrom walk texts faultNumber faultPlace addendum carried
+    joined pieces addenda cut cuts unlines segment H P AP AC OBR OBX FAC REG ACT ERR L orders cover invoices bodies messageShape grammar empties told
+    rowTold rowsTold rowEmpties rowsEmpty placeFrom misplaced levels level nearest isC owner ownersAfter owners onto split leaves segmentLeaves
+    headerLeaves leavesFrom messageLeaves kindOfSegment contextOfHeader segmentRowsFrom leafRowsFrom textOf kindsOf contextIn allLeaves tableOf
+    refuseIf refuseAt short firstUnknown judged ofMessage reading leafAt leavesOf separatorsAt between unsplitFrom unsplit segmentsOf linesOf
+    written says stated read filed examples k1 k5 k6 k10 k11 k12
 examples-hold = refl

@@ -10,7 +10,6 @@ use lib.Dec.{eqb, lit≤}
 use lib.ListN.{length, take, drop, getD, take-append-drop}
 use borrow.Author.Tests.{eqb-true, eq-eqb, ne-eqb}
 use Rattle.laws.specs.Every.{All, none, also}
-use Rattle.laws.specs.Each.{Each}
 use Rattle.laws.proofs.Tests.{Tested, passed, failed, tested, and-first, and-second}
 use Rattle.laws.proofs.Every.{all-first, all-rest}
 use Rattle.form.specs.declared.limits.Limits.{Limits}
@@ -40,11 +39,11 @@ use Rattle.table.proofs.Accepting.{Known, Accepted}
 -- text has no CR
 pub text-clear : (s : List ℕ) → Text s → Without CR s
 text-clear [] w = none
-text-clear (b ∷ s) w = also (ne-eqb b CR (λ e. omega (arith, w .0))) (text-clear s (w .1))
+text-clear (b ∷ s) (also h w) = also (ne-eqb b CR (λ e. omega arith)) (text-clear s w)
 
-pub worded-clear : (ss : List (List ℕ)) → Each Worded ss → All (Without CR) ss
+pub worded-clear : (ss : List (List ℕ)) → All Worded ss → All (Without CR) ss
 worded-clear [] w = none
-worded-clear (s ∷ ss) w = also (text-clear s (w .0 .1)) (worded-clear ss (w .1))
+worded-clear (s ∷ ss) (also h w) = also (text-clear s (h .1)) (worded-clear ss w)
 
 -- a segment of known kind has a byte, and is no addendum
 module _ (ps : Separators) where
@@ -82,16 +81,16 @@ module _ (ps : Separators) where
           (known-no-addendum (getD (split (ps .field) (a ∷ b ∷ s)) 0 []) h
           (rw (first, second) (addendum-field s other)))
 
-  pub all-whole : Allowed (ps .field) → (ss : List (List ℕ)) → Known (kindsOf ps ss) → Each (λ (s : List ℕ). addendum (ps .field) s ≡ false) ss
+  pub all-whole : Allowed (ps .field) → (ss : List (List ℕ)) → Known (kindsOf ps ss) → All (λ (s : List ℕ). addendum (ps .field) s ≡ false) ss
   unfolding kindsOf
-  all-whole allowed [] w = tt
-  all-whole allowed (s ∷ ss) w = (known-whole allowed s (all-first w), all-whole allowed ss (all-rest w))
+  all-whole allowed [] w = none
+  all-whole allowed (s ∷ ss) w = also (known-whole allowed s (all-first w)) (all-whole allowed ss (all-rest w))
 
   -- known segments of text are worded
-  pub all-worded : (ss : List (List ℕ)) → Known (kindsOf ps ss) → Each Text ss → Each Worded ss
+  pub all-worded : (ss : List (List ℕ)) → Known (kindsOf ps ss) → All Text ss → All Worded ss
   unfolding kindsOf
-  all-worded [] w t = tt
-  all-worded (s ∷ ss) w t = ((known-some s (all-first w), t .0), all-worded ss (all-rest w) (t .1))
+  all-worded [] w t = none
+  all-worded (s ∷ ss) w (also h t) = also (known-some s (all-first w), h) (all-worded ss (all-rest w) t)
 
   -- lines of which the first begins with the header's bytes join to segments of which the first does
   pub joined-header : (ls : List (List ℕ)) → FirstBegins (headerBytes ps) ls
@@ -110,7 +109,7 @@ module _ {L : Limits} {levels : ℕ → ℕ → ℕ} {room : Room} {m : List ℕ
   pub accepted-header : SoundHeader m (w .separators)
   accepted-header = sound-header m (w .separators) (w .header)
 
-  pub accepted-worded : Each Worded segmentsOfAccepted
+  pub accepted-worded : All Worded segmentsOfAccepted
   unfolding walk
   accepted-worded =
       joined-worded L (w .separators .field) (texts (walk L m)) (texts-sound L (omega (arith, lawful .header)) 0 m)
@@ -130,5 +129,5 @@ module _ {L : Limits} {levels : ℕ → ℕ → ℕ} {room : Room} {m : List ℕ
         lines = worded-clear segmentsOfAccepted accepted-worded;
       }
 
-  pub accepted-whole : Each (λ (s : List ℕ). addendum (w .separators .field) s ≡ false) segmentsOfAccepted
+  pub accepted-whole : All (λ (s : List ℕ). addendum (w .separators .field) s ≡ false) segmentsOfAccepted
   accepted-whole = all-whole (w .separators) (accepted-header .allowed .field) segmentsOfAccepted (w .segments .known)

@@ -77,19 +77,12 @@ module _ (ps : Separators) (allowed : AllAllowed ps) where
 
   pub header-text : Text (headerBytes ps)
   unfolding headerBytes
-  header-text = (
-    lit≤ tt,
-    (
-      text-byte (allowed .field),
-      (
-        text-byte (allowed .subfield),
-        (
-          text-byte (allowed .repeater),
-          (text-byte (allowed .escape), (text-byte (allowed .subsubfield), (text-byte (allowed .field), tt))),
-        ),
-      ),
-    ),
-  )
+  header-text =
+      also (lit≤ tt)
+      (also (text-byte (allowed .field))
+      (also (text-byte (allowed .subfield))
+      (also (text-byte (allowed .repeater))
+      (also (text-byte (allowed .escape)) (also (text-byte (allowed .subsubfield)) (also (text-byte (allowed .field)) none))))))
 
   pub header-clear : Without CR (headerBytes ps)
   unfolding headerBytes

@@ -11,9 +11,7 @@ use lib.ListN.{length, drop, length-take}
 use borrow.Author.Tests.{eqb-true, eq-eqb}
 use Rattle.laws.specs.Lists.{among}
 use Rattle.laws.specs.Every.{All, none, also}
-use Rattle.laws.specs.Each.{Each}
 use Rattle.laws.proofs.Every.{all-append, all-left, all-right, all-first, all-rest, all-drop}
-use Rattle.laws.proofs.Each.{each-append, each-drop}
 use Rattle.laws.proofs.Lists.{among-hit, among-miss}
 use Rattle.laws.proofs.Tests.{Tested, passed, failed, tested, never-both}
 use Rattle.form.specs.declared.separators.Separators.{Separators}
@@ -37,14 +35,6 @@ AllText s = All (λ (b : ℕ). space ≤ b) s
 -- a byte of glued segments: CR, or one of text
 abbrev LineByte : ℕ → Type 0
 LineByte b = (b ≡ CR) ⊎ (space ≤ b)
-
-pub each-all : (s : List ℕ) → Text s → AllText s
-each-all [] w = none
-each-all (b ∷ s) w = also (w .0) (each-all s (w .1))
-
-pub all-each : {s : List ℕ} → AllText s → Text s
-all-each none = tt
-all-each (also h w) = (h, all-each w)
 
 -- a flat split by CR and others: its texts are text where the bytes are, CR aside
 module _ (ps : List ℕ) where
@@ -103,23 +93,23 @@ module _ (ps : List ℕ) where
 -- glued segments
 line-bytes : (s : List ℕ) → Text s → All LineByte s
 line-bytes [] w = none
-line-bytes (b ∷ s) w = also (inr (w .0)) (line-bytes s (w .1))
+line-bytes (b ∷ s) (also h w) = also (inr h) (line-bytes s w)
 
-glued-bytes : (s : List ℕ) (ss : List (List ℕ)) → Each Text (s ∷ ss) → All LineByte (gluedTo s ss)
+glued-bytes : (s : List ℕ) (ss : List (List ℕ)) → All Text (s ∷ ss) → All LineByte (gluedTo s ss)
 unfolding gluedTo
-glued-bytes s [] w = line-bytes s (w .0)
-glued-bytes s (t ∷ ts) w = all-append (line-bytes s (w .0)) (also (inl refl) (glued-bytes t ts (w .1)))
+glued-bytes s [] w = line-bytes s (all-first w)
+glued-bytes s (t ∷ ts) (also h w) = all-append (line-bytes s h) (also (inl refl) (glued-bytes t ts w))
 
 clear-text : {s : List ℕ} → All LineByte s → Without CR s → Text s
-clear-text none v = tt
+clear-text none v = none
 clear-text (also {a = b} (inl e) w) (also no-cr v) = absurd (never-both (eq-eqb b CR e) no-cr)
-clear-text (also (inr h) w) (also no-cr v) = (h, clear-text w v)
+clear-text (also (inr h) w) (also no-cr v) = also h (clear-text w v)
 
-bytes-glued : (s : List ℕ) (ss : List (List ℕ)) → All LineByte (gluedTo s ss) → All (Without CR) (s ∷ ss) → Each Text (s ∷ ss)
+bytes-glued : (s : List ℕ) (ss : List (List ℕ)) → All LineByte (gluedTo s ss) → All (Without CR) (s ∷ ss) → All Text (s ∷ ss)
 unfolding gluedTo
-bytes-glued s [] w (also v vs) = (clear-text w v, tt)
+bytes-glued s [] w (also v vs) = also (clear-text w v) none
 bytes-glued s (t ∷ ts) w (also v vs) =
-    (clear-text (all-left s (CR ∷ gluedTo t ts) w) v, bytes-glued t ts (all-rest (all-right s (CR ∷ gluedTo t ts) w)) vs)
+    also (clear-text (all-left s (CR ∷ gluedTo t ts) w) v) (bytes-glued t ts (all-rest (all-right s (CR ∷ gluedTo t ts) w)) vs)
 
 -- the leaves of filed segments
 module _ (ps : Separators) (allowed : AllAllowed ps) where
@@ -143,7 +133,7 @@ module _ (ps : Separators) (allowed : AllAllowed ps) where
   pub headed-text : (ls : List Leaf) → AllText (textOf ls) → AllText (textOf (headed ps ls))
   unfolding headerBytes textOf
   headed-text ls w =
-      let v = each-all (headerBytes ps) (header-text ps allowed) in
+      let v = header-text ps allowed in
       also (all-first v) (all-append (all-left (ps .subfield ∷ ps .repeater ∷ ps .escape ∷ ps .subsubfield ∷ []) (ps .field ∷ []) (all-drop 2 v)) w)
 
   module _ (h : List ℕ) (ss : List (List ℕ)) (f : Filed ps (h ∷ ss)) where
@@ -155,26 +145,23 @@ module _ (ps : Separators) (allowed : AllAllowed ps) where
     unfolding glued
     rest-glued = drop-gluedTo 7 h ss long
 
-    pub segments-text : Each Text (h ∷ ss) → AllText (textOf (allLeaves ps (h ∷ ss)))
+    pub segments-text : All Text (h ∷ ss) → AllText (textOf (allLeaves ps (h ∷ ss)))
     segments-text w =
         rw (filed-leaves ps h ss f)
         (headed-text (afterHeader ps h ss f)
         (flat-texts (splitting ps) (1 ∷ 3 ∷ 1 ∷ 1 ∷ 1 ∷ []) [] none
-        (rw rest-glued (glued-bytes (drop 7 h) ss (each-drop (λ (b : ℕ). space ≤ b) 7 h (w .0), w .1)))))
+        (rw rest-glued (glued-bytes (drop 7 h) ss (also (all-drop 7 (all-first w)) (all-rest w))))))
 
-    pub text-segments : AllText (textOf (allLeaves ps (h ∷ ss))) → Each Text (h ∷ ss)
+    pub text-segments : AllText (textOf (allLeaves ps (h ∷ ss))) → All Text (h ∷ ss)
     unfolding textOf headerBytes
     text-segments w =
         let others : AllText (textOf (afterHeader ps h ss f)) = all-drop 5 (rw (filed-leaves ps h ss f) at w) in
         let bytes : All LineByte (gluedTo (drop 7 h) ss) =
         rw rest-glued at (texts-flat (splitting ps) splitting-text (1 ∷ 3 ∷ 1 ∷ 1 ∷ 1 ∷ []) [] (drop 7 (glued (h ∷ ss))) others) in
-        let parts : Each Text (drop 7 h ∷ ss) = bytes-glued (drop 7 h) ss bytes (also (all-drop 7 (all-first (f .lines))) (all-rest (f .lines))) in (
-          subst Text (filed-header ps h ss f)
-              (each-append (λ (b : ℕ). space ≤ b) (headerBytes ps) (drop 7 h) (header-text ps allowed) (parts .0)),
-          parts .1,
-        )
+        let parts : All Text (drop 7 h ∷ ss) = bytes-glued (drop 7 h) ss bytes (also (all-drop 7 (all-first (f .lines))) (all-rest (f .lines))) in
+        also (subst Text (filed-header ps h ss f) (all-append (header-text ps allowed) (all-first parts))) (all-rest parts)
 
   -- a message's segments are text exactly where its leaves' texts are
-  pub text-leaves : (ss : List (List ℕ)) → Filed ps ss → Each Text ss ↔ AllText (textOf (allLeaves ps ss))
+  pub text-leaves : (ss : List (List ℕ)) → Filed ps ss → All Text ss ↔ AllText (textOf (allLeaves ps ss))
   text-leaves [] f = absurd (filed-some ps f)
   text-leaves (h ∷ ss) f = (segments-text h ss f, text-segments h ss f)

@@ -7,9 +7,10 @@ use borrow.Author.Tests.{leb-true, le-leb, lt-leb}
 use lib.Dec.{leb}
 use lib.ListN.{length}
 use Rattle.laws.proofs.Tests.{and-first, and-second}
+use Rattle.form.specs.declared.limits.Limits.{Limits}
 use Rattle.table.specs.declared.Card.{Card}
 use Rattle.table.specs.Rows.{Table, segmentRowSize, leafRowSize}
-use Rattle.table.specs.Lent.{Lent, countsFit, withinBuffers, counted, SameCounted}
+use Rattle.table.specs.Lent.{Lent, withinLimits, countsFit, withinBuffers, counted, SameCounted}
 
 module _ (c : Card) (segmentRows leafRows text : ℕ) where
   pub segments-past : segmentRows < c .segments * segmentRowSize → false ≡ countsFit c segmentRows leafRows text
@@ -45,6 +46,35 @@ module _ (c : Card) (segmentRows leafRows text : ℕ) where
     text-within =
         leb-true (c .text) text
         (and-second (leb (c .segments * segmentRowSize) segmentRows && leb (c .leaves * leafRowSize) leafRows) (leb (c .text) text) e)
+
+-- the same of the limits
+module _ (L : Limits) (c : Card) where
+  pub segments-over : L .segments < c .segments → false ≡ withinLimits L c
+  unfolding withinLimits
+  segments-over h = rw (lt-leb (c .segments) (L .segments) h)
+
+  pub leaves-over : c .segments ≤ L .segments → L .leaves < c .leaves → false ≡ withinLimits L c
+  unfolding withinLimits
+  leaves-over few h = rw (le-leb (c .segments) (L .segments) few, lt-leb (c .leaves) (L .leaves) h)
+
+  pub bytes-decide : c .segments ≤ L .segments → c .leaves ≤ L .leaves → leb (c .text) (L .bytes) ≡ withinLimits L c
+  unfolding withinLimits
+  bytes-decide few short = rw (le-leb (c .segments) (L .segments) few, le-leb (c .leaves) (L .leaves) short)
+
+  module _ (e : withinLimits L c ≡ true) where
+    both-counts : (leb (c .segments) (L .segments) && leb (c .leaves) (L .leaves)) ≡ true
+    unfolding withinLimits
+    both-counts = and-first (leb (c .segments) (L .segments) && leb (c .leaves) (L .leaves)) (leb (c .text) (L .bytes)) e
+
+    pub few-segments : c .segments ≤ L .segments
+    few-segments = leb-true (c .segments) (L .segments) (and-first (leb (c .segments) (L .segments)) (leb (c .leaves) (L .leaves)) both-counts)
+
+    pub few-leaves : c .leaves ≤ L .leaves
+    few-leaves = leb-true (c .leaves) (L .leaves) (and-second (leb (c .segments) (L .segments)) (leb (c .leaves) (L .leaves)) both-counts)
+
+    pub few-bytes : c .text ≤ L .bytes
+    unfolding withinLimits
+    few-bytes = leb-true (c .text) (L .bytes) (and-second (leb (c .segments) (L .segments) && leb (c .leaves) (L .leaves)) (leb (c .text) (L .bytes)) e)
 
 -- entries past the counted ones change nothing about whether the counts fit
 pub same-within : (l k : Lent) → SameCounted l k → withinBuffers l ≡ withinBuffers k

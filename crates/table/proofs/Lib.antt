@@ -28,3 +28,4 @@ pub mod SegmentRows
 pub mod SoundRows
 pub mod SegmentTurns
 pub mod Lent
+pub mod Width

@@ -11,7 +11,7 @@ use Rattle.laws.specs.Every.{All}
 use Rattle.laws.proofs.Parts.{left-cons}
 use Rattle.order.specs.Owners.{owner, owners, ownersAfter}
 use Rattle.table.specs.Leaves.{Leaf}
-use Rattle.table.specs.Rows.{segmentRowSize, segmentRowsFrom, RowIs}
+use Rattle.table.specs.Rows.{segmentRowSize, segmentRowsFrom, RowIs, kindIn, ownerIn, firstIn, countIn}
 use Rattle.table.specs.BySegment.{bySegment, kindAmong}
 use Rattle.table.specs.RowTests.{rowsStated}
 use Rattle.table.proofs.BySegment.{InSegment, Ended, group-first}
@@ -33,17 +33,17 @@ owners-stated lv groups = rows-stated lv 1 [] groups
 module _ (rows : List ℕ) (j : ℕ) (long : suc j * segmentRowSize ≤ length rows) where
   -- a row and the rows after it
   row-cons : drop (j * segmentRowSize) rows
-      ≡ getD rows (j * segmentRowSize) 0 ∷ getD rows (j * segmentRowSize + 1) 0 ∷ getD rows (j * segmentRowSize + 2) 0
-      ∷ getD rows (j * segmentRowSize + 3) 0 ∷ drop (suc j * segmentRowSize) rows
+      ≡ kindIn rows j ∷ ownerIn rows j ∷ firstIn rows j
+      ∷ countIn rows j ∷ drop (suc j * segmentRowSize) rows
   row-cons =
       left-cons rows (j * segmentRowSize) 0 (omega arith)
-      ∙ ap (λ (r : List ℕ). getD rows (j * segmentRowSize) 0 ∷ r)
+      ∙ ap (λ (r : List ℕ). kindIn rows j ∷ r)
       (left-cons rows (j * segmentRowSize + 1) 0 (omega arith)
-      ∙ ap (λ (r : List ℕ). getD rows (j * segmentRowSize + 1) 0 ∷ r)
+      ∙ ap (λ (r : List ℕ). ownerIn rows j ∷ r)
       (next 1 2 (omega arith) (omega arith)
-      ∙ ap (λ (r : List ℕ). getD rows (j * segmentRowSize + 2) 0 ∷ r)
+      ∙ ap (λ (r : List ℕ). firstIn rows j ∷ r)
       (next 2 3 (omega arith) (omega arith)
-      ∙ ap (λ (k : ℕ). getD rows (j * segmentRowSize + 3) 0 ∷ drop k rows) after)))
+      ∙ ap (λ (k : ℕ). countIn rows j ∷ drop k rows) after)))
     where
       next : (k n : ℕ) → n ≡ k + 1 → n ≤ 3
           → drop (j * segmentRowSize + k + 1) rows ≡ getD rows (j * segmentRowSize + n) 0 ∷ drop (j * segmentRowSize + n + 1) rows

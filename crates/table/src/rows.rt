@@ -1,13 +1,14 @@
 // The layout of a table's rows: how many numbers a row has, which stands where, and how wide each is. Whoever reads or writes a row names
 // these.
 use crate::Card;
+use order::owners::Row;
 ghost use mathlib.Core.Path.{_≡_};
 ghost use Prim.Native.Nat.{_<_};
 ghost use Rattle.table.specs.Rows.{width};
 ghost use Rattle.table.specs.Lent.{countsFit};
 
-// One number of a row.
-pub type Entry = u16;
+// One number of a row, as wide as the number of a row is.
+pub type Entry = Row;
 
 // A segment row: the kind stands first, then these.
 pub const SEGMENT_ROW: usize = 4;

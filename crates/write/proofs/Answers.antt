@@ -16,10 +16,11 @@ use Rattle.write.specs.declared.Written.{Written}
 use Rattle.write.specs.declared.lines.Going.{Going}
 use Rattle.table.specs.Lent.{Lent, counted, lent}
 use Rattle.write.specs.Writing.{writes, isTable, writing}
-use Rattle.write.specs.Passing.{FourWithin, Writable, WrittenOut}
-use Rattle.write.specs.Answer.{answer, outputAfter, message, Tested}
+use Rattle.write.specs.Passing.{Writable, WrittenOut}
+use Rattle.write.specs.Answer.{answer, outputAfter, messageWritten, Tested}
 use Rattle.write.proofs.LentTables.{table-written-out}
 use Rattle.write.proofs.TablesWritten.{table-four, table-writable, table-message}
+use Rattle.write.specs.Asked.{FourWithin}
 
 -- the segment rows change nothing of what is written
 module _ (L : Limits) (card : Card) (segmentRows rows text : List ℕ) where
@@ -28,8 +29,8 @@ module _ (L : Limits) (card : Card) (segmentRows rows text : List ℕ) where
   lines-by-leaves = refl
 
   pub message-by-leaves : writes (written L (counted (lent card segmentRows rows text))) (length (linesOf L (counted (lent card segmentRows rows text))))
-      ≡ message L card rows text
-  unfolding message written
+      ≡ messageWritten L card rows text
+  unfolding messageWritten written
   message-by-leaves = ap (λ (ls : List (List ℕ)). writes (unlines ls) (length ls)) lines-by-leaves
 
 module _ {L : Limits} {card : Card} {rows text : List ℕ} (lawful : Lawful L) (w : Tested L card rows text) where
@@ -41,8 +42,8 @@ module _ {L : Limits} {card : Card} {rows text : List ℕ} (lawful : Lawful L) (
     tested-writable = table-writable L lawful (w .levels) (lent card (w .segmentRows) rows text) (w .passed) e
 
     pub tested-answer : {output output′ : List ℕ} {r : Going} → WrittenOut L ps rows (card .leaves) text output r output′
-        → (_≡_ {A = Written} (record { number = 0; place = 0; bytes = r .out; lines = r .lines }) (answer (message L card rows text)))
-        × (output′ ≡ outputAfter output (message L card rows text))
+        → (_≡_ {A = Written} (record { number = 0; place = 0; bytes = r .out; lines = r .lines }) (answer (messageWritten L card rows text)))
+        × (output′ ≡ outputAfter output (messageWritten L card rows text))
     unfolding answer outputAfter
     tested-answer {output} v =
         let m = table-message L lawful (w .levels) (lent card (w .segmentRows) rows text) (w .passed) e v in
@@ -54,7 +55,7 @@ module _ {L : Limits} {card : Card} {rows text : List ℕ} (lawful : Lawful L) (
 -- the answer of writing a lent table, by cases: each return of `write` is one of these
 module _ (L : Limits) (lawful : Lawful L) (levels : ℕ → ℕ → ℕ) (l : Lent) (output : ℕ) where
   pub writing-message : ltb output (L .bytes) ≡ false → isTable L levels l ≡ true
-      → writing L levels l output ≡ message L (l .card) (l .leafRows) (l .text)
+      → writing L levels l output ≡ messageWritten L (l .card) (l .leafRows) (l .text)
   writing-message h e =
       table-written-out L lawful levels l output h e ∙ message-by-leaves L (l .card) (l .segmentRows) (l .leafRows) (l .text)
 

@@ -1,45 +1,44 @@
 -- The kinds and the owners that segment rows state, row by row: their order, and whether the owners are the kinds'.
 -- Assumes nothing.
-use mathlib.Core.Bool.{Bool, true, false, _&&_}
-use mathlib.Core.List.{List, [], _∷_}
+use mathlib.Core.Bool.{true, false, _&&_}
+use mathlib.Core.List.{List, _∷_}
 use mathlib.Core.Path.{_≡_, refl, sym, ap, ap₂, _∙_, subst}
-use Prim.Native.Nat.{ℕ, suc, _+_, _-_, _*_, _≤_, _<_}
+use Prim.Native.Nat.{ℕ, _+_, _-_, _≤_, _<_}
 use native.Mathlib.Omega.{arith}
 use lib.Dec.{eqb}
 use lib.ListN.{length, drop, getD, drop-of-length-le}
 use borrow.Author.Tests.{eq-eqb, ne-eqb, eqb-true, eqb-false}
 use Rattle.laws.specs.Lists.{same}
-use Rattle.laws.specs.Tables.{values}
 use Rattle.laws.proofs.Parts.{left-cons}
 use Rattle.laws.proofs.Tables.{length-values, getD-values-zero}
 use Rattle.laws.proofs.Tests.{Tested, passed, failed, tested, and-passed, and-fails-first}
 use Rattle.order.specs.Owners.{owners}
-use Rattle.order.specs.Owning.{Owned}
+use Rattle.order.specs.Owning.{Owned, noRows}
 use Rattle.order.specs.Place.{misplaced}
 use Rattle.order.specs.Watcher.{begun, tellOf}
 use Rattle.order.specs.declared.watcher.Watcher.{Watcher}
 use Rattle.order.specs.declared.watcher.Told.{Told}
 use Rattle.order.proofs.Checking.{Checked, check-begins, check-yes, check-no, check-whole, check-short}
-use Rattle.order.proofs.Owner.{RowsKnown, rows-begin, row-read, length-owners}
-use Rattle.table.specs.Rows.{segmentRowSize}
+use Rattle.order.proofs.Owner.{RowsKnown, row-read, length-owners, rows-begin}
+use Rattle.table.specs.Rows.{kindIn, ownerIn}
 use Rattle.write.specs.Tests.{kindColumn, ownerColumn}
 
 module _ (rows : List ℕ) (n : ℕ) where
   pub length-kinds : length (kindColumn rows n) ≡ n
   unfolding kindColumn
-  length-kinds = length-values (λ (i : ℕ). getD rows (i * segmentRowSize) 0) 0 n
+  length-kinds = length-values (λ (i : ℕ). kindIn rows i) 0 n
 
-  pub kind-at : (i : ℕ) → i < n → getD (kindColumn rows n) i 0 ≡ getD rows (i * segmentRowSize) 0
+  pub kind-at : (i : ℕ) → i < n → getD (kindColumn rows n) i 0 ≡ kindIn rows i
   unfolding kindColumn
-  kind-at i h = getD-values-zero (λ (k : ℕ). getD rows (k * segmentRowSize) 0) n i 0 h
+  kind-at i h = getD-values-zero (λ (k : ℕ). kindIn rows k) n i 0 h
 
   length-column : length (ownerColumn rows n) ≡ n
   unfolding ownerColumn
-  length-column = length-values (λ (i : ℕ). getD rows (i * segmentRowSize + 1) 0) 0 n
+  length-column = length-values (λ (i : ℕ). ownerIn rows i) 0 n
 
-  owner-at : (i : ℕ) → i < n → getD (ownerColumn rows n) i 0 ≡ getD rows (i * segmentRowSize + 1) 0
+  owner-at : (i : ℕ) → i < n → getD (ownerColumn rows n) i 0 ≡ ownerIn rows i
   unfolding ownerColumn
-  owner-at i h = getD-values-zero (λ (k : ℕ). getD rows (k * segmentRowSize + 1) 0) n i 0 h
+  owner-at i h = getD-values-zero (λ (k : ℕ). ownerIn rows k) n i 0 h
 
 -- the order of the kinds: the watcher has said yes to those of the first i rows
 pub record Ordering (c : ℕ) (rows : List ℕ) (n i : ℕ) (w : Watcher) : Type 0 where
@@ -51,7 +50,7 @@ ordering-begins {c} {rows} {n} e =
     record { within = omega arith; checked = subst (Checked c (kindColumn rows n) 0) (sym e) (check-begins c (kindColumn rows n)) }
 
 module _ {c : ℕ} {rows : List ℕ} {n i : ℕ} {w : Watcher} (h : Ordering c rows n i w) where
-  module _ (l : i < n) {k : ℕ} (e : k ≡ getD rows (i * segmentRowSize) 0) {r : Told} (t : r ≡ tellOf w k) where
+  module _ (l : i < n) {k : ℕ} (e : k ≡ kindIn rows i) {r : Told} (t : r ≡ tellOf w k) where
     told-so : r ≡ tellOf w (getD (kindColumn rows n) i 0)
     told-so = t ∙ ap (tellOf w) (e ∙ sym (kind-at rows n i l))
 
@@ -79,11 +78,12 @@ pub record Owning (lv : ℕ → ℕ) (rows : List ℕ) (n i : ℕ) (near : List 
   pub known : RowsKnown lv (kindColumn rows n) i near
   pub so : same (drop i (ownerColumn rows n)) (drop i (owners lv (kindColumn rows n))) ≡ same (ownerColumn rows n) (owners lv (kindColumn rows n))
 
-pub owning-begins : {lv : ℕ → ℕ} {rows : List ℕ} {n : ℕ} {near : List ℕ} → RowsKnown lv (kindColumn rows n) 0 near → Owning lv rows n 0 near
-owning-begins w = record { within = omega arith; known = w; so = refl }
+pub owning-begins : (lv : ℕ → ℕ) (rows : List ℕ) (n : ℕ) {near : List ℕ} → near ≡ noRows → Owning lv rows n 0 near
+owning-begins lv rows n e =
+    record { within = omega arith; known = subst (RowsKnown lv (kindColumn rows n) 0) (sym e) (rows-begin lv (kindColumn rows n)); so = refl }
 
 module _ {lv : ℕ → ℕ} {rows : List ℕ} {n i : ℕ} {near : List ℕ} (w : Owning lv rows n i near) (few : (j : ℕ) → lv j < 8) (h : i < n)
-    {after : List ℕ} {row k l o : ℕ} (e : row ≡ i + 1) (f : k ≡ getD rows (i * segmentRowSize) 0) (g : l ≡ lv k) (v : Owned near after row k l o) where
+    {after : List ℕ} {row k l o : ℕ} (e : row ≡ i + 1) (f : k ≡ kindIn rows i) (g : l ≡ lv k) (v : Owned near after row k l o) where
   abbrev ks : List ℕ
   ks = kindColumn rows n
 
@@ -96,7 +96,7 @@ module _ {lv : ℕ → ℕ} {rows : List ℕ} {n i : ℕ} {near : List ℕ} (w :
   read : (o ≡ getD (owners lv ks) i 0) × RowsKnown lv ks (i + 1) after
   read = row-read lv few (w .known) inside e (g ∙ ap lv kind) (subst (λ (j : ℕ). Owned near after row j l o) kind v)
 
-  owning-turn : (eqb (getD rows (i * segmentRowSize + 1) 0) o && same (drop (i + 1) (ownerColumn rows n)) (drop (i + 1) (owners lv ks)))
+  owning-turn : (eqb (ownerIn rows i) o && same (drop (i + 1) (ownerColumn rows n)) (drop (i + 1) (owners lv ks)))
       ≡ same (ownerColumn rows n) (owners lv ks)
   unfolding same
   owning-turn =
@@ -105,18 +105,18 @@ module _ {lv : ℕ → ℕ} {rows : List ℕ} {n i : ℕ} {near : List ℕ} (w :
       (sym (left-cons (owners lv ks) i 0 (omega (arith, length-owners lv ks, length-kinds rows n))))
       ∙ w .so
 
-  pub owning-fails : (o ≡ getD rows (i * segmentRowSize + 1) 0 → ⊥) → false ≡ same (ownerColumn rows n) (owners lv ks)
+  pub owning-fails : (o ≡ ownerIn rows i → ⊥) → false ≡ same (ownerColumn rows n) (owners lv ks)
   owning-fails d =
-      sym (and-fails-first (same (drop (i + 1) (ownerColumn rows n)) (drop (i + 1) (owners lv ks))) (ne-eqb (getD rows (i * segmentRowSize + 1) 0) o (λ z. d (sym z))))
+      sym (and-fails-first (same (drop (i + 1) (ownerColumn rows n)) (drop (i + 1) (owners lv ks))) (ne-eqb (ownerIn rows i) o (λ z. d (sym z))))
       ∙ owning-turn
 
-  pub owning-on : o ≡ getD rows (i * segmentRowSize + 1) 0 → Owning lv rows n (i + 1) after
+  pub owning-on : o ≡ ownerIn rows i → Owning lv rows n (i + 1) after
   owning-on d =
       record {
         within = omega arith;
         known = read .1;
         so =
-            sym (and-passed (same (drop (i + 1) (ownerColumn rows n)) (drop (i + 1) (owners lv ks))) (eq-eqb (getD rows (i * segmentRowSize + 1) 0) o (sym d)))
+            sym (and-passed (same (drop (i + 1) (ownerColumn rows n)) (drop (i + 1) (owners lv ks))) (eq-eqb (ownerIn rows i) o (sym d)))
             ∙ owning-turn;
       }
 

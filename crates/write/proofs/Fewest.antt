@@ -6,9 +6,9 @@ use mathlib.Core.Path.{_≡_, refl}
 use Prim.Native.Nat.{ℕ, _+_, _*_, _≤_}
 use native.Mathlib.Omega.{arith}
 use lib.ListN.{length}
-use Rattle.laws.specs.Each.{Each}
+use Rattle.laws.specs.Every.{All, none}
 use Rattle.laws.specs.Sums.{sumOf}
-use Rattle.laws.proofs.Each.{each-append}
+use Rattle.laws.proofs.Every.{all-append}
 use Rattle.form.specs.declared.limits.Limits.{Limits}
 use Rattle.form.specs.Limits.{Lawful, lineCount}
 use Rattle.line.specs.Lines.{walk, texts}
@@ -41,13 +41,13 @@ module _ (L : Limits) (lawful : Lawful L) where
         (texts-sound L (omega (arith, lawful .header)) 0 m) refl)
 
   -- "A line has at most 219 bytes before its CR": of any table, whatever it holds
-  pub cuts-short : (f : ℕ) (ss : List (List ℕ)) → Each (λ (l : List ℕ). length l ≤ L .line) (cuts L f ss)
-  cuts-short f [] = rw (cuts-nil L f) tt
+  pub cuts-short : (f : ℕ) (ss : List (List ℕ)) → All (λ (l : List ℕ). length l ≤ L .line) (cuts L f ss)
+  cuts-short f [] = rw (cuts-nil L f) none
   cuts-short f (s ∷ ss) =
       rw (cuts-cons L f s ss)
-      (each-append (λ (l : List ℕ). length l ≤ L .line) (cut L f s) (cuts L f ss) (cut-short L lawful f s) (cuts-short f ss))
+      (all-append (cut-short L lawful f s) (cuts-short f ss))
 
-  pub lines-short : (t : Table) → Each (λ (l : List ℕ). length l ≤ L .line) (linesOf L t)
+  pub lines-short : (t : Table) → All (λ (l : List ℕ). length l ≤ L .line) (linesOf L t)
   unfolding linesOf
   lines-short t = cuts-short (t .card .separator) (segmentsOf t)
 

@@ -4,103 +4,99 @@ use mathlib.Core.Bool.{Bool, true, false, not, _&&_, cond}
 use mathlib.Core.List.{List, [], _∷_, _++_}
 use mathlib.Core.Logic.{_⊎_, inl, inr}
 use mathlib.Core.Path.{_≡_, refl, sym, ap, ap₂, _∙_, subst}
-use Prim.Native.Nat.{ℕ, zero, suc, _+_, _-_, _*_, _≤_, _<_}
-use native.Mathlib.Nat.{div-le-self}
+use Prim.Native.Nat.{ℕ, zero, suc, _+_, _-_, _≤_, _<_}
 use native.Mathlib.Omega.{arith}
 use native.Mathlib.Numerals.{add-one}
 use lib.Dec.{eqb}
 use lib.ListN.{length, getD}
 use borrow.Author.Tests.{eqb-true, eq-eqb, ne-eqb, lt-ltb, le-ltb}
 use Rattle.laws.specs.Every.{All}
-use Rattle.laws.specs.Sums.{sumOf}
 use Rattle.laws.specs.Tables.{values}
 use Rattle.laws.proofs.Cases.{less-or-not}
 use Rattle.laws.proofs.Every.{all-of}
 use Rattle.laws.proofs.Tables.{length-values, getD-values}
 use Rattle.laws.proofs.Tests.{Tested, passed, failed, tested, never-both, and-first, and-second, and-passed, and-fails-first, and-fails-second}
-use Rattle.form.specs.declared.limits.Limits.{Limits}
-use Rattle.form.specs.Limits.{Lawful, lineCount, linesUnder, roundedUp}
-use Rattle.form.proofs.LineCount.{one-line, more-lines, lines-lawful}
 use Rattle.form.specs.Names.{numberAmong, contextNames}
 use Rattle.table.specs.Leaves.{Leaf}
-use Rattle.table.specs.Rows.{leafRowSize, textOf, segmentRowSize}
+use Rattle.table.specs.Rows.{kindIn, firstIn, countIn, segmentIn, fieldIn}
 use Rattle.table.specs.Flat.{leaf}
 use Rattle.table.specs.Back.{leafAt}
-use Rattle.table.specs.BySegment.{segmentOf, withLeaf, bySegment, kindAmong, numberOfField, contextAmong, segmentBytes, writtenBytes}
+use Rattle.table.specs.BySegment.{segmentOf, withLeaf, bySegment, kindAmong, numberOfField, contextAmong}
 use Rattle.table.proofs.BySegment.{InSegment, Ended, group-first}
-use Rattle.write.specs.Tests.{leavesFrom, SegmentEnd, FieldLeaf, rowStates, groupsStated}
+use Rattle.write.specs.Tests.{leavesBetween, SegmentEnd, FieldLeaf, rowStates, groupsStated}
+use Rattle.write.proofs.Said.{answered-no, answered-yes}
 use Rattle.write.proofs.SegmentTests.{row-segment, leaves-cons, leaves-none, SomeEnd, segment-ends}
 
 -- all the leaves
-pub leaves-all : (rows text : List ℕ) (count : ℕ) → leavesFrom rows text 0 count ≡ values (leafAt rows text) 0 count
+pub leaves-all : (rows text : List ℕ) (count : ℕ) → leavesBetween rows text 0 count ≡ values (leafAt rows text) 0 count
 leaves-all rows text count = ap (values (leafAt rows text) 0) (let e : count - 0 ≡ count = omega arith in e)
 
 -- leaves up to one, and the others
-leaves-append : (rows text : List ℕ) (n a b c : ℕ) → b ≡ a + n → b ≤ c → leavesFrom rows text a c ≡ leavesFrom rows text a b ++ leavesFrom rows text b c
+leaves-append : (rows text : List ℕ) (n a b c : ℕ) → b ≡ a + n → b ≤ c → leavesBetween rows text a c ≡ leavesBetween rows text a b ++ leavesBetween rows text b c
 leaves-append rows text zero a b c e h =
-    ap (λ (k : ℕ). leavesFrom rows text k c) (let q : a ≡ b = omega arith in q)
-    ∙ ap (λ (ls : List Leaf). ls ++ leavesFrom rows text b c) (sym (leaves-none rows text a b (omega arith)))
+    ap (λ (k : ℕ). leavesBetween rows text k c) (let q : a ≡ b = omega arith in q)
+    ∙ ap (λ (ls : List Leaf). ls ++ leavesBetween rows text b c) (sym (leaves-none rows text a b (omega arith)))
 leaves-append rows text (suc n) a b c e h =
     leaves-cons rows text a c (omega arith)
     ∙ ap (λ (ls : List Leaf). leafAt rows text a ∷ ls) (leaves-append rows text n (a + 1) b c (omega arith) h)
-    ∙ ap (λ (ls : List Leaf). ls ++ leavesFrom rows text b c) (sym (leaves-cons rows text a b (omega arith)))
+    ∙ ap (λ (ls : List Leaf). ls ++ leavesBetween rows text b c) (sym (leaves-cons rows text a b (omega arith)))
 
 -- the first segment of the leaves from one on
 module _ (rows text : List ℕ) {count first end : ℕ} (w : SegmentEnd rows count first end) where
   abbrev number : ℕ
-  number = getD rows (first * leafRowSize) 0
+  number = segmentIn rows first
 
-  inside : All (InSegment number) (leavesFrom rows text (first + 1) end)
+  inside : All (InSegment number) (leavesBetween rows text (first + 1) end)
   inside =
-      all-of (leavesFrom rows text (first + 1) end) (leaf [] [])
+      all-of (leavesBetween rows text (first + 1) end) (leaf [] [])
       (λ i less.
       let l : i < end - (first + 1) = omega (arith, length-values (leafAt rows text) (first + 1) (end - (first + 1))) in
       ap segmentOf (getD-values (leafAt rows text) (first + 1) (end - (first + 1)) i (leaf [] []) l)
       ∙ row-segment rows text (first + 1 + i)
       ∙ w .within (first + 1 + i) (omega arith) (omega arith))
 
-  ended-by : (end < count) ⊎ (count ≤ end) → Ended number (leavesFrom rows text end count)
+  ended-by : (end < count) ⊎ (count ≤ end) → Ended number (leavesBetween rows text end count)
   ended-by (inl h) = subst (Ended number) (sym (leaves-cons rows text end count h)) (λ e. w .other h (sym (row-segment rows text end) ∙ e))
   ended-by (inr h) = subst (Ended number) (sym (leaves-none rows text end count h)) tt
 
-  pub first-segment : bySegment (leavesFrom rows text first count) ≡ leavesFrom rows text first end ∷ bySegment (leavesFrom rows text end count)
+  pub first-segment : bySegment (leavesBetween rows text first count) ≡ leavesBetween rows text first end ∷ bySegment (leavesBetween rows text end count)
   first-segment =
       ap bySegment
       (leaves-cons rows text first count (omega (arith, w .from, w .to))
       ∙ ap (λ (ls : List Leaf). leafAt rows text first ∷ ls)
       (leaves-append rows text (end - (first + 1)) (first + 1) end count (omega (arith, w .from)) (w .to)))
-      ∙ group-first (leafAt rows text first) (leavesFrom rows text end count) (row-segment rows text first) inside (ended-by (less-or-not end count))
-      ∙ ap (λ (g : List Leaf). g ∷ bySegment (leavesFrom rows text end count)) (sym (leaves-cons rows text first end (w .from)))
+      ∙ group-first (leafAt rows text first) (leavesBetween rows text end count) (row-segment rows text first) inside (ended-by (less-or-not end count))
+      ∙ ap (λ (g : List Leaf). g ∷ bySegment (leavesBetween rows text end count)) (sym (leaves-cons rows text first end (w .from)))
 
-  pub segment-count : length (leavesFrom rows text first end) ≡ end - first
+  pub segment-count : length (leavesBetween rows text first end) ≡ end - first
   segment-count = length-values (leafAt rows text) first (end - first)
 
 -- the number of a field where its leaf was found, and where not
 module _ {rows : List ℕ} {field first end at : ℕ} (w : FieldLeaf rows field first end at) (names : List (List ℕ)) (text : List ℕ) where
-  pub field-missing : at ≡ end → 0 ≡ numberOfField names field (leavesFrom rows text first end)
+  pub field-missing : at ≡ end → 0 ≡ numberOfField names field (leavesBetween rows text first end)
   field-missing e =
       sym (w .number names text ∙ ap (λ (b : Bool). cond b (numberAmong names (leafAt rows text at .text)) 0) (le-ltb at end (omega arith)))
 
-  pub field-found : (at ≡ end → ⊥) → numberAmong names (leafAt rows text at .text) ≡ numberOfField names field (leavesFrom rows text first end)
+  pub field-found : (at ≡ end → ⊥) → numberAmong names (leafAt rows text at .text) ≡ numberOfField names field (leavesBetween rows text first end)
   field-found n =
       sym (w .number names text ∙ ap (λ (b : Bool). cond b (numberAmong names (leafAt rows text at .text)) 0) (lt-ltb at end (omega (arith, w .to, n))))
 
 -- the context: field 7 of the first segment
 pub context-first : (rows text : List ℕ) {count end : ℕ} → SegmentEnd rows count 0 end
-    → numberOfField contextNames 7 (leavesFrom rows text 0 end) ≡ contextAmong (bySegment (values (leafAt rows text) 0 count))
+    → numberOfField contextNames 7 (leavesBetween rows text 0 end) ≡ contextAmong (bySegment (values (leafAt rows text) 0 count))
 unfolding contextAmong
 context-first rows text {count} w =
     ap (λ (gs : List (List Leaf)). numberOfField contextNames 7 (getD gs 0 [])) (sym (first-segment rows text w) ∙ ap bySegment (leaves-all rows text count))
 
 -- the leaf at which a segment begins is of field 1
-pub record Headed (rows : List ℕ) (count first : ℕ) : Type 0 where
-  pub head : first < count → getD rows (first * leafRowSize + 1) 0 ≡ 1
+pub record FieldOne (rows : List ℕ) (count first : ℕ) : Type 0 where
+  pub head : first < count → fieldIn rows first ≡ 1
 
 -- segment rows: the first i state the segments of the leaves up to `first`
 pub record Grouping (segments : List ℕ) (many : ℕ) (rows text : List ℕ) (count i first : ℕ) : Type 0 where
   pub within : i ≤ many
   pub to : first ≤ count
-  pub so : groupsStated segments i (many - i) (first + 1) (bySegment (leavesFrom rows text first count))
+  pub so : groupsStated segments i (many - i) (first + 1) (bySegment (leavesBetween rows text first count))
       ≡ groupsStated segments 0 many 1 (bySegment (values (leafAt rows text) 0 count))
 
 pub grouping-begins : {segments : List ℕ} {many : ℕ} {rows text : List ℕ} {count : ℕ} → Grouping segments many rows text count 0 0
@@ -136,20 +132,20 @@ module _ {segments : List ℕ} {many : ℕ} {rows text : List ℕ} {count i firs
 
   module _ {end : ℕ} (h : i < many) (v : SegmentEnd rows count first end) where
     abbrev stated : Bool
-    stated = rowStates segments i (kindAmong (leavesFrom rows text first end)) (first + 1) (end - first)
+    stated = rowStates segments i (kindAmong (leavesBetween rows text first end)) (first + 1) (end - first)
 
     abbrev others : Bool
-    others = groupsStated segments (i + 1) (many - (i + 1)) (end + 1) (bySegment (leavesFrom rows text end count))
+    others = groupsStated segments (i + 1) (many - (i + 1)) (end + 1) (bySegment (leavesBetween rows text end count))
 
     grouping-turn : (stated && others) ≡ Whole
     unfolding groupsStated
     grouping-turn =
-        ap₂ (λ (n k : ℕ). rowStates segments i (kindAmong (leavesFrom rows text first end)) (first + 1) n
-        && groupsStated segments k (many - (i + 1)) (end + 1) (bySegment (leavesFrom rows text end count)))
+        ap₂ (λ (n k : ℕ). rowStates segments i (kindAmong (leavesBetween rows text first end)) (first + 1) n
+        && groupsStated segments k (many - (i + 1)) (end + 1) (bySegment (leavesBetween rows text end count)))
         (sym (segment-count rows text v)) (add-one i)
-        ∙ ap (λ (k : ℕ). rowStates segments i (kindAmong (leavesFrom rows text first end)) (first + 1) (length (leavesFrom rows text first end))
-        && groupsStated segments (suc i) (many - (i + 1)) k (bySegment (leavesFrom rows text end count)))
-        (let q : end + 1 ≡ first + 1 + length (leavesFrom rows text first end) = omega (arith, segment-count rows text v, v .from) in q)
+        ∙ ap (λ (k : ℕ). rowStates segments i (kindAmong (leavesBetween rows text first end)) (first + 1) (length (leavesBetween rows text first end))
+        && groupsStated segments (suc i) (many - (i + 1)) k (bySegment (leavesBetween rows text end count)))
+        (let q : end + 1 ≡ first + 1 + length (leavesBetween rows text first end) = omega (arith, segment-count rows text v, v .from) in q)
         ∙ ap₂ (λ (n : ℕ) (gs : List (List Leaf)). groupsStated segments i n (first + 1) gs)
         (let q : suc (many - (i + 1)) ≡ many - i = omega arith in q) (sym (first-segment rows text v))
         ∙ w .so
@@ -160,12 +156,25 @@ module _ {segments : List ℕ} {many : ℕ} {rows text : List ℕ} {count i firs
     pub grouping-on : stated ≡ true → Grouping segments many rows text count (i + 1) end
     grouping-on e = record { within = omega arith; to = v .to; so = sym (and-passed others e) ∙ grouping-turn }
 
-  grouping-over : (first < count) ⊎ (count ≤ first) → eqb first count ≡ groupsStated segments i 0 (first + 1) (bySegment (leavesFrom rows text first count))
+  -- as the code tests it
+  module _ (h : i < many) (leaves : ℕ) (v : SegmentEnd rows count first (first + leaves)) {kind : ℕ} {r : Bool}
+      (is : kind ≡ kindAmong (leavesBetween rows text first (first + leaves))) (said : r ≡ rowStates segments i kind (first + 1) leaves) where
+    said-so : r ≡ stated h v
+    said-so =
+        said ∙ ap₂ (λ (k n : ℕ). rowStates segments i k (first + 1) n) is (let e : leaves ≡ first + leaves - first = omega arith in e)
+
+    pub stated-wrong : not r ≡ true → false ≡ Whole
+    stated-wrong e = grouping-fails h v (answered-no said-so e)
+
+    pub stated-right : not r ≡ false → Grouping segments many rows text count (i + 1) (first + leaves)
+    stated-right e = grouping-on h v (answered-yes said-so e)
+
+  grouping-over : (first < count) ⊎ (count ≤ first) → eqb first count ≡ groupsStated segments i 0 (first + 1) (bySegment (leavesBetween rows text first count))
   unfolding groupsStated bySegment
   grouping-over (inl h) =
       ne-eqb first count (λ e. let z : ⊥ = omega arith in z)
       ∙ sym (ap (λ (ls : List Leaf). groupsStated segments i 0 (first + 1) (bySegment ls)) (leaves-cons rows text first count h)
-      ∙ stated-more segments i (first + 1) (leafAt rows text first) (bySegment (leavesFrom rows text (first + 1) count)))
+      ∙ stated-more segments i (first + 1) (leafAt rows text first) (bySegment (leavesBetween rows text (first + 1) count)))
   grouping-over (inr h) =
       eq-eqb first count (omega (arith, w .to))
       ∙ sym (ap (λ (ls : List Leaf). groupsStated segments i 0 (first + 1) (bySegment ls)) (leaves-none rows text first count h))
@@ -173,42 +182,12 @@ module _ {segments : List ℕ} {many : ℕ} {rows text : List ℕ} {count i firs
   pub grouping-done : many ≤ i → eqb first count ≡ Whole
   grouping-done h =
       grouping-over (less-or-not first count)
-      ∙ ap (λ (n : ℕ). groupsStated segments i n (first + 1) (bySegment (leavesFrom rows text first count))) (let q : 0 ≡ many - i = omega arith in q)
+      ∙ ap (λ (n : ℕ). groupsStated segments i n (first + 1) (bySegment (leavesBetween rows text first count))) (let q : 0 ≡ many - i = omega arith in q)
       ∙ w .so
-
--- written bytes: those of the segments of the leaves up to `first` have been counted; a segment has less than 2^34 of them
-pub record Counting (L : Limits) (rows text : List ℕ) (count first total : ℕ) : Type 0 where
-  pub to : first ≤ count
-  pub few : total ≤ first * 17179869184
-  pub so : total + sumOf (writtenBytes L) (bySegment (leavesFrom rows text first count))
-      ≡ sumOf (writtenBytes L) (bySegment (values (leafAt rows text) 0 count))
-
-pub counting-begins : {L : Limits} {rows text : List ℕ} {count : ℕ} → Counting L rows text count 0 0
-counting-begins {L} {rows} {text} {count} =
-    record {
-      to = omega arith;
-      few = omega arith;
-      so = omega (arith, ap (λ (ls : List Leaf). sumOf (writtenBytes L) (bySegment ls)) (leaves-all rows text count));
-    }
-
-module _ {L : Limits} {rows text : List ℕ} {count first total : ℕ} (w : Counting L rows text count first total) where
-  pub counting-on : {end : ℕ} → SegmentEnd rows count first end → {bytes : ℕ} → bytes ≡ writtenBytes L (leavesFrom rows text first end)
-      → bytes ≤ 17179869184 → Counting L rows text count end (total + bytes)
-  unfolding sumOf
-  counting-on v e h =
-      record {
-        to = v .to;
-        few = omega (arith, w .few, v .from);
-        so = omega (arith, e, w .so, ap (sumOf (writtenBytes L)) (first-segment rows text v));
-      }
-
-  pub counting-done : count ≤ first → total ≡ sumOf (writtenBytes L) (bySegment (values (leafAt rows text) 0 count))
-  unfolding sumOf bySegment
-  counting-done h = omega (arith, w .so, ap (λ (ls : List Leaf). sumOf (writtenBytes L) (bySegment ls)) (leaves-none rows text first count h))
 
 -- a row that states another count than its segment has
 pub grouping-otherwise : {segments : List ℕ} {many : ℕ} {rows text : List ℕ} {count i first : ℕ} → Grouping segments many rows text count i first → i < many
-    → {stated : ℕ} → stated ≡ getD segments (i * segmentRowSize + 3) 0 → (SegmentEnd rows count first (first + stated) → ⊥)
+    → {stated : ℕ} → stated ≡ countIn segments i → (SegmentEnd rows count first (first + stated) → ⊥)
     → false ≡ groupsStated segments 0 many 1 (bySegment (values (leafAt rows text) 0 count))
 unfolding rowStates
 grouping-otherwise {segments} {many} {rows} {text} {count} {i} {first} w h {stated} is n = go (less-or-not first count)
@@ -217,10 +196,10 @@ grouping-otherwise {segments} {many} {rows} {text} {count} {i} {first} w h {stat
     refuted v =
         grouping-fails w h (v .ends)
         (and-fails-second
-        (not (eqb (kindAmong (leavesFrom rows text first (v .end))) 0)
-        && eqb (getD segments (i * segmentRowSize) 0) (kindAmong (leavesFrom rows text first (v .end)))
-        && eqb (getD segments (i * segmentRowSize + 2) 0) (first + 1))
-        (ne-eqb (getD segments (i * segmentRowSize + 3) 0) (v .end - first)
+        (not (eqb (kindAmong (leavesBetween rows text first (v .end))) 0)
+        && eqb (kindIn segments i) (kindAmong (leavesBetween rows text first (v .end)))
+        && eqb (firstIn segments i) (first + 1))
+        (ne-eqb (countIn segments i) (v .end - first)
         (λ e. n (subst (SegmentEnd rows count first) (let q : v .end ≡ first + stated = omega (arith, v .ends .from, is, e) in q) (v .ends)))))
 
     go : (first < count) ⊎ (count ≤ first) → false ≡ groupsStated segments 0 many 1 (bySegment (values (leafAt rows text) 0 count))
@@ -234,22 +213,22 @@ pub record StatedEnd (segments : List ℕ) (many : ℕ) (rows text : List ℕ) (
 
 pub grouping-ends : {segments : List ℕ} {many : ℕ} {rows text : List ℕ} {count i first : ℕ} → Grouping segments many rows text count i first → i < many
     → groupsStated segments 0 many 1 (bySegment (values (leafAt rows text) 0 count)) ≡ true
-    → {stated : ℕ} → stated ≡ getD segments (i * segmentRowSize + 3) 0 → StatedEnd segments many rows text count i first (first + stated)
+    → {stated : ℕ} → stated ≡ countIn segments i → StatedEnd segments many rows text count i first (first + stated)
 unfolding rowStates
 grouping-ends {segments} {many} {rows} {text} {count} {i} {first} w h all {stated} is = go (less-or-not first count)
   where
     found : SomeEnd rows count first → StatedEnd segments many rows text count i first (first + stated)
     found v =
-        let states = rowStates segments i (kindAmong (leavesFrom rows text first (v .end))) (first + 1) (v .end - first) in
-        let later = groupsStated segments (i + 1) (many - (i + 1)) (v .end + 1) (bySegment (leavesFrom rows text (v .end) count)) in
+        let states = rowStates segments i (kindAmong (leavesBetween rows text first (v .end))) (first + 1) (v .end - first) in
+        let later = groupsStated segments (i + 1) (many - (i + 1)) (v .end + 1) (bySegment (leavesBetween rows text (v .end) count)) in
         let so : states ≡ true = and-first states later (grouping-turn w h (v .ends) ∙ all) in
-        let counts : getD segments (i * segmentRowSize + 3) 0 ≡ v .end - first =
-        eqb-true (getD segments (i * segmentRowSize + 3) 0) (v .end - first)
+        let counts : countIn segments i ≡ v .end - first =
+        eqb-true (countIn segments i) (v .end - first)
         (and-second
-        (not (eqb (kindAmong (leavesFrom rows text first (v .end))) 0)
-        && eqb (getD segments (i * segmentRowSize) 0) (kindAmong (leavesFrom rows text first (v .end)))
-        && eqb (getD segments (i * segmentRowSize + 2) 0) (first + 1))
-        (eqb (getD segments (i * segmentRowSize + 3) 0) (v .end - first)) so) in
+        (not (eqb (kindAmong (leavesBetween rows text first (v .end))) 0)
+        && eqb (kindIn segments i) (kindAmong (leavesBetween rows text first (v .end)))
+        && eqb (firstIn segments i) (first + 1))
+        (eqb (countIn segments i) (v .end - first)) so) in
         subst (StatedEnd segments many rows text count i first) (let q : v .end ≡ first + stated = omega (arith, v .ends .from, is, counts) in q)
         (record { ends = v .ends; on = grouping-on w h (v .ends) so })
 
@@ -261,29 +240,3 @@ grouping-ends {segments} {many} {rows} {text} {count} {i} {first} w h all {state
 pub grouping-all : {segments : List ℕ} {many : ℕ} {rows text : List ℕ} {count i first : ℕ} → Grouping segments many rows text count i first → many ≤ i
     → groupsStated segments 0 many 1 (bySegment (values (leafAt rows text) 0 count)) ≡ true → first ≡ count
 grouping-all {count = count} {first = first} w h all = eqb-true first count (grouping-done w h ∙ all)
-
--- the bytes of one segment, within what a count holds
-pub few-lines : (L : Limits) → Lawful L → (n : ℕ) → lineCount L n ≤ n + 1
-unfolding roundedUp
-few-lines L lawful n = go (less-or-not (L .line) n)
-  where
-    go : (L .line < n) ⊎ (n ≤ L .line) → lineCount L n ≤ n + 1
-    go (inl h) = omega (arith, more-lines L n h, div-le-self (n - L .line + (L .more - 1)) (L .more), lawful .addendum)
-    go (inr h) = omega (arith, one-line L n h)
-
-pub segment-written : (L : Limits) → Lawful L → (rows text : List ℕ) (first end : ℕ) → first < end → {bytes lines : ℕ}
-    → bytes ≡ length (textOf (leavesFrom rows text first end)) → lines ≡ linesUnder L (bytes + (end - first - 1))
-    → bytes + (end - first - 1) + 3 * lines - 2 ≡ writtenBytes L (leavesFrom rows text first end)
-unfolding writtenBytes segmentBytes
-segment-written L lawful rows text first end h {bytes} {lines} e f =
-    ap₂ (λ (n k : ℕ). n + 3 * k - 2) size (f ∙ lines-lawful L (bytes + (end - first - 1)) (lawful .addendum) (lawful .header) ∙ ap (lineCount L) size)
-  where
-    size : bytes + (end - first - 1) ≡ length (textOf (leavesFrom rows text first end)) + (length (leavesFrom rows text first end) - 1)
-    size = omega (arith, e, length-values (leafAt rows text) first (end - first))
-
-pub some-lines : (L : Limits) (n : ℕ) → 1 ≤ lineCount L n
-some-lines L n = go (less-or-not (L .line) n)
-  where
-    go : (L .line < n) ⊎ (n ≤ L .line) → 1 ≤ lineCount L n
-    go (inl h) = omega (arith, more-lines L n h)
-    go (inr h) = omega (arith, one-line L n h)

@@ -3,7 +3,7 @@
 use mathlib.Core.Bool.{true, false, _&&_}
 use mathlib.Core.List.{List}
 use mathlib.Core.Path.{_≡_, refl, sym, ap, _∙_}
-use Prim.Native.Nat.{ℕ, suc, _+_, _-_, _*_, _≤_, _<_}
+use Prim.Native.Nat.{ℕ, suc, _+_, _-_, _≤_, _<_, _*_}
 use native.Mathlib.Omega.{arith}
 use native.Mathlib.Numerals.{add-one}
 use lib.Dec.{eqb}
@@ -11,14 +11,14 @@ use lib.ListN.{length, take, drop, getD}
 use borrow.Author.Tests.{eq-eqb, ne-eqb}
 use Rattle.laws.proofs.Parts.{part-cons, part-none}
 use Rattle.laws.proofs.Tests.{and-passed, and-fails-first}
-use Rattle.table.specs.Rows.{leafRowSize}
+use Rattle.table.specs.Rows.{startIn, lengthIn, width}
 use Rattle.table.specs.RowTests.{endToEnd, leafText}
 use Rattle.write.specs.Tests.{leafByte}
 
 -- texts end to end: i rows have been passed, and the next one is to begin at `start`
 pub record Ending (rows : List ℕ) (finish count i start : ℕ) : Type 0 where
   pub within : i ≤ count
-  pub small : start < 131072
+  pub small : start < 2 * width
   pub so : endToEnd rows finish i (count - i) start ≡ endToEnd rows finish 0 count 0
 
 pub ending-begins : (rows : List ℕ) (finish count : ℕ) → Ending rows finish count 0 0
@@ -27,29 +27,29 @@ ending-begins rows finish count =
 
 module _ {rows : List ℕ} {finish count i start : ℕ} (w : Ending rows finish count i start) where
   ending-turn : i < count
-      → (eqb (getD rows (i * leafRowSize + 5) 0) start
-      && endToEnd rows finish (i + 1) (count - (i + 1)) (start + getD rows (i * leafRowSize + 6) 0))
+      → (eqb (startIn rows i) start
+      && endToEnd rows finish (i + 1) (count - (i + 1)) (start + lengthIn rows i))
       ≡ endToEnd rows finish 0 count 0
   unfolding endToEnd
   ending-turn h =
-      ap (λ (k : ℕ). eqb (getD rows (i * leafRowSize + 5) 0) start && endToEnd rows finish k (count - (i + 1)) (start + getD rows (i * leafRowSize + 6) 0)) (add-one i)
+      ap (λ (k : ℕ). eqb (startIn rows i) start && endToEnd rows finish k (count - (i + 1)) (start + lengthIn rows i)) (add-one i)
       ∙ ap (λ (n : ℕ). endToEnd rows finish i n start) (let e : suc (count - (i + 1)) ≡ count - i = omega arith in e)
       ∙ w .so
 
-  pub ending-fails : i < count → (getD rows (i * leafRowSize + 5) 0 ≡ start → ⊥) → false ≡ endToEnd rows finish 0 count 0
+  pub ending-fails : i < count → (startIn rows i ≡ start → ⊥) → false ≡ endToEnd rows finish 0 count 0
   ending-fails h n =
-      sym (and-fails-first (endToEnd rows finish (i + 1) (count - (i + 1)) (start + getD rows (i * leafRowSize + 6) 0)) (ne-eqb (getD rows (i * leafRowSize + 5) 0) start n))
+      sym (and-fails-first (endToEnd rows finish (i + 1) (count - (i + 1)) (start + lengthIn rows i)) (ne-eqb (startIn rows i) start n))
       ∙ ending-turn h
 
-  pub ending-on : i < count → getD rows (i * leafRowSize + 5) 0 ≡ start → getD rows (i * leafRowSize + 5) 0 < 65536
-      → {size : ℕ} → size ≡ getD rows (i * leafRowSize + 6) 0 → size < 65536 → Ending rows finish count (i + 1) (start + size)
+  pub ending-on : i < count → startIn rows i ≡ start → startIn rows i < width
+      → {size : ℕ} → size ≡ lengthIn rows i → size < width → Ending rows finish count (i + 1) (start + size)
   ending-on h e low {size} s few =
       record {
         within = omega arith;
         small = omega arith;
         so =
             ap (λ (k : ℕ). endToEnd rows finish (i + 1) (count - (i + 1)) (start + k)) s
-            ∙ sym (and-passed (endToEnd rows finish (i + 1) (count - (i + 1)) (start + getD rows (i * leafRowSize + 6) 0)) (eq-eqb (getD rows (i * leafRowSize + 5) 0) start e))
+            ∙ sym (and-passed (endToEnd rows finish (i + 1) (count - (i + 1)) (start + lengthIn rows i)) (eq-eqb (startIn rows i) start e))
             ∙ ending-turn h;
       }
 

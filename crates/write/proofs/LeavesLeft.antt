@@ -4,10 +4,10 @@ use mathlib.Core.Bool.{true, false}
 use mathlib.Core.List.{List, [], _∷_, _++_, append-assoc}
 use mathlib.Core.Logic.{_⊎_, inl, inr}
 use mathlib.Core.Path.{_≡_, refl, sym, ap, ap₂, _∙_, subst}
-use Prim.Native.Nat.{ℕ, suc, _+_, _*_, _-_, _≤_, _<_}
+use Prim.Native.Nat.{ℕ, suc, _+_, _-_, _≤_, _<_}
 use native.Mathlib.Omega.{arith}
 use lib.Dec.{eqb}
-use lib.ListN.{length, getD, take, drop}
+use lib.ListN.{length, take, drop}
 use lib.Seq.{sets}
 use borrow.Author.Tests.{eq-eqb, ne-eqb}
 use Rattle.laws.specs.Tables.{values}
@@ -22,10 +22,13 @@ use Rattle.line.specs.Cutting.{unlines}
 use Rattle.table.specs.Leaves.{Leaf}
 use Rattle.table.specs.Back.{leafAt, between, unsplitFrom, unsplit}
 use Rattle.write.specs.declared.lines.Going.{Going}
-use Rattle.write.specs.Filling.{Stand, stand, closed, puts, Fits, InSegment}
+use Rattle.write.specs.Filling.{Stand, stand, segmentClosed, puts, Fits, InSegment}
+use Rattle.write.specs.Asked.{PartInside, RoomForEnd, SeparatorFits}
+use Rattle.write.proofs.SegmentTests.{stated-text}
 use Rattle.write.specs.Passing.{LeafWithin, linesOfRows, leading, Writable, WrittenOut}
 use Rattle.write.proofs.Filling.{going, puts-append, puts-kept, fits-first, fits-next, close-fits, closed-one}
 use Rattle.write.proofs.LinesFilled.{lines-filled}
+use Rattle.table.specs.Rows.{startIn, lengthIn}
 
 -- the separator after the leaf of a row: the one that leads to the next leaf, and CR after the last
 unfoldable pub separatorAfter : Separators → List ℕ → ℕ → ℕ → ℕ
@@ -47,24 +50,20 @@ module _ (ps : Separators) (rows : List ℕ) (count row : ℕ) where
   inner-separator n = rw (ne-eqb (row + 1) count n, separatorAfter)
 
 -- the text of a leaf, by the start and the length that its row states
-module _ (rows text : List ℕ) (i : ℕ) where
-  pub leaf-part : {start size : ℕ} → start ≡ getD rows (i * 7 + 5) 0 → size ≡ getD rows (i * 7 + 6) 0
-      → take (start + size - start) (drop start text) ≡ leafAt rows text i .text
-  unfolding leafAt
-  leaf-part {start} {size} a b =
-      ap₂ (λ (n k : ℕ). take n (drop k text)) (let e : start + size - start ≡ getD rows (i * 7 + 6) 0 = omega arith in e) a
+module _ (rows text : List ℕ) (i : ℕ) {start size : ℕ} (a : start ≡ startIn rows i) (b : size ≡ lengthIn rows i) where
+  leaf-part : take (start + size - start) (drop start text) ≡ leafAt rows text i .text
+  leaf-part = stated-text rows text i (record { starts = a; ends = ap (λ (n : ℕ). start + n) b })
 
-  pub leaf-asked : {L : Limits} {f : ℕ} {s : Stand} {start size : ℕ} → start ≡ getD rows (i * 7 + 5) 0 → size ≡ getD rows (i * 7 + 6) 0
-      → Lawful L → LeafWithin rows text i → Fits L f s (leafAt rows text i .text)
-      → Lawful L × (start ≤ start + size) × (start + size ≤ length text) × InSegment (take (start + size - start) (drop start text))
-      × Fits L f s (take (start + size - start) (drop start text))
-  leaf-asked {L} {f} {s} a b lawful w fits = (
-    lawful,
-    omega arith,
-    omega (arith, w .within),
-    subst InSegment (sym (leaf-part a b)) (w .inSegment),
-    subst (Fits L f s) (sym (leaf-part a b)) fits,
-  )
+  leaf-asked : {L : Limits} {f : ℕ} {s : Stand} → Lawful L → LeafWithin rows text i → Fits L f s (leafAt rows text i .text)
+      → PartInside L f s text start (start + size)
+  leaf-asked {L} {f} {s} lawful w fits =
+      record {
+        lawful = lawful;
+        upTo = omega arith;
+        within = omega (arith, w .within);
+        inside = subst InSegment (sym leaf-part) (w .inSegment);
+        fits = subst (Fits L f s) (sym leaf-part) fits;
+      }
 
 -- leaves, each with the separator after it; CR after the last
 unfoldable pub after : List ℕ → Leaf → List Leaf → ℕ
@@ -123,122 +122,136 @@ module _ (ps : Separators) (rows : List ℕ) (count : ℕ) (text : List ℕ) whe
       ∙ ap (λ (n : ℕ). whole (CR ∷ splitting ps) (values (leafAt rows text) 0 n)) (let e : suc (count - 1) ≡ count - 0 = omega arith in e)
 
   module _ (L : Limits) where
-    abbrev f : ℕ
-    f = ps .field
-
     pub record LeavesLeft (s₀ s : Stand) (row from : ℕ) : Type 0 where
       pub upTo : row ≤ count
       pub fits : Fits L (ps .field) s (ahead row)
       pub same : length (s .output) ≡ length (s₀ .output)
       pub gives : puts L (ps .field) s (ahead row) ≡ puts L (ps .field) s₀ (ahead 0)
-      pub here : row < count → from ≡ getD rows (row * 7 + 5) 0
+      pub here : row < count → from ≡ startIn rows row
 
-    -- one turn: a leaf, and the separator after it
-    module _ {output₀ : List ℕ} (a : Writable L ps rows count text output₀) {s₀ s : Stand} {row from : ℕ} (w : LeavesLeft s₀ s row from) (less : row < count)
-        {size : ℕ} (is : size ≡ getD rows (row * 7 + 6) 0) where
-      own : List ℕ
-      own = leafAt rows text row .text
+-- one turn: a leaf, and the separator after it
+module _ {L : Limits} {ps : Separators} {rows : List ℕ} {count : ℕ} {text output₀ : List ℕ} (a : Writable L ps rows count text output₀) {s₀ s : Stand} {row from : ℕ}
+    (w : LeavesLeft ps rows count text L s₀ s row from) (less : row < count) {size : ℕ} (is : size ≡ lengthIn rows row) where
+  abbrev f : ℕ
+  f = ps .field
 
-      split-fits : Fits L f s (own ++ rest row)
+  abbrev onward : ℕ → List ℕ
+  onward = ahead ps rows count text
+
+  abbrev behind : List ℕ
+  behind = rest ps rows count text row
+
+  own : List ℕ
+  own = leafAt rows text row .text
+
+  split-fits : Fits L f s (own ++ behind)
+  unfolding own
+  split-fits = subst (Fits L f s) (ahead-more ps rows count text row less) (w .fits)
+
+  part-is : take (from + size - from) (drop from text) ≡ own
+  unfolding own
+  part-is = leaf-part rows text row (w .here less) is
+
+  pub leaf-fits : PartInside L f s text from (from + size)
+  unfolding own
+  leaf-fits = leaf-asked rows text row (w .here less) is (a .lawful) (a .leaves row less) (fits-first L f s own (behind) split-fits)
+
+  module _ {t : Stand} (d : t ≡ puts L f s (take (from + size - from) (drop from text))) where
+    put-own : t ≡ puts L f s own
+    put-own = d ∙ ap (puts L f s) part-is
+
+    rest-fits : Fits L f t (behind)
+    rest-fits = subst (λ (u : Stand). Fits L f u (behind)) (sym put-own) (fits-next L f s own (behind) split-fits)
+
+    module _ {b : ℕ} (e : b ≡ separatorAfter ps rows count row) where
+      separator-fits : Fits L f t (b ∷ [])
+      separator-fits =
+          subst (λ (n : ℕ). Fits L f t (n ∷ [])) (sym e) (fits-first L f t (separatorAfter ps rows count row ∷ []) (onward (row + 1)) rest-fits)
+
+      separator-turn : {u : Stand} → u ≡ puts L f t (b ∷ []) → LeavesLeft ps rows count text L s₀ u (row + 1) (from + size)
       unfolding own
-      split-fits = subst (Fits L f s) (ahead-more row less) (w .fits)
-
-      part-is : take (from + size - from) (drop from text) ≡ own
-      unfolding own
-      part-is = leaf-part rows text row (w .here less) is
-
-      pub leaf-fits : Lawful L × (from ≤ from + size) × (from + size ≤ length text) × InSegment (take (from + size - from) (drop from text))
-          × Fits L f s (take (from + size - from) (drop from text))
-      unfolding own
-      leaf-fits = leaf-asked rows text row (w .here less) is (a .lawful) (a .leaves row less) (fits-first L f s own (rest row) split-fits)
-
-      module _ {t : Stand} (d : t ≡ puts L f s (take (from + size - from) (drop from text))) where
-        put-own : t ≡ puts L f s own
-        put-own = d ∙ ap (puts L f s) part-is
-
-        rest-fits : Fits L f t (rest row)
-        rest-fits = subst (λ (u : Stand). Fits L f u (rest row)) (sym put-own) (fits-next L f s own (rest row) split-fits)
-
-        module _ {b : ℕ} (e : b ≡ separatorAfter ps rows count row) where
-          separator-fits : Fits L f t (b ∷ [])
-          separator-fits =
-              subst (λ (n : ℕ). Fits L f t (n ∷ [])) (sym e) (fits-first L f t (separatorAfter ps rows count row ∷ []) (ahead (row + 1)) rest-fits)
-
-          separator-turn : {u : Stand} → u ≡ puts L f t (b ∷ []) → LeavesLeft s₀ u (row + 1) (from + size)
-          unfolding own
-          separator-turn {u} c =
-              let sep = separatorAfter ps rows count row ∷ [] in
-              let put-sep : u ≡ puts L f t sep = c ∙ ap (λ (n : ℕ). puts L f t (n ∷ [])) e in
-              record {
-                upTo = omega arith;
-                fits = subst (λ (v : Stand). Fits L f v (ahead (row + 1))) (sym put-sep) (fits-next L f t sep (ahead (row + 1)) rest-fits);
-                same =
-                    ap (λ (v : Stand). length (v .output)) put-sep
-                    ∙ puts-kept L f t sep .same-length
-                    ∙ ap (λ (v : Stand). length (v .output)) put-own
-                    ∙ puts-kept L f s own .same-length
-                    ∙ w .same;
-                gives =
-                    ap (λ (v : Stand). puts L f v (ahead (row + 1))) put-sep
-                    ∙ sym (puts-append L f t sep (ahead (row + 1)))
-                    ∙ ap (λ (v : Stand). puts L f v (rest row)) put-own
-                    ∙ sym (puts-append L f s own (rest row))
-                    ∙ ap (puts L f s) (sym (ahead-more row less))
-                    ∙ w .gives;
-                here = λ more. ap₂ _+_ (w .here less) is ∙ sym (a .next row more);
-              }
-
-        -- the last leaf: CR ends its segment
-        module _ (last : row + 1 ≡ count) where
-          pub last-fits : (suc (t .going .out) ≤ length (t .output)) × (t .going .lines ≤ t .going .out)
-          last-fits = close-fits L f t CR refl (separator-fits (sym (last-separator ps rows count row last)))
-
-          pub last-turn : {u : Stand} → u ≡ closed L t → LeavesLeft s₀ u (row + 1) (from + size)
-          last-turn c = separator-turn (sym (last-separator ps rows count row last)) (closed-one L f t CR refl c)
-
-        -- another: a separator leads to the next
-        module _ (more : row + 1 ≡ count → ⊥) where
-          pub leading-fits : Fits L f t (leading ps rows row ∷ [])
-          leading-fits = separator-fits (sym (inner-separator ps rows count row more))
-
-          pub leading-turn : {u : Stand} → u ≡ puts L f t (leading ps rows row ∷ []) → LeavesLeft s₀ u (row + 1) (from + size)
-          leading-turn = separator-turn (sym (inner-separator ps rows count row more))
-
-    -- the pass over all rows
-    module _ {output : List ℕ} (w : Writable L ps rows count text output) where
-      begin : Stand
-      begin = stand output (going 0 (L .line) 0)
-
-      written : puts L f begin (ahead 0)
-          ≡ stand (sets output 0 (unlines (linesOfRows L ps rows count text)))
-          (going (length (unlines (linesOfRows L ps rows count text))) (L .line) (length (linesOfRows L ps rows count text)))
-      unfolding linesOfRows begin
-      written =
-          ap (puts L f begin) (sym (all-ahead (w .some)))
-          ∙ lines-filled L (w .lawful) f output (unsplit (CR ∷ splitting ps) (values (leafAt rows text) 0 count))
-
-      pub leaves-begin : LeavesLeft (stand output (going 0 (L .line) 0)) (stand output (going 0 (L .line) 0)) 0 0
-      unfolding begin
-      leaves-begin =
+      separator-turn {u} c =
+          let sep = separatorAfter ps rows count row ∷ [] in
+          let put-sep : u ≡ puts L f t sep = c ∙ ap (λ (n : ℕ). puts L f t (n ∷ [])) e in
           record {
             upTo = omega arith;
-            fits = record { holds = omega (arith, ap (λ (s : Stand). s .going .out) written, w .fits); lines = omega arith };
-            same = refl;
-            gives = refl;
-            here = λ h. sym (w .first);
+            fits = subst (λ (v : Stand). Fits L f v (onward (row + 1))) (sym put-sep) (fits-next L f t sep (onward (row + 1)) rest-fits);
+            same =
+                ap (λ (v : Stand). length (v .output)) put-sep
+                ∙ puts-kept L f t sep .same-length
+                ∙ ap (λ (v : Stand). length (v .output)) put-own
+                ∙ puts-kept L f s own .same-length
+                ∙ w .same;
+            gives =
+                ap (λ (v : Stand). puts L f v (onward (row + 1))) put-sep
+                ∙ sym (puts-append L f t sep (onward (row + 1)))
+                ∙ ap (λ (v : Stand). puts L f v (behind)) put-own
+                ∙ sym (puts-append L f s own (behind))
+                ∙ ap (puts L f s) (sym (ahead-more ps rows count text row less))
+                ∙ w .gives;
+            here = λ more. ap₂ _+_ (w .here less) is ∙ sym (a .next row more);
           }
 
-      pub leaves-written : {output′ : List ℕ} {r : Going} {row from : ℕ}
-          → LeavesLeft (stand output (going 0 (L .line) 0)) (stand output′ r) row from → count ≤ row
-          → WrittenOut L ps rows count text output r output′
-      unfolding begin puts
-      leaves-written {output′} {r} {row} v h =
-          let e : stand output′ r
-          ≡ stand (sets output 0 (unlines (linesOfRows L ps rows count text)))
-          (going (length (unlines (linesOfRows L ps rows count text))) (L .line) (length (linesOfRows L ps rows count text))) =
-          ap (puts L f (stand output′ r)) (sym (ahead-none row h)) ∙ v .gives ∙ written in
+    -- the last leaf: CR ends its segment
+    module _ (last : row + 1 ≡ count) where
+      pub last-fits : RoomForEnd (t .going) (t .output) 1
+      last-fits = close-fits L f t CR refl (separator-fits (sym (last-separator ps rows count row last)))
+
+      pub last-turn : {u : Stand} → u ≡ segmentClosed L t → LeavesLeft ps rows count text L s₀ u (row + 1) (from + size)
+      last-turn c = separator-turn (sym (last-separator ps rows count row last)) (closed-one L f t CR refl c)
+
+    -- another: a separator leads to the next
+    module _ (more : row + 1 ≡ count → ⊥) where
+      pub leading-fits : SeparatorFits L ps t rows row
+      leading-fits =
           record {
-            message = ap (λ (s : Stand). s .output) e;
-            bytes = ap (λ (s : Stand). s .going .out) e;
-            lines = ap (λ (s : Stand). s .going .lines) e;
+            lawful = a .lawful;
+            splits = a .splits;
+            rowThere = record { long = omega (arith, a .long); next = a .places row (omega arith) };
+            fits = separator-fits (sym (inner-separator ps rows count row more));
           }
+
+      pub leading-turn : {u : Stand} → u ≡ puts L f t (leading ps rows row ∷ []) → LeavesLeft ps rows count text L s₀ u (row + 1) (from + size)
+      leading-turn = separator-turn (sym (inner-separator ps rows count row more))
+
+-- the pass over all rows
+module _ {L : Limits} {ps : Separators} {rows : List ℕ} {count : ℕ} {text output : List ℕ} (w : Writable L ps rows count text output) where
+  abbrev field : ℕ
+  field = ps .field
+
+  begin : Stand
+  begin = stand output (going 0 (L .line) 0)
+
+  written : puts L field begin (ahead ps rows count text 0)
+      ≡ stand (sets output 0 (unlines (linesOfRows L ps rows count text)))
+      (going (length (unlines (linesOfRows L ps rows count text))) (L .line) (length (linesOfRows L ps rows count text)))
+  unfolding linesOfRows begin
+  written =
+      ap (puts L field begin) (sym (all-ahead ps rows count text (w .some)))
+      ∙ lines-filled L (w .lawful) field output (unsplit (CR ∷ splitting ps) (values (leafAt rows text) 0 count))
+
+  pub leaves-begin : LeavesLeft ps rows count text L (stand output (going 0 (L .line) 0)) (stand output (going 0 (L .line) 0)) 0 0
+  unfolding begin
+  leaves-begin =
+      record {
+        upTo = omega arith;
+        fits = record { holds = omega (arith, ap (λ (s : Stand). s .going .out) written, w .fits); lines = omega arith };
+        same = refl;
+        gives = refl;
+        here = λ h. sym (w .first);
+      }
+
+  pub leaves-written : {output′ : List ℕ} {r : Going} {row from : ℕ}
+      → LeavesLeft ps rows count text L (stand output (going 0 (L .line) 0)) (stand output′ r) row from → count ≤ row
+      → WrittenOut L ps rows count text output r output′
+  unfolding begin puts
+  leaves-written {output′} {r} {row} v h =
+      let e : stand output′ r
+      ≡ stand (sets output 0 (unlines (linesOfRows L ps rows count text)))
+      (going (length (unlines (linesOfRows L ps rows count text))) (L .line) (length (linesOfRows L ps rows count text))) =
+      ap (puts L field (stand output′ r)) (sym (ahead-none ps rows count text row h)) ∙ v .gives ∙ written in
+      record {
+        message = ap (λ (s : Stand). s .output) e;
+        bytes = ap (λ (s : Stand). s .going .out) e;
+        lines = ap (λ (s : Stand). s .going .lines) e;
+      }

@@ -7,22 +7,24 @@ use mathlib.Core.Logic.{_↔_}
 use mathlib.Core.Path.{_≡_, refl, sym, ap, _∙_, subst}
 use Prim.Native.Nat.{ℕ, _*_, _≤_}
 use native.Mathlib.Omega.{arith}
-use lib.Dec.{leb, ltb}
+use lib.Dec.{ltb}
 use lib.ListN.{length}
 use lib.Seq.{length-take-le}
-use borrow.Author.Tests.{leb-true, le-leb}
+use borrow.Author.Tests.{le-leb}
+use Rattle.laws.proofs.Every.{all-first, all-rest}
 use Rattle.laws.proofs.Tests.{Tested, passed, failed, tested, and-first, and-second, and-both}
 use Rattle.form.specs.declared.limits.Limits.{Limits}
 use Rattle.form.specs.Limits.{Lawful}
 use Rattle.form.specs.Numbers.{shortOutput, noTable}
 use Rattle.line.specs.Lines.{walk, texts}
 use Rattle.line.specs.Cutting.{cuts}
-use Rattle.line.proofs.Walking.{texts-linesOf}
+use Rattle.line.proofs.Walking.{texts-given}
 use Rattle.line.proofs.Written.{walk-written}
 use Rattle.table.specs.Filed.{headerBytes}
 use Rattle.table.specs.Rows.{Table, segmentRowSize, leafRowSize, textOf}
 use Rattle.table.specs.Reading.{accepted, reading, stated}
 use Rattle.table.specs.Back.{leavesOf, linesOf, written}
+use Rattle.table.proofs.Lent.{segments-within, leaves-within, text-within}
 use Rattle.table.proofs.Accepting.{Accepted, accepting}
 use Rattle.table.proofs.BySegment.{concat-bySegment}
 use Rattle.table.proofs.Filing.{segmentsOfAccepted, accepted-header, accepted-worded}
@@ -45,20 +47,19 @@ pub record Within (l : Lent) : Type 0 where
 pub within-buffers : (l : Lent) → (withinBuffers l ≡ true) ↔ Within l
 unfolding countsFit
 within-buffers l =
-    let a = leb (l .card .segments * segmentRowSize) (length (l .segmentRows)) in
-    let b = leb (l .card .leaves * leafRowSize) (length (l .leafRows)) in
-    let c = leb (l .card .text) (length (l .text)) in (
+    let rows = length (l .segmentRows) in
+    let leaves = length (l .leafRows) in
+    let text = length (l .text) in (
       λ h.
           record {
-            segmentRows = leb-true (l .card .segments * segmentRowSize) (length (l .segmentRows)) (and-first a b (and-first (a && b) c h));
-            leafRows = leb-true (l .card .leaves * leafRowSize) (length (l .leafRows)) (and-second a b (and-first (a && b) c h));
-            text = leb-true (l .card .text) (length (l .text)) (and-second (a && b) c h);
+            segmentRows = segments-within (l .card) rows leaves text h;
+            leafRows = leaves-within (l .card) rows leaves text h;
+            text = text-within (l .card) rows leaves text h;
           },
       λ w.
           and-both
-          (and-both (le-leb (l .card .segments * segmentRowSize) (length (l .segmentRows)) (w .segmentRows))
-          (le-leb (l .card .leaves * leafRowSize) (length (l .leafRows)) (w .leafRows)))
-          (le-leb (l .card .text) (length (l .text)) (w .text)),
+          (and-both (le-leb (l .card .segments * segmentRowSize) rows (w .segmentRows)) (le-leb (l .card .leaves * leafRowSize) leaves (w .leafRows)))
+          (le-leb (l .card .text) text (w .text)),
     )
 
 -- then the counted entries are as many as the card says
@@ -100,6 +101,13 @@ module _ (L : Limits) (lawful : Lawful L) (levels : ℕ → ℕ → ℕ) where
       let c = readsBack L levels (counted l) in
       (and-second a b (and-first (a && b) c h), and-second (a && b) c h)
 
+  pub table-within : (l : Lent) → isTable L levels l ≡ true → withinLimits L (l .card) ≡ true
+  unfolding isTable
+  table-within l h =
+      let a = withinLimits L (l .card) in
+      let b = withinBuffers l in
+      and-first a b (and-first (a && b) (readsBack L levels (counted l)) h)
+
   tested-so : (l : Lent) → withinBuffers l ≡ true → Local L levels (counted l) → readsBack L levels (counted l) ≡ true → isTable L levels l ≡ true
   unfolding isTable counted
   tested-so l within w back = and-both (and-both (local-within (counted l) w) within) back
@@ -128,9 +136,9 @@ module _ (L : Limits) (lawful : Lawful L) (levels : ℕ → ℕ → ℕ) where
     accepted-lines =
         ap (λ (s : List ℕ). texts (walk L s)) (table-written lawful w)
         ∙ ap texts
-        (walk-written L lawful (w .separators .field) (header-text (w .separators) (accepted-header lawful w .allowed) .1 .0)
+        (walk-written L lawful (w .separators .field) (all-first (all-rest (header-text (w .separators) (accepted-header lawful w .allowed))))
         (segmentsOfAccepted lawful w) (accepted-worded lawful w))
-        ∙ texts-linesOf (cuts L (w .separators .field) (segmentsOfAccepted lawful w))
+        ∙ texts-given (cuts L (w .separators .field) (segmentsOfAccepted lawful w))
         ∙ sym (table-lines lawful w)
 
   -- what the writer answers: 12, then 13, else the message and its lines

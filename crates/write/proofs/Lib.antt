@@ -1,3 +1,4 @@
+pub mod Said
 pub mod SameTables
 pub mod RoundTrip
 pub mod Fewest
@@ -17,9 +18,11 @@ pub mod LeafTests
 pub mod PlaceTests
 pub mod SegmentTests
 pub mod LaidRows
+pub mod HeaderTest
+pub mod Rising
 pub mod GoingOn
-pub mod CountTests
 pub mod Groups
+pub mod WrittenCount
 pub mod Columns
 pub mod Parts
 pub mod Passing

@@ -20,7 +20,7 @@ use Rattle.line.specs.Cutting.{addenda, cut, cuts, unlines}
 use Rattle.line.proofs.Cutting.{filled, filled-none, filled-more, addenda-nil, addenda-cons, cut-addenda, carried-filled, cuts-nil, cuts-cons}
 use Rattle.table.specs.Leaves.{onto, split}
 use Rattle.table.proofs.Splitting.{firstPart, otherParts, first-ends, first-more, others-begin, others-later, split-parts}
-use Rattle.write.specs.Filling.{Stand, stand, placed, closed, broken, put, puts}
+use Rattle.write.specs.Filling.{Stand, stand, placed, segmentClosed, broken, puts}
 use Rattle.write.proofs.Filling.{going, same-going, some-left, opened-full, opened-room, put-close, put-open}
 
 module _ (L : Limits) (lawful : Lawful L) (f : ℕ) where
@@ -94,8 +94,8 @@ module _ (L : Limits) (lawful : Lawful L) (f : ℕ) where
       stand (sets (s .output) (s .going .out) (unlines ls))
       (going (s .going .out + length (unlines ls)) (L .line) (s .going .lines + length ls))
 
-  ended-closed : (s : Stand) (ls : List (List ℕ)) → ended (closed L s) ls ≡ ended s ([] ∷ ls)
-  unfolding ended closed unlines
+  ended-closed : (s : Stand) (ls : List (List ℕ)) → ended (segmentClosed L s) ls ≡ ended s ([] ∷ ls)
+  unfolding ended segmentClosed unlines
   ended-closed s ls =
       ap₂ stand (sym (sets-first (s .output) (s .going .out) CR (unlines ls))) (same-going (omega arith) refl (omega arith))
 
@@ -112,7 +112,7 @@ module _ (L : Limits) (lawful : Lawful L) (f : ℕ) where
 
   -- one byte more, by cases
   module _ (s : Stand) (b : ℕ) (x : List ℕ) where
-    step-closed : eqb b CR ≡ true → ended (closed L s) (linesLeft (L .line) x) ≡ ended s (linesLeft (s .going .room) (b ∷ x))
+    step-closed : eqb b CR ≡ true → ended (segmentClosed L s) (linesLeft (L .line) x) ≡ ended s (linesLeft (s .going .room) (b ∷ x))
     step-closed h = ended-closed s (linesLeft (L .line) x) ∙ ap (ended s) (sym (left-closed b x (s .going .room) h))
 
     step-placed : eqb b CR ≡ false → 1 ≤ s .going .room
@@ -136,7 +136,7 @@ module _ (L : Limits) (lawful : Lawful L) (f : ℕ) where
 
   -- a text and a last CR are the lines of its segments
   lines-from : (x : List ℕ) (s : Stand) → puts L f s (x ++ (CR ∷ [])) ≡ ended s (linesLeft (s .going .room) x)
-  unfolding puts ended closed placed broken unlines
+  unfolding puts ended segmentClosed placed broken unlines
   lines-from [] s = put-close L f s CR refl ∙ sym (ap (ended s) (left-none (s .going .room)))
   lines-from (b ∷ x) s = go (tested (eqb b CR)) (tested (eqb (s .going .room) 0)) (lines-from x)
     where
@@ -144,7 +144,7 @@ module _ (L : Limits) (lawful : Lawful L) (f : ℕ) where
           → ((t : Stand) → puts L f t (x ++ (CR ∷ [])) ≡ ended t (linesLeft (t .going .room) x))
           → puts L f s (b ∷ (x ++ (CR ∷ []))) ≡ ended s (linesLeft (s .going .room) (b ∷ x))
       go (passed h) r ih =
-          ap (λ (t : Stand). puts L f t (x ++ (CR ∷ []))) (put-close L f s b h) ∙ ih (closed L s) ∙ step-closed s b x h
+          ap (λ (t : Stand). puts L f t (x ++ (CR ∷ []))) (put-close L f s b h) ∙ ih (segmentClosed L s) ∙ step-closed s b x h
       go (failed h) (failed r) ih =
           ap (λ (t : Stand). puts L f t (x ++ (CR ∷ []))) (put-open L f s b h ∙ ap (λ (t : Stand). placed t b) (opened-room L f s r))
           ∙ ih (placed s b)

@@ -8,10 +8,10 @@ use Prim.Native.Nat.{ℕ, zero, suc, _*_, _≤_, _<_}
 use native.Mathlib.Omega.{arith}
 use lib.ListN.{length, drop, getD}
 use borrow.Author.Tests.{le-ltb}
-use Rattle.laws.specs.Each.{Each}
+use Rattle.laws.specs.Every.{All}
 use Rattle.laws.specs.Sums.{sumOf}
 use Rattle.laws.specs.Tables.{values}
-use Rattle.laws.proofs.Each.{each-from}
+use Rattle.laws.proofs.Every.{all-from}
 use Rattle.laws.proofs.Tables.{length-values, getD-values}
 use Rattle.laws.proofs.Tests.{never-both}
 use Rattle.form.specs.declared.limits.Limits.{Limits}
@@ -167,7 +167,7 @@ module _ {L : Limits} {levels : ℕ → ℕ → ℕ} {t : Table} (lawful : Lawfu
         table = local-table;
       }
 
-  local-worded : Each Worded (segmentsOf t)
+  local-worded : All Worded (segmentsOf t)
   local-worded =
       all-worded (separatorsIn t) (segmentsOf t) (subst Known kinds-are (w .kinds .known))
       (text-leaves (separatorsIn t) all-allowed (segmentsOf t) local-filed .1 (subst AllText text-is (w .bytes)))
@@ -210,7 +210,7 @@ module _ (L : Limits) (lawful : Lawful L) (levels : ℕ → ℕ → ℕ) (ps : S
         (separatorsIn-table levels ps (h ∷ ss) filed) table-headed
         ∙ soundFrom-holds (CR ∷ splitting ps) refl (filed-sound ps h ss filed)
 
-    pub filed-local : Each Worded (h ∷ ss) → Judged L levels ps (h ∷ ss) table
+    pub filed-local : All Worded (h ∷ ss) → Judged L levels ps (h ∷ ss) table
         → length (unlines (cuts L (ps .field) (h ∷ ss))) ≤ L .bytes → Local L levels table
     unfolding headerBytes tableOf
     filed-local worded judged fits =
@@ -231,7 +231,7 @@ module _ (L : Limits) (lawful : Lawful L) (levels : ℕ → ℕ → ℕ) (ps : S
           others = table-others;
           leafRows = ap (leafRowsFrom 0) leaves;
           text = ap textOf leaves;
-          bytes = text-leaves ps allowed (h ∷ ss) filed .0 (each-from Worded Text (h ∷ ss) worded (λ s v. v .1));
+          bytes = text-leaves ps allowed (h ∷ ss) filed .0 (all-from (λ s v. v .1) worded);
           kinds =
               record {
                 known = subst Known (sym kinds) (judged .known);
@@ -252,7 +252,7 @@ module _ (L : Limits) (lawful : Lawful L) (levels : ℕ → ℕ → ℕ) (ps : S
               };
         }
 
-  pub segments-local : (segments : List (List ℕ)) → Filed ps segments → Each Worded segments
+  pub segments-local : (segments : List (List ℕ)) → Filed ps segments → All Worded segments
       → Judged L levels ps segments (tableOf levels ps segments) → length (unlines (cuts L (ps .field) segments)) ≤ L .bytes
       → Local L levels (tableOf levels ps segments)
   segments-local [] filed worded judged fits = absurd (filed-some ps filed)

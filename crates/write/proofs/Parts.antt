@@ -1,15 +1,13 @@
 -- The parts of the table test put together: the leaf rows, and the order of the kinds.
 -- Assumes nothing.
 use mathlib.Core.Bool.{Bool, true, false, not, _&&_}
-use mathlib.Core.List.{List, [], _∷_}
+use mathlib.Core.List.{List}
 use mathlib.Core.Path.{_≡_, sym, ap, _∙_}
 use Prim.Native.Nat.{ℕ}
 use lib.Dec.{eqb}
-use lib.ListN.{length}
-use borrow.Author.Tests.{eqb-true, eq-eqb, ne-eqb}
-use Rattle.laws.specs.Lists.{same}
+use borrow.Author.Tests.{eq-eqb, ne-eqb}
 use Rattle.laws.specs.Tables.{values}
-use Rattle.laws.proofs.Tests.{and-second, and-passed, and-both, and-fails-first, and-fails-second}
+use Rattle.laws.proofs.Tests.{and-passed, and-both, and-fails-first, and-fails-second}
 use Rattle.form.specs.declared.separators.Separators.{Separators}
 use Rattle.form.specs.Header.{allAllowed, different, five, splitting}
 use Rattle.order.specs.Place.{misplaced}
@@ -17,24 +15,14 @@ use Rattle.table.specs.Back.{leafAt, separatorsAt}
 use Rattle.table.specs.BySegment.{bySegment, contextAmong}
 use Rattle.table.specs.RowTests.{goOnFrom}
 use Rattle.write.specs.Local.{thirdPlace}
-use Rattle.write.specs.Tests.{leavesFrom, headerLeavesAt, kindColumn, soundLeaves, inOrder}
-
--- the second leaf of a header has four bytes
-pub header-four : (rows text : List ℕ) → headerLeavesAt rows text ≡ true → length (leafAt rows text 1 .text) ≡ 4
-unfolding headerLeavesAt
-header-four rows text h =
-    eqb-true (length (leafAt rows text 1 .text)) 4
-    (and-second
-    (same (leafAt rows text 0 .place) (1 ∷ 1 ∷ 1 ∷ 1 ∷ 1 ∷ []) && same (leafAt rows text 0 .text) (72 ∷ [])
-    && same (leafAt rows text 1 .place) (1 ∷ 2 ∷ 1 ∷ 1 ∷ 1 ∷ []))
-    (eqb (length (leafAt rows text 1 .text)) 4) h)
+use Rattle.write.specs.Tests.{leavesBetween, headerLeavesAt, kindColumn, soundLeaves, inOrder}
 
 module _ (field : ℕ) (rows text : List ℕ) (count : ℕ) where
   abbrev rule : Separators → Bool
   rule s = allAllowed (five s) && different (five s)
 
   abbrev others : Separators → Bool
-  others s = goOnFrom (splitting s) thirdPlace (leavesFrom rows text 2 count)
+  others s = goOnFrom (splitting s) thirdPlace (leavesBetween rows text 2 count)
 
   pub no-header : headerLeavesAt rows text ≡ false → false ≡ soundLeaves field rows text count
   unfolding soundLeaves

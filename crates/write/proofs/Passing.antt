@@ -1,49 +1,38 @@
 -- The tests that the code makes are passed exactly where the table is sound row by row.
 -- Assumes nothing.
-use mathlib.Core.Bool.{Bool, true, false, not, _&&_}
-use mathlib.Core.List.{List, [], _∷_, map, head-eq-of-cons-eq, tail-eq-of-cons-eq}
+use mathlib.Core.Bool.{true, not, _&&_}
+use mathlib.Core.List.{List, [], _∷_, map}
 use mathlib.Core.Logic.{_⊎_, inl, inr}
-use mathlib.Core.Path.{_≡_, refl, sym, ap, ap₂, _∙_, subst}
+use mathlib.Core.Path.{_≡_, refl, sym, ap, ap₂, _∙_}
 use Prim.Native.Nat.{ℕ, zero, suc, _+_, _-_, _*_, _≤_, _<_}
 use native.Mathlib.Omega.{arith}
-use lib.Dec.{leb, eqb}
-use lib.ListN.{length, drop, getD, drop-of-length-le}
-use borrow.Author.Tests.{eqb-true, eqb-false, eq-eqb, ne-eqb, leb-true, le-leb, not-true}
+use lib.Dec.{eqb}
+use lib.ListN.{length, drop, drop-of-length-le}
+use borrow.Author.Tests.{eqb-true, eqb-false, eq-eqb, ne-eqb, not-true}
 use Rattle.laws.specs.Every.{All, none, also}
-use Rattle.laws.specs.Lists.{same}
-use Rattle.laws.specs.Sums.{sumOf}
 use Rattle.laws.specs.Tables.{values}
 use Rattle.laws.proofs.Cases.{less-or-not}
-use Rattle.laws.proofs.Lists.{same-equal, same-self}
 use Rattle.laws.proofs.Tests.{never-both, and-first, and-second, and-both}
-use Rattle.form.specs.declared.limits.Limits.{Limits}
 use Rattle.form.specs.declared.separators.Separators.{Separators}
-use Rattle.form.specs.Header.{allAllowed, different, five, splitting}
-use Rattle.order.specs.Place.{misplaced}
-use Rattle.order.specs.Owners.{owners}
+use Rattle.form.specs.Header.{splitting}
 use Rattle.table.specs.Leaves.{Leaf}
 use Rattle.table.specs.Flat.{leaf}
-use Rattle.table.specs.Rows.{Table, segmentRowSize, segmentRowsFrom, RowIs}
+use Rattle.table.specs.Rows.{Table, segmentRowSize, segmentRowsFrom, kindIn, ownerIn, firstIn, countIn}
 use Rattle.table.specs.Back.{leafAt, leavesOf, separatorsAt, separatorsIn}
-use Rattle.table.specs.BySegment.{bySegment, kindAmong, contextAmong, writtenBytes}
-use Rattle.table.specs.RowTests.{endToEnd, goOnFrom, rowsStated}
+use Rattle.table.specs.BySegment.{kindAmong}
+use Rattle.table.specs.RowTests.{goOnFrom}
 use Rattle.table.proofs.SegmentRows.{row-states}
-use Rattle.write.specs.Local.{HeaderRows, KindRows, FewRows, groupsOf, kindsAmong, thirdPlace}
-use Rattle.write.specs.RowByRow.{Sized, RowByRow}
-use Rattle.write.specs.Tests.{leavesFrom, headerLeavesAt, rowStates, groupsStated, kindColumn, ownerColumn, soundLeaves, inOrder}
+use Rattle.write.specs.Local.{HeaderRows, thirdPlace}
+use Rattle.write.proofs.HeaderTest.{header-leaves, leaves-header}
+use Rattle.write.proofs.GoingOn.{sound-parts}
+use Rattle.write.specs.Tests.{leavesBetween, rowStates, groupsStated, soundLeaves}
 
 -- segment rows against their columns
 module _ (segs : List ℕ) where
-  abbrev kindIn : ℕ → ℕ
-  kindIn i = getD segs (i * segmentRowSize) 0
-
-  abbrev ownerIn : ℕ → ℕ
-  ownerIn i = getD segs (i * segmentRowSize + 1) 0
-
   pub record Stated (i n first : ℕ) (groups : List (List Leaf)) : Type 0 where
-    pub kinds : values kindIn i n ≡ map kindAmong groups
+    pub kinds : values (kindIn segs) i n ≡ map kindAmong groups
     pub known : All (λ (k : ℕ). k ≡ 0 → ⊥) (map kindAmong groups)
-    pub rows : drop (i * segmentRowSize) segs ≡ segmentRowsFrom first (map kindAmong groups) (values ownerIn i n) groups
+    pub rows : drop (i * segmentRowSize) segs ≡ segmentRowsFrom first (map kindAmong groups) (values (ownerIn segs) i n) groups
 
   pub stated-rows : (i n first : ℕ) (groups : List (List Leaf)) → length segs ≡ (i + n) * segmentRowSize → groupsStated segs i n first groups ≡ true
       → Stated i n first groups
@@ -53,26 +42,26 @@ module _ (segs : List ℕ) where
   stated-rows i (suc n) first [] long h = absurd (never-both h refl)
   stated-rows i (suc n) first (g ∷ gs) long h =
       let a = not (eqb (kindAmong g) 0) in
-      let b = eqb (kindIn i) (kindAmong g) in
-      let d = eqb (getD segs (i * segmentRowSize + 2) 0) first in
-      let e = eqb (getD segs (i * segmentRowSize + 3) 0) (length g) in
+      let b = eqb (kindIn segs i) (kindAmong g) in
+      let d = eqb (firstIn segs i) first in
+      let e = eqb (countIn segs i) (length g) in
       let later = groupsStated segs (suc i) n (first + length g) gs in
       let r = and-first (a && b && d && e) later h in
       let abd = and-first (a && b && d) e r in
       let ab = and-first (a && b) d abd in
       let ih = stated-rows (suc i) n (first + length g) gs (omega arith) (and-second (a && b && d && e) later h) in
-      let k = eqb-true (kindIn i) (kindAmong g) (and-second a b ab) in
+      let k = eqb-true (kindIn segs i) (kindAmong g) (and-second a b ab) in
       record {
         kinds = ap₂ (λ (x : ℕ) (s : List ℕ). x ∷ s) k (ih .kinds);
         known = also (eqb-false (kindAmong g) 0 (not-true (eqb (kindAmong g) 0) (and-first a b ab))) (ih .known);
         rows =
-            row-states segs i (omega arith) (kindAmong g) (ownerIn i) first (length g)
-            (segmentRowsFrom (first + length g) (map kindAmong gs) (values ownerIn (suc i) n) gs) .1 (
+            row-states segs i (omega arith) (kindAmong g) (ownerIn segs i) first (length g)
+            (segmentRowsFrom (first + length g) (map kindAmong gs) (values (ownerIn segs) (suc i) n) gs) .1 (
               record {
                 kind-is = k;
                 owner-is = refl;
-                first-is = eqb-true (getD segs (i * segmentRowSize + 2) 0) first (and-second (a && b) d abd);
-                count-is = eqb-true (getD segs (i * segmentRowSize + 3) 0) (length g) (and-second (a && b && d) e r);
+                first-is = eqb-true (firstIn segs i) first (and-second (a && b) d abd);
+                count-is = eqb-true (countIn segs i) (length g) (and-second (a && b && d) e r);
               },
               ih .rows,
             );
@@ -80,8 +69,8 @@ module _ (segs : List ℕ) where
 
   pub record Again (i n first : ℕ) (groups : List (List Leaf)) (os : List ℕ) : Type 0 where
     pub stated : groupsStated segs i n first groups ≡ true
-    pub owners-are : values ownerIn i n ≡ os
-    pub kinds-are : values kindIn i n ≡ map kindAmong groups
+    pub owners-are : values (ownerIn segs) i n ≡ os
+    pub kinds-are : values (kindIn segs) i n ≡ map kindAmong groups
 
   pub rows-again : (i n first : ℕ) (groups : List (List Leaf)) (os : List ℕ) → length segs ≡ (i + n) * segmentRowSize → length groups ≡ n
       → All (λ (k : ℕ). k ≡ 0 → ⊥) (map kindAmong groups) → length os ≡ n
@@ -99,16 +88,16 @@ module _ (segs : List ℕ) where
         stated =
             and-both
             (and-both
-            (and-both (and-both (ap not (ne-eqb (kindAmong g) 0 k)) (eq-eqb (kindIn i) (kindAmong g) (w .0 .kind-is)))
-            (eq-eqb (getD segs (i * segmentRowSize + 2) 0) first (w .0 .first-is)))
-            (eq-eqb (getD segs (i * segmentRowSize + 3) 0) (length g) (w .0 .count-is)))
+            (and-both (and-both (ap not (ne-eqb (kindAmong g) 0 k)) (eq-eqb (kindIn segs i) (kindAmong g) (w .0 .kind-is)))
+            (eq-eqb (firstIn segs i) first (w .0 .first-is)))
+            (eq-eqb (countIn segs i) (length g) (w .0 .count-is)))
             (ih .stated);
         owners-are = ap₂ (λ (x : ℕ) (s : List ℕ). x ∷ s) (w .0 .owner-is) (ih .owners-are);
         kinds-are = ap₂ (λ (x : ℕ) (s : List ℕ). x ∷ s) (w .0 .kind-is) (ih .kinds-are);
       }
 
 -- the leaves after the header's
-drop-two : (rows text : List ℕ) (n : ℕ) → drop 2 (values (leafAt rows text) 0 n) ≡ leavesFrom rows text 2 n
+drop-two : (rows text : List ℕ) (n : ℕ) → drop 2 (values (leafAt rows text) 0 n) ≡ leavesBetween rows text 2 n
 unfolding values
 drop-two rows text zero = refl
 drop-two rows text (suc zero) = refl
@@ -118,59 +107,31 @@ module _ (t : Table) where
   abbrev seps : Separators
   seps = separatorsAt (t .card .separator) (t .leafRows) (t .text)
 
-  abbrev ruled : Bool
-  ruled = allAllowed (five seps) && different (five seps)
-
-  abbrev goes : Bool
-  goes = goOnFrom (splitting seps) thirdPlace (leavesFrom (t .leafRows) (t .text) 2 (t .card .leaves))
-
   -- the leaf rows
   pub sound-header : soundLeaves (t .card .separator) (t .leafRows) (t .text) (t .card .leaves) ≡ true → HeaderRows t
-  unfolding soundLeaves headerLeavesAt separatorsAt
+  unfolding separatorsAt leafAt
   sound-header h =
-      let hr = and-first (headerLeavesAt (t .leafRows) (t .text) && ruled) goes h in
-      let head = and-first (headerLeavesAt (t .leafRows) (t .text)) ruled hr in
-      let rule = and-second (headerLeavesAt (t .leafRows) (t .text)) ruled hr in
-      let a = same (leafAt (t .leafRows) (t .text) 0 .place) (1 ∷ 1 ∷ 1 ∷ 1 ∷ 1 ∷ []) in
-      let b = same (leafAt (t .leafRows) (t .text) 0 .text) (72 ∷ []) in
-      let d = same (leafAt (t .leafRows) (t .text) 1 .place) (1 ∷ 2 ∷ 1 ∷ 1 ∷ 1 ∷ []) in
-      let e = eqb (length (leafAt (t .leafRows) (t .text) 1 .text)) 4 in
-      let abd = and-first (a && b && d) e head in
-      let ab = and-first (a && b) d abd in
-      record {
-        allowed = and-first (allAllowed (five seps)) (different (five seps)) rule;
-        distinct = and-second (allAllowed (five seps)) (different (five seps)) rule;
-        first =
-            ap₂ (λ (p q : List ℕ). leaf p q) (same-equal (leafAt (t .leafRows) (t .text) 0 .place) (1 ∷ 1 ∷ 1 ∷ 1 ∷ 1 ∷ []) (and-first a b ab))
-            (same-equal (leafAt (t .leafRows) (t .text) 0 .text) (72 ∷ []) (and-second a b ab));
-        second = same-equal (leafAt (t .leafRows) (t .text) 1 .place) (1 ∷ 2 ∷ 1 ∷ 1 ∷ 1 ∷ []) (and-second (a && b) d abd);
-        four = eqb-true (length (leafAt (t .leafRows) (t .text) 1 .text)) 4 (and-second (a && b && d) e head);
-      }
-
-  same-of : (s u : List ℕ) → s ≡ u → same s u ≡ true
-  same-of s u e = subst (λ (v : List ℕ). same s v ≡ true) e (same-self s)
+      let w = sound-parts (t .card .separator) (t .leafRows) (t .text) (t .card .leaves) h in
+      let head = header-leaves (t .leafRows) (t .text) (w .header) in
+      record { allowed = w .allowed; distinct = w .distinct; first = ap₂ leaf (head .first) (head .letter); second = head .second; four = head .four }
 
   pub header-sound : HeaderRows t → goOnFrom (splitting (separatorsIn t)) thirdPlace (drop 2 (leavesOf t)) ≡ true
       → soundLeaves (t .card .separator) (t .leafRows) (t .text) (t .card .leaves) ≡ true
-  unfolding soundLeaves headerLeavesAt separatorsAt leavesOf
+  unfolding soundLeaves separatorsAt leavesOf leafAt
   header-sound w o =
       and-both
       (and-both
-      (and-both
-      (and-both
-      (and-both (same-of (leafAt (t .leafRows) (t .text) 0 .place) (1 ∷ 1 ∷ 1 ∷ 1 ∷ 1 ∷ []) (ap (λ (l : Leaf). l .place) (w .first)))
-      (same-of (leafAt (t .leafRows) (t .text) 0 .text) (72 ∷ []) (ap (λ (l : Leaf). l .text) (w .first))))
-      (same-of (leafAt (t .leafRows) (t .text) 1 .place) (1 ∷ 2 ∷ 1 ∷ 1 ∷ 1 ∷ []) (w .second)))
-      (eq-eqb (length (leafAt (t .leafRows) (t .text) 1 .text)) 4 (w .four)))
+      (sym (leaves-header (t .leafRows) (t .text) (ap (λ (l : Leaf). l .place) (w .first)) (ap (λ (l : Leaf). l .text) (w .first)) (w .second))
+      ∙ eq-eqb (length (leafAt (t .leafRows) (t .text) 1 .text)) 4 (w .four))
       (and-both (w .allowed) (w .distinct)))
       (ap (goOnFrom (splitting seps) thirdPlace) (sym (drop-two (t .leafRows) (t .text) (t .card .leaves))) ∙ o)
 
   pub sound-others : soundLeaves (t .card .separator) (t .leafRows) (t .text) (t .card .leaves) ≡ true
       → goOnFrom (splitting (separatorsIn t)) thirdPlace (drop 2 (leavesOf t)) ≡ true
-  unfolding soundLeaves separatorsAt leavesOf
+  unfolding separatorsAt leavesOf
   sound-others h =
       ap (goOnFrom (splitting seps) thirdPlace) (drop-two (t .leafRows) (t .text) (t .card .leaves))
-      ∙ and-second (headerLeavesAt (t .leafRows) (t .text) && ruled) goes h
+      ∙ sound-parts (t .card .separator) (t .leafRows) (t .text) (t .card .leaves) h .goes
 
   pub three-leaves : goOnFrom (splitting (separatorsIn t)) thirdPlace (drop 2 (leavesOf t)) ≡ true → 3 ≤ t .card .leaves
   unfolding goOnFrom leavesOf values

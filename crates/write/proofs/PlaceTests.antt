@@ -18,6 +18,7 @@ use Rattle.table.specs.Flat.{ones}
 use Rattle.table.specs.RowTests.{nextPlace}
 use Rattle.table.proofs.RowTests.{next-same, next-raised}
 use Rattle.write.specs.Tests.{finer}
+use Rattle.write.specs.Asked.{TwoPlaces}
 
 -- two lists that begin alike, or differently
 same-on : {a b : ℕ} (s t : List ℕ) → a ≡ b → same (a ∷ s) (b ∷ t) ≡ same s t
@@ -47,43 +48,6 @@ module _ (rows : List ℕ) (at : ℕ) (long : at + 5 ≤ length rows) where
       ∙ ap (λ (r : List ℕ). getD rows (at + 2) 0 ∷ r)
       (next (at + 2) (at + 3) (omega arith) (omega arith)
       ∙ ap (λ (r : List ℕ). getD rows (at + 3) 0 ∷ r) (next (at + 3) (at + 4) (omega arith) (omega arith))))))
-
-  module _ (field : ℕ) where
-    abbrev pub Stands : Type 0
-    Stands = false ≡ same (take 5 (drop at rows)) (1 ∷ field ∷ 1 ∷ 1 ∷ 1 ∷ [])
-
-    whole : same five (1 ∷ field ∷ 1 ∷ 1 ∷ 1 ∷ []) ≡ same (take 5 (drop at rows)) (1 ∷ field ∷ 1 ∷ 1 ∷ 1 ∷ [])
-    whole = ap (λ (p : List ℕ). same p (1 ∷ field ∷ 1 ∷ 1 ∷ 1 ∷ [])) (sym five-at)
-
-    pub segment-differs : (getD rows at 0 ≡ 1 → ⊥) → Stands
-    segment-differs a = sym (same-other (getD rows (at + 1) 0 ∷ getD rows (at + 2) 0 ∷ getD rows (at + 3) 0 ∷ getD rows (at + 4) 0 ∷ []) (field ∷ 1 ∷ 1 ∷ 1 ∷ []) a) ∙ whole
-
-    module _ (a : getD rows at 0 ≡ 1) where
-      fields : same (getD rows (at + 1) 0 ∷ getD rows (at + 2) 0 ∷ getD rows (at + 3) 0 ∷ getD rows (at + 4) 0 ∷ []) (field ∷ 1 ∷ 1 ∷ 1 ∷ [])
-          ≡ same (take 5 (drop at rows)) (1 ∷ field ∷ 1 ∷ 1 ∷ 1 ∷ [])
-      fields = sym (same-on (getD rows (at + 1) 0 ∷ getD rows (at + 2) 0 ∷ getD rows (at + 3) 0 ∷ getD rows (at + 4) 0 ∷ []) (field ∷ 1 ∷ 1 ∷ 1 ∷ []) a) ∙ whole
-
-      pub field-differs : (getD rows (at + 1) 0 ≡ field → ⊥) → Stands
-      field-differs b = sym (same-other (getD rows (at + 2) 0 ∷ getD rows (at + 3) 0 ∷ getD rows (at + 4) 0 ∷ []) (1 ∷ 1 ∷ 1 ∷ []) b) ∙ fields
-
-      module _ (b : getD rows (at + 1) 0 ≡ field) where
-        repetitions : same (getD rows (at + 2) 0 ∷ getD rows (at + 3) 0 ∷ getD rows (at + 4) 0 ∷ []) (1 ∷ 1 ∷ 1 ∷ [])
-            ≡ same (take 5 (drop at rows)) (1 ∷ field ∷ 1 ∷ 1 ∷ 1 ∷ [])
-        repetitions = sym (same-on (getD rows (at + 2) 0 ∷ getD rows (at + 3) 0 ∷ getD rows (at + 4) 0 ∷ []) (1 ∷ 1 ∷ 1 ∷ []) b) ∙ fields
-
-        pub repetition-differs : (getD rows (at + 2) 0 ≡ 1 → ⊥) → Stands
-        repetition-differs d = sym (same-other (getD rows (at + 3) 0 ∷ getD rows (at + 4) 0 ∷ []) (1 ∷ 1 ∷ []) d) ∙ repetitions
-
-        module _ (d : getD rows (at + 2) 0 ≡ 1) where
-          subfields : same (getD rows (at + 3) 0 ∷ getD rows (at + 4) 0 ∷ []) (1 ∷ 1 ∷ []) ≡ same (take 5 (drop at rows)) (1 ∷ field ∷ 1 ∷ 1 ∷ 1 ∷ [])
-          subfields = sym (same-on (getD rows (at + 3) 0 ∷ getD rows (at + 4) 0 ∷ []) (1 ∷ 1 ∷ []) d) ∙ repetitions
-
-          pub subfield-differs : (getD rows (at + 3) 0 ≡ 1 → ⊥) → Stands
-          subfield-differs e = sym (same-other (getD rows (at + 4) 0 ∷ []) (1 ∷ []) e) ∙ subfields
-
-          pub last-decides : getD rows (at + 3) 0 ≡ 1 → eqb (getD rows (at + 4) 0) 1 ≡ same (take 5 (drop at rows)) (1 ∷ field ∷ 1 ∷ 1 ∷ 1 ∷ [])
-          unfolding same
-          last-decides e = sym (same-on (getD rows (at + 4) 0 ∷ []) (1 ∷ []) e ∙ and-true (eqb (getD rows (at + 4) 0) 1)) ∙ subfields
 
 -- numbers that are to be 1: one that is not, and one that is
 pub ones-fail : {b : ℕ} (s t : List ℕ) → (b ≡ 1 → ⊥) → false ≡ same (1 ∷ s) (b ∷ t)
@@ -123,14 +87,11 @@ next-last {m} {n} {whole} w = go (equal-or-not m n)
     go (inl e) = ne-eqb (suc m) n (λ z. omega arith) ∙ next-goes-on w e .so
     go (inr d) = sym (and-true (eqb (suc m) n)) ∙ sym (next-raised m [] n [] d) ∙ w .so
 
--- two places as numbers
-pub next-numbers : (rows : List ℕ) (from to : ℕ) → from + 5 ≤ length rows → to + 5 ≤ length rows
-    → Next (getD rows from 0 ∷ finer rows from 1) (getD rows to 0 ∷ finer rows to 1) (nextPlace (take 5 (drop from rows)) (take 5 (drop to rows)))
-unfolding values
-next-numbers rows from to long wide = record { so = ap₂ nextPlace (sym (five-at rows from long)) (sym (five-at rows to wide)) }
+-- two places as numbers, and what is left of them after some
+module _ {rows : List ℕ} {from to : ℕ} (w : TwoPlaces rows from to) where
+  pub next-numbers : Next (getD rows from 0 ∷ finer rows from 1) (getD rows to 0 ∷ finer rows to 1) (nextPlace (take 5 (drop from rows)) (take 5 (drop to rows)))
+  unfolding values
+  next-numbers = record { so = ap₂ nextPlace (sym (five-at rows from (w .former))) (sym (five-at rows to (w .latter))) }
 
--- and what is left of them after three
-pub next-here : (rows : List ℕ) (from to : ℕ)
-    → Next (getD rows (from + 3) 0 ∷ getD rows (from + 4) 0 ∷ []) (getD rows (to + 3) 0 ∷ getD rows (to + 4) 0 ∷ []) (nextPlace (finer rows from 3) (finer rows to 3))
-unfolding values
-next-here rows from to = record { so = refl }
+  pub next-left : (k : ℕ) → Next (finer rows from k) (finer rows to k) (nextPlace (finer rows from k) (finer rows to k))
+  next-left k = record { so = refl }

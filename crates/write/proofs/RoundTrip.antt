@@ -9,7 +9,8 @@ use Prim.Native.Nat.{ℕ, _≤_}
 use native.Mathlib.Omega.{arith}
 use lib.ListN.{length, take, length-take}
 use lib.Seq.{take-append-le, take-take}
-use Rattle.laws.specs.Each.{Each}
+use Rattle.laws.specs.Every.{All}
+use Rattle.laws.proofs.Every.{all-first, all-rest}
 use Rattle.form.specs.declared.limits.Limits.{Limits}
 use Rattle.form.specs.declared.separators.Separators.{Separators}
 use Rattle.form.specs.Limits.{Lawful}
@@ -50,7 +51,7 @@ module _ (L : Limits) (lawful : Lawful L) (ps : Separators) where
 
 -- segments that can be filed, that are text, and that pass the tests 7 to 11 are read back from the lines that they are cut into
 module _ {L : Limits} {levels : ℕ → ℕ → ℕ} {room : Room} {ps : Separators} {segments : List (List ℕ)} {t : Table} (lawful : Lawful L) where
-  pub written-accepted : AllAllowed ps → AllDifferent ps → Filed ps segments → Each Worded segments → Judged L levels ps segments t
+  pub written-accepted : AllAllowed ps → AllDifferent ps → Filed ps segments → All Worded segments → Judged L levels ps segments t
       → short L room ≡ false → length (unlines (cuts L (ps .field) segments)) ≤ L .bytes
       → Accepted L levels room (unlines (cuts L (ps .field) segments)) t
   unfolding headerBytes
@@ -62,11 +63,11 @@ module _ {L : Limits} {levels : ℕ → ℕ → ℕ} {room : Room} {ps : Separat
         roomy = roomy;
         fits = fits;
         header = bytes-sound ps allowed different message (written-begins L lawful ps segments filed);
-        no-fault = no-fault-written L lawful (ps .field) (text .1 .0) segments worded;
+        no-fault = no-fault-written L lawful (ps .field) (all-first (all-rest text)) segments worded;
         segments =
             subst (λ (ss : List (List ℕ)). Judged L levels ps ss t)
             (sym
-            (joined-written L lawful (ps .field) (text .1 .0) segments worded
+            (joined-written L lawful (ps .field) (all-first (all-rest text)) segments worded
             (all-whole ps (allowed .field) segments (judged .known))))
             judged;
       }

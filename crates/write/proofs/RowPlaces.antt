@@ -3,14 +3,12 @@
 use mathlib.Core.Bool.{false}
 use mathlib.Core.List.{List, [], _∷_}
 use mathlib.Core.Path.{_≡_, refl, sym, ap, ap₂, _∙_}
-use Prim.Native.Nat.{ℕ, zero, suc, _+_, _*_, _≤_}
+use Prim.Native.Nat.{ℕ, _+_, _*_}
 use native.Mathlib.Omega.{arith}
 use lib.Dec.{eqb}
-use lib.ListN.{length, getD, take, drop}
-use lib.Seq.{drop-cons}
+use lib.ListN.{getD, take, drop}
 use borrow.Author.Tests.{eq-eqb, ne-eqb, eqb-false}
 use Rattle.laws.specs.Every.{none, also}
-use Rattle.laws.specs.Tables.{values}
 use Rattle.laws.proofs.Tests.{Tested, passed, failed, tested, never-both}
 use Rattle.form.specs.declared.separators.Separators.{Separators}
 use Rattle.form.specs.Header.{splitting}
@@ -19,19 +17,11 @@ use Rattle.table.specs.Back.{between}
 use Rattle.table.specs.RowTests.{nextPlace}
 use Rattle.table.proofs.Places.{between-here, between-later}
 use Rattle.table.proofs.RowTests.{next-same}
+use Rattle.write.specs.Asked.{NextThere, NextInside}
+use Rattle.write.proofs.PlaceTests.{five-at}
 use Rattle.write.specs.Filling.{InSegment}
-use Rattle.write.specs.Passing.{NextAfter}
-
--- some numbers of a list in a row
-numbers : (rows : List ℕ) (k n : ℕ) → k + n ≤ length rows → take n (drop k rows) ≡ values (λ (j : ℕ). getD rows j 0) k n
-unfolding values
-numbers rows k zero h = refl
-numbers rows k (suc n) h =
-    ap (take (suc n)) (drop-cons rows k 0 (omega arith)) ∙ ap (λ (r : List ℕ). getD rows k 0 ∷ r) (numbers rows (suc k) n (omega arith))
-
-five-same : {a b c d e a′ b′ c′ d′ e′ : ℕ} → a ≡ a′ → b ≡ b′ → c ≡ c′ → d ≡ d′ → e ≡ e′
-    → _≡_ {A = List ℕ} (a ∷ b ∷ c ∷ d ∷ e ∷ []) (a′ ∷ b′ ∷ c′ ∷ d′ ∷ e′ ∷ [])
-five-same p q r s t = cc
+use Rattle.write.specs.Passing.{leading}
+use Rattle.table.specs.Rows.{leafRowSize, segmentIn, placeIn}
 
 -- no separator between two places is CR where none of all is
 between-clear : {ps : List ℕ} → InSegment ps → (from to : List ℕ) → eqb (between ps from to) CR ≡ false
@@ -51,114 +41,84 @@ unfolding nextPlace
 never-next [] = refl
 never-next (m ∷ p) = next-same m p m p refl ∙ never-next p
 
-module _ (ps : Separators) (rows : List ℕ) (row : ℕ) where
-  abbrev at : ℕ → ℕ
-  at j = getD rows (row * 7 + j) 0
+module _ (ps : Separators) {rows : List ℕ} {row : ℕ} (w : NextThere rows row) where
+  -- the numbers of the two places
+  abbrev here : ℕ → ℕ
+  here j = getD rows (row * leafRowSize + j) 0
+
+  abbrev there : ℕ → ℕ
+  there j = getD rows (row * leafRowSize + leafRowSize + j) 0
 
   abbrev first : ℕ
-  first = getD rows (row * 7) 0
+  first = segmentIn rows row
 
-  number-at : (k j : ℕ) → k ≡ row * 7 + j → getD rows k 0 ≡ at j
-  number-at k j e = ap (λ (i : ℕ). getD rows i 0) e
+  abbrev next : ℕ
+  next = getD rows (row * leafRowSize + leafRowSize) 0
 
-  place-here : (row + 2) * 7 ≤ length rows → take 5 (drop (row * 7) rows) ≡ first ∷ at 1 ∷ at 2 ∷ at 3 ∷ at 4 ∷ []
-  unfolding values
-  place-here h =
-      numbers rows (row * 7) 5 (omega arith)
-      ∙ five-same refl
-      (number-at (suc (row * 7)) 1 (omega arith))
-      (number-at (suc (suc (row * 7))) 2 (omega arith))
-      (number-at (suc (suc (suc (row * 7)))) 3 (omega arith))
-      (number-at (suc (suc (suc (suc (row * 7))))) 4 (omega arith))
+  after : row * leafRowSize + leafRowSize ≡ (row + 1) * leafRowSize
+  after = omega arith
 
-  place-next : (row + 2) * 7 ≤ length rows → take 5 (drop ((row + 1) * 7) rows) ≡ at 7 ∷ at 8 ∷ at 9 ∷ at 10 ∷ at 11 ∷ []
-  unfolding values
-  place-next h =
-      ap (λ (k : ℕ). take 5 (drop k rows)) (let e : (row + 1) * 7 ≡ row * 7 + 7 = omega arith in e)
-      ∙ numbers rows (row * 7 + 7) 5 (omega arith)
-      ∙ five-same refl
-      (number-at (suc (row * 7 + 7)) 8 (omega arith))
-      (number-at (suc (suc (row * 7 + 7))) 9 (omega arith))
-      (number-at (suc (suc (suc (row * 7 + 7)))) 10 (omega arith))
-      (number-at (suc (suc (suc (suc (row * 7 + 7))))) 11 (omega arith))
+  place-here : placeIn rows row ≡ first ∷ here 1 ∷ here 2 ∷ here 3 ∷ here 4 ∷ []
+  place-here = five-at rows (row * leafRowSize) (omega (arith, w .long))
+
+  place-there : placeIn rows (row + 1) ≡ next ∷ there 1 ∷ there 2 ∷ there 3 ∷ there 4 ∷ []
+  place-there =
+      ap (λ (k : ℕ). take 5 (drop k rows)) (sym after) ∙ five-at rows (row * leafRowSize + leafRowSize) (omega (arith, w .long))
+
+  pub next-inside : first ≡ next → NextInside rows row
+  next-inside e = record { rowThere = w; same = e ∙ ap (λ (k : ℕ). getD rows k 0) after }
 
   -- the separator that leads from one row to the next
   abbrev pub Between : ℕ → Type 0
-  Between b = b ≡ between (CR ∷ splitting ps) (take 5 (drop (row * 7) rows)) (take 5 (drop ((row + 1) * 7) rows))
+  Between b = b ≡ leading ps rows row
 
   abbrev four : List ℕ
   four = ps .field ∷ ps .repeater ∷ ps .subfield ∷ ps .subsubfield ∷ []
 
-  module _ (long : (row + 2) * 7 ≤ length rows) where
-    by-numbers : {b : ℕ}
-        → between (CR ∷ four) (first ∷ at 1 ∷ at 2 ∷ at 3 ∷ at 4 ∷ []) (at 7 ∷ at 8 ∷ at 9 ∷ at 10 ∷ at 11 ∷ []) ≡ b
-        → Between b
+  -- what is left of the places, and of the separators, after some numbers that are the same
+  record Left (qs from to : List ℕ) : Type 0 where
+    so : between qs from to ≡ leading ps rows row
+
+  differs : {p : ℕ} {qs : List ℕ} {m n : ℕ} {from to : List ℕ} → Left (p ∷ qs) (m ∷ from) (n ∷ to) → (m ≡ n → ⊥) → Between p
+  differs {p} {qs} {m} {n} {from} {to} l d = sym (between-here p qs m n from to (ne-eqb m n d)) ∙ l .so
+
+  agrees : {p : ℕ} {qs : List ℕ} {m n : ℕ} {from to : List ℕ} → Left (p ∷ qs) (m ∷ from) (n ∷ to) → m ≡ n → Left qs from to
+  agrees {p} {qs} {m} {n} {from} {to} l e = record { so = sym (between-later p qs m n from to (eq-eqb m n e)) ∙ l .so }
+
+  whole : Left (CR ∷ four) (first ∷ here 1 ∷ here 2 ∷ here 3 ∷ here 4 ∷ []) (next ∷ there 1 ∷ there 2 ∷ there 3 ∷ there 4 ∷ [])
+  unfolding splitting
+  whole = record { so = sym (ap₂ (between (CR ∷ four)) place-here place-there) }
+
+  pub other-segment : (first ≡ next → ⊥) → Between CR
+  other-segment = differs whole
+
+  module _ (s : first ≡ next) where
+    -- within a segment it is not CR
+    pub inside-clear : InSegment (splitting ps) → {b : ℕ} → Between b → b ≡ CR → ⊥
     unfolding splitting
-    by-numbers e = sym (ap₂ (between (CR ∷ four)) (place-here long) (place-next long) ∙ e)
+    inside-clear v {b} e =
+        eqb-false b CR
+        (ap (λ (n : ℕ). eqb n CR) (e ∙ sym (agrees whole s .so))
+        ∙ between-clear v (here 1 ∷ here 2 ∷ here 3 ∷ here 4 ∷ []) (there 1 ∷ there 2 ∷ there 3 ∷ there 4 ∷ []))
 
-    pub other-segment : (first ≡ at 7 → ⊥) → Between CR
-    other-segment h =
-        by-numbers
-        (between-here CR four first (at 7) (at 1 ∷ at 2 ∷ at 3 ∷ at 4 ∷ []) (at 8 ∷ at 9 ∷ at 10 ∷ at 11 ∷ []) (ne-eqb first (at 7) h))
+    pub other-field : (here 1 ≡ there 1 → ⊥) → Between (ps .field)
+    other-field = differs (agrees whole s)
 
-    module _ (s : first ≡ at 7) where
-      same-segment : between (CR ∷ four) (first ∷ at 1 ∷ at 2 ∷ at 3 ∷ at 4 ∷ []) (at 7 ∷ at 8 ∷ at 9 ∷ at 10 ∷ at 11 ∷ [])
-          ≡ between four (at 1 ∷ at 2 ∷ at 3 ∷ at 4 ∷ []) (at 8 ∷ at 9 ∷ at 10 ∷ at 11 ∷ [])
-      same-segment =
-          between-later CR four first (at 7) (at 1 ∷ at 2 ∷ at 3 ∷ at 4 ∷ []) (at 8 ∷ at 9 ∷ at 10 ∷ at 11 ∷ []) (eq-eqb first (at 7) s)
+    module _ (f : here 1 ≡ there 1) where
+      pub other-repetition : (here 2 ≡ there 2 → ⊥) → Between (ps .repeater)
+      other-repetition = differs (agrees (agrees whole s) f)
 
-      -- within a segment it is not CR
-      pub inside-clear : InSegment (splitting ps) → {b : ℕ} → Between b → b ≡ CR → ⊥
-      unfolding splitting
-      inside-clear w {b} e =
-          eqb-false b CR
-          (ap (λ (n : ℕ). eqb n CR) (e ∙ ap₂ (between (CR ∷ four)) (place-here long) (place-next long) ∙ same-segment)
-          ∙ between-clear w (at 1 ∷ at 2 ∷ at 3 ∷ at 4 ∷ []) (at 8 ∷ at 9 ∷ at 10 ∷ at 11 ∷ []))
+      module _ (r : here 2 ≡ there 2) where
+        pub other-subfield : (here 3 ≡ there 3 → ⊥) → Between (ps .subfield)
+        other-subfield = differs (agrees (agrees (agrees whole s) f) r)
 
-      pub other-field : (at 1 ≡ at 8 → ⊥) → Between (ps .field)
-      other-field h =
-          by-numbers
-          (same-segment
-          ∙ between-here (ps .field) (drop 1 four) (at 1) (at 8) (at 2 ∷ at 3 ∷ at 4 ∷ []) (at 9 ∷ at 10 ∷ at 11 ∷ []) (ne-eqb (at 1) (at 8) h))
+        -- the last numbers differ, since the places do
+        pub other-subsubfield : here 3 ≡ there 3 → Between (ps .subsubfield)
+        other-subsubfield u =
+            differs (agrees (agrees (agrees (agrees whole s) f) r) u)
+            (λ e. never-both (w .next)
+            (ap₂ nextPlace place-here (place-there ∙ cc) ∙ never-next (first ∷ here 1 ∷ here 2 ∷ here 3 ∷ here 4 ∷ [])))
 
-      module _ (f : at 1 ≡ at 8) where
-        same-field : between (CR ∷ four) (first ∷ at 1 ∷ at 2 ∷ at 3 ∷ at 4 ∷ []) (at 7 ∷ at 8 ∷ at 9 ∷ at 10 ∷ at 11 ∷ [])
-            ≡ between (drop 1 four) (at 2 ∷ at 3 ∷ at 4 ∷ []) (at 9 ∷ at 10 ∷ at 11 ∷ [])
-        same-field =
-            same-segment
-            ∙ between-later (ps .field) (drop 1 four) (at 1) (at 8) (at 2 ∷ at 3 ∷ at 4 ∷ []) (at 9 ∷ at 10 ∷ at 11 ∷ []) (eq-eqb (at 1) (at 8) f)
-
-        pub other-repetition : (at 2 ≡ at 9 → ⊥) → Between (ps .repeater)
-        other-repetition h =
-            by-numbers
-            (same-field
-            ∙ between-here (ps .repeater) (drop 2 four) (at 2) (at 9) (at 3 ∷ at 4 ∷ []) (at 10 ∷ at 11 ∷ []) (ne-eqb (at 2) (at 9) h))
-
-        module _ (r : at 2 ≡ at 9) where
-          same-repetition : between (CR ∷ four) (first ∷ at 1 ∷ at 2 ∷ at 3 ∷ at 4 ∷ []) (at 7 ∷ at 8 ∷ at 9 ∷ at 10 ∷ at 11 ∷ [])
-              ≡ between (drop 2 four) (at 3 ∷ at 4 ∷ []) (at 10 ∷ at 11 ∷ [])
-          same-repetition =
-              same-field
-              ∙ between-later (ps .repeater) (drop 2 four) (at 2) (at 9) (at 3 ∷ at 4 ∷ []) (at 10 ∷ at 11 ∷ []) (eq-eqb (at 2) (at 9) r)
-
-          pub other-subfield : (at 3 ≡ at 10 → ⊥) → Between (ps .subfield)
-          other-subfield h =
-              by-numbers
-              (same-repetition ∙ between-here (ps .subfield) (drop 3 four) (at 3) (at 10) (at 4 ∷ []) (at 11 ∷ []) (ne-eqb (at 3) (at 10) h))
-
-          module _ (u : at 3 ≡ at 10) where
-            same-subfield : between (CR ∷ four) (first ∷ at 1 ∷ at 2 ∷ at 3 ∷ at 4 ∷ []) (at 7 ∷ at 8 ∷ at 9 ∷ at 10 ∷ at 11 ∷ [])
-                ≡ between (drop 3 four) (at 4 ∷ []) (at 11 ∷ [])
-            same-subfield =
-                same-repetition ∙ between-later (ps .subfield) (drop 3 four) (at 3) (at 10) (at 4 ∷ []) (at 11 ∷ []) (eq-eqb (at 3) (at 10) u)
-
-            -- then the last numbers differ, since the places do
-            last-differs : NextAfter rows row → at 4 ≡ at 11 → ⊥
-            last-differs n e =
-                never-both n
-                (ap₂ nextPlace (place-here long) (place-next long ∙ five-same (sym s) (sym f) (sym r) (sym u) (sym e))
-                ∙ never-next (first ∷ at 1 ∷ at 2 ∷ at 3 ∷ at 4 ∷ []))
-
-            pub other-subsubfield : NextAfter rows row → Between (ps .subsubfield)
-            other-subsubfield n =
-                by-numbers (same-subfield ∙ between-here (ps .subsubfield) [] (at 4) (at 11) [] [] (ne-eqb (at 4) (at 11) (last-differs n)))
+-- the same from what a row inside a segment is known by
+pub inside-same : {rows : List ℕ} {row : ℕ} → NextInside rows row → segmentIn rows row ≡ getD rows (row * leafRowSize + leafRowSize) 0
+inside-same {rows} {row} w = w .same ∙ ap (λ (k : ℕ). getD rows k 0) (let e : (row + 1) * leafRowSize ≡ row * leafRowSize + leafRowSize = omega arith in e)

@@ -3,8 +3,7 @@
 use mathlib.Core.Bool.{Bool, true, false, not, _&&_}
 use mathlib.Core.List.{List, [], _∷_, map}
 use mathlib.Core.Path.{_≡_, sym, ap, _∙_, subst}
-use Prim.Native.Nat.{ℕ, zero, suc, _+_, _-_, _*_, _≤_, _<_}
-use native.Mathlib.Nat.{not-suc-le-zero, le-of-suc-le-suc}
+use Prim.Native.Nat.{ℕ, zero, suc, _-_, _≤_}
 use native.Mathlib.Omega.{arith}
 use lib.Dec.{leb, eqb}
 use lib.ListN.{length, getD, length-map}
@@ -12,11 +11,10 @@ use borrow.Author.Tests.{eqb-true, eqb-false, eq-eqb, ne-eqb, leb-true, le-leb, 
 use Rattle.laws.specs.Lists.{same}
 use Rattle.laws.specs.Sums.{sumOf}
 use Rattle.laws.specs.Tables.{values}
-use Rattle.laws.proofs.Lists.{same-equal, same-self}
+use Rattle.laws.proofs.Lists.{same-equal}
 use Rattle.laws.proofs.Tables.{getD-values-zero}
 use Rattle.laws.proofs.Tests.{Tested, passed, failed, tested, never-both, and-first, and-second, and-both}
 use Rattle.form.specs.declared.limits.Limits.{Limits}
-use Rattle.form.specs.Limits.{Lawful}
 use Rattle.form.specs.Names.{kindNames, kindOf}
 use Rattle.form.proofs.Names.{kind-within}
 use Rattle.table.proofs.FieldNames.{number-one, number-more, number-later}
@@ -24,45 +22,30 @@ use Rattle.order.specs.Place.{misplaced}
 use Rattle.order.specs.Owners.{owners}
 use Rattle.order.proofs.Owner.{length-owners}
 use Rattle.table.specs.Leaves.{Leaf}
-use Rattle.table.specs.Rows.{Table, segmentRowSize, leafRowSize, segmentRowsFrom}
+use Rattle.table.specs.Rows.{Table, segmentRowsFrom, kindIn, FitsRows}
 use Rattle.table.specs.Back.{leafAt, leavesOf}
 use Rattle.table.specs.BySegment.{bySegment, fieldOf, goesOn, numberOfField, kindAmong, contextAmong, writtenBytes}
 use Rattle.table.specs.RowTests.{endToEnd}
-use Rattle.table.proofs.EndToEnd.{ends-start, ends-later, ends-within}
 use Rattle.table.proofs.SegmentRows.{owners-stated}
 use Rattle.write.specs.Local.{groupsOf, kindsAmong}
 use Rattle.write.specs.RowByRow.{Sized, RowByRow}
+use Rattle.write.specs.Asked.{CountedTable}
 use Rattle.write.specs.Tests.{InText, Laid, KindsStated, groupsStated, kindColumn, ownerColumn, soundLeaves, inOrder}
 use Rattle.write.specs.Writing.{readsBack}
 use Rattle.write.proofs.RowByRow.{row-by-row, rows-local}
-use Rattle.write.proofs.LaidRows.{sound-next}
+use Rattle.write.proofs.GoingOn.{sound-next}
+use Rattle.write.proofs.HeaderTest.{same-of}
 use Rattle.write.proofs.Passing.{Stated, stated-rows, Again, rows-again, sound-header, header-sound, sound-others, three-leaves}
 
--- rows that lie end to end state parts of the text
-pub fits-from : (rows : List ℕ) (finish i n start : ℕ) → endToEnd rows finish i n start ≡ true → (k : ℕ) → k < n
-    → getD rows ((i + k) * leafRowSize + 5) 0 + getD rows ((i + k) * leafRowSize + 6) 0 ≤ finish
-fits-from rows finish i zero start h k l = absurd (not-suc-le-zero l)
-fits-from rows finish i (suc n) start h zero l =
-    subst (λ (j : ℕ). getD rows (j * leafRowSize + 5) 0 + getD rows (j * leafRowSize + 6) 0 ≤ finish) (let e : i ≡ i + 0 = omega arith in e)
-    (omega (
-      arith,
-      ends-start rows finish i n start h,
-      ends-within rows finish (suc i) n (start + getD rows (i * leafRowSize + 6) 0) (ends-later rows finish i n start h),
-    ))
-fits-from rows finish i (suc n) start h (suc k) l =
-    subst (λ (j : ℕ). getD rows (j * leafRowSize + 5) 0 + getD rows (j * leafRowSize + 6) 0 ≤ finish) (let e : suc i + k ≡ i + suc k = omega arith in e)
-    (fits-from rows finish (suc i) n (start + getD rows (i * leafRowSize + 6) 0) (ends-later rows finish i n start h) k (le-of-suc-le-suc l))
-
-pub laid-in-text : (rows text : List ℕ) (count finish : ℕ) → length rows ≡ count * leafRowSize → count ≤ 65535 → length text ≡ finish
-    → endToEnd rows finish 0 count 0 ≡ true → InText rows text count
-laid-in-text rows text count finish sized few e h =
+-- what the table test asks of the leaf rows, once they are known to be laid out
+pub laid-in-text : {L : Limits} {t : Table} → FitsRows L → Sized t → t .card .leaves ≤ L .leaves → t .card .text ≤ L .bytes
+    → endToEnd (t .leafRows) (t .card .text) 0 (t .card .leaves) 0 ≡ true → InText (t .leafRows) (t .text) (t .card .leaves)
+laid-in-text {t = t} fits sized few short h =
     record {
-      sized = sized;
-      few = few;
-      fits =
-          λ k l.
-          subst (λ (j : ℕ). getD rows (j * leafRowSize + 5) 0 + getD rows (j * leafRowSize + 6) 0 ≤ length text) (let q : 0 + k ≡ k = omega arith in q)
-          (omega (arith, fits-from rows finish 0 count 0 h k l));
+      sized = sized .leafRows;
+      few = omega (arith, fits .leaves);
+      short = omega (arith, sized .text, fits .bytes);
+      ended = ap (λ (n : ℕ). endToEnd (t .leafRows) n 0 (t .card .leaves) 0) (sized .text) ∙ h;
     }
 
 -- every test of the code
@@ -78,10 +61,7 @@ pub record Passed (L : Limits) (levels : ℕ → ℕ → ℕ) (t : Table) : Type
 
 -- so the rows of a table that passes them are laid out
 pub passed-laid : {L : Limits} {levels : ℕ → ℕ → ℕ} {t : Table} → Passed L levels t → Laid (t .leafRows) (t .card .leaves) (t .card .text)
-passed-laid {t = t} w = record { ended = w .laid; next = sound-next (t .card .separator) (t .leafRows) (t .text) (t .card .leaves) (w .three) (w .sound) }
-
-same-of : (s u : List ℕ) → s ≡ u → same s u ≡ true
-same-of s u e = subst (λ (v : List ℕ). same s v ≡ true) e (same-self s)
+passed-laid {t = t} w = record { ended = w .laid; next = sound-next (t .card .separator) (t .leafRows) (t .text) (t .card .leaves) (w .sound) (w .three) }
 
 module _ (L : Limits) (levels : ℕ → ℕ → ℕ) (t : Table) (sized : Sized t) where
   abbrev lv : ℕ → ℕ
@@ -135,7 +115,9 @@ module _ (L : Limits) (levels : ℕ → ℕ → ℕ) (t : Table) (sized : Sized 
               known = st .known;
               context = sym (eqb-true named (t .card .context) (and-second a b ab));
               named = eqb-false (t .card .context) 0 (not-true (eqb (t .card .context) 0) (and-first a b ab));
-              ordered = ap (misplaced (t .card .context)) (sym (st .kinds)) ∙ eqb-true (misplaced (t .card .context) (kindColumn (t .segmentRows) (t .card .segments))) 0 (and-second (a && b) d (w .ordered));
+              ordered =
+                  ap (misplaced (t .card .context)) (sym (st .kinds))
+                  ∙ eqb-true (misplaced (t .card .context) (kindColumn (t .segmentRows) (t .card .segments))) 0 (and-second (a && b) d (w .ordered));
             };
         stated =
             st .rows
@@ -161,17 +143,6 @@ module _ (L : Limits) (levels : ℕ → ℕ → ℕ) (t : Table) (sized : Sized 
       ab : (a && b) ≡ true
       ab = and-first (a && b) d (w .ordered)
 
-  -- so the code's answer is the test's
-  pub refused-so : Lawful L → (Passed L levels t → ⊥) → false ≡ readsBack L levels t
-  refused-so lawful n = go (tested (readsBack L levels t))
-    where
-      go : Tested (readsBack L levels t) → false ≡ readsBack L levels t
-      go (passed h) = absurd (n (rows-passed (row-by-row L lawful levels t .0 h .1)))
-      go (failed h) = sym h
-
-  pub accepted-so : Lawful L → t .card .segments ≤ L .segments → t .card .leaves ≤ L .leaves → Passed L levels t → true ≡ readsBack L levels t
-  accepted-so lawful few-segments few-leaves w = sym (row-by-row L lawful levels t .1 (sized, passed-rows few-segments few-leaves w))
-
 -- the kinds that the rows state are kinds
 kind-among-few : (ls : List Leaf) → kindAmong ls ≤ 12
 unfolding kindAmong numberOfField kindOf
@@ -188,36 +159,40 @@ kinds-few [] i = omega arith
 kinds-few (g ∷ gs) zero = kind-among-few g
 kinds-few (g ∷ gs) (suc i) = kinds-few gs i
 
-pub grouped-kinds : (segments : List ℕ) (many : ℕ) (groups : List (List Leaf)) → length segments ≡ many * segmentRowSize → many ≤ 65535
-    → groupsStated segments 0 many 1 groups ≡ true → KindsStated segments many
-grouped-kinds segments many groups sized few h =
-    record {
-      sized = sized;
-      few = few;
-      kinds =
-          λ i l.
-          subst (λ (n : ℕ). n ≤ 12)
-          (ap (λ (ks : List ℕ). getD ks i 0) (sym (stated-rows segments 0 many 1 groups (omega arith) h .kinds))
-          ∙ getD-values-zero (λ (k : ℕ). getD segments (k * segmentRowSize) 0) many i 0 l)
-          (kinds-few groups i);
-    }
+module _ {L : Limits} {levels : ℕ → ℕ → ℕ} {t : Table} (w : CountedTable L levels t) where
+  pub counted-kinds : groupsStated (t .segmentRows) 0 (t .card .segments) 1 (groups L levels t (w .sized)) ≡ true
+      → KindsStated (t .segmentRows) (t .card .segments)
+  counted-kinds h =
+      let many = t .card .segments in
+      let found = groups L levels t (w .sized) in
+      record {
+        sized = w .sized .segmentRows;
+        few = omega (arith, w .segments, w .testable .fits .segments);
+        kinds =
+            λ i l.
+            subst (λ (n : ℕ). n ≤ 12)
+            (ap (λ (ks : List ℕ). getD ks i 0) (sym (stated-rows (t .segmentRows) 0 many 1 found (omega (arith, w .sized .segmentRows)) h .kinds))
+            ∙ getD-values-zero (kindIn (t .segmentRows)) many i 0 l)
+            (kinds-few found i);
+      }
 
-module _ (L : Limits) (levels : ℕ → ℕ → ℕ) (t : Table) (sized : Sized t) where
-  -- the last test decides where the others are passed
-  pub short-decides : Lawful L → t .card .segments ≤ L .segments → t .card .leaves ≤ L .leaves → 3 ≤ t .card .leaves
-      → endToEnd (t .leafRows) (t .card .text) 0 (t .card .leaves) 0 ≡ true
-      → soundLeaves (t .card .separator) (t .leafRows) (t .text) (t .card .leaves) ≡ true
-      → groupsStated (t .segmentRows) 0 (t .card .segments) 1 (bySegment (values (leafAt (t .leafRows) (t .text)) 0 (t .card .leaves))) ≡ true
-      → same (ownerColumn (t .segmentRows) (t .card .segments)) (owners (levels (t .card .context)) (kindColumn (t .segmentRows) (t .card .segments))) ≡ true
-      → inOrder (t .card .context) (t .segmentRows) (t .card .segments) (t .leafRows) (t .text) (t .card .leaves) ≡ true
-      → leb (sumOf (writtenBytes L) (bySegment (values (leafAt (t .leafRows) (t .text)) 0 (t .card .leaves)))) (L .bytes) ≡ readsBack L levels t
-  short-decides lawful few-segments few-leaves three laid sound grouped owned ordered =
-      go (tested (leb (sumOf (writtenBytes L) (bySegment (values (leafAt (t .leafRows) (t .text)) 0 (t .card .leaves)))) (L .bytes)))
+  -- so the code's answer is the test's
+  pub refused-so : (Passed L levels t → ⊥) → false ≡ readsBack L levels t
+  refused-so n = go (tested (readsBack L levels t))
     where
-      go : Tested (leb (sumOf (writtenBytes L) (bySegment (values (leafAt (t .leafRows) (t .text)) 0 (t .card .leaves)))) (L .bytes))
-          → leb (sumOf (writtenBytes L) (bySegment (values (leafAt (t .leafRows) (t .text)) 0 (t .card .leaves)))) (L .bytes) ≡ readsBack L levels t
-      go (passed h) =
-          h
-          ∙ accepted-so L levels t sized lawful few-segments few-leaves
-          (record { three = three; laid = laid; sound = sound; grouped = grouped; owned = owned; ordered = ordered; short = h })
-      go (failed h) = h ∙ refused-so L levels t sized lawful (λ w. never-both (w .short) h)
+      go : Tested (readsBack L levels t) → false ≡ readsBack L levels t
+      go (passed h) = absurd (n (rows-passed L levels t (w .sized) (row-by-row L (w .testable .fits .lawful) levels t .0 h .1)))
+      go (failed h) = sym h
+
+  accepted-so : Passed L levels t → true ≡ readsBack L levels t
+  accepted-so v = sym (row-by-row L (w .testable .fits .lawful) levels t .1 (w .sized, passed-rows L levels t (w .sized) (w .segments) (w .leaves) v))
+
+  -- the last test decides where the others are passed
+  pub short-decides : {r : Bool} → r ≡ leb (sumOf (writtenBytes L) (groups L levels t (w .sized))) (L .bytes)
+      → (leb (sumOf (writtenBytes L) (groups L levels t (w .sized))) (L .bytes) ≡ true → Passed L levels t) → r ≡ readsBack L levels t
+  short-decides e others = e ∙ go (tested (leb (sumOf (writtenBytes L) (groups L levels t (w .sized))) (L .bytes)))
+    where
+      go : Tested (leb (sumOf (writtenBytes L) (groups L levels t (w .sized))) (L .bytes))
+          → leb (sumOf (writtenBytes L) (groups L levels t (w .sized))) (L .bytes) ≡ readsBack L levels t
+      go (passed h) = h ∙ accepted-so (others h)
+      go (failed h) = h ∙ refused-so (λ v. never-both (v .short) h)

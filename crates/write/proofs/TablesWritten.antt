@@ -4,11 +4,10 @@ use mathlib.Core.Bool.{true, false}
 use mathlib.Core.List.{List, _∷_}
 use mathlib.Core.Path.{_≡_, sym, ap, ap₂, _∙_, subst}
 use Prim.Native.Nat.{ℕ, suc, _+_, _*_, _≤_, _<_}
-use native.Mathlib.Nat.{zero-add}
 use native.Mathlib.Omega.{arith}
 use lib.Dec.{eqb}
 use lib.ListN.{length, getD, take, drop, length-take, length-drop, take-append-drop}
-use lib.Seq.{sets, getD-take, getD-drop}
+use lib.Seq.{sets, getD-take}
 use borrow.Author.Tests.{ne-eqb}
 use Rattle.laws.specs.Every.{All, none, also}
 use Rattle.laws.specs.Tables.{values}
@@ -26,33 +25,34 @@ use Rattle.table.specs.Leaves.{Leaf, split}
 use Rattle.table.specs.Flat.{leaf}
 use Rattle.table.specs.Back.{leafAt, leavesOf, separatorsAt, separatorsIn, unsplit, segmentsOf, linesOf, written}
 use Rattle.table.specs.RowTests.{nextPlace}
-use Rattle.table.proofs.EndToEnd.{ends-each}
+use Rattle.table.proofs.EndToEnd.{ended-within, ended-first, ended-next}
 use Rattle.write.specs.declared.lines.Going.{Going}
 use Rattle.table.specs.Lent.{Lent, withinBuffers, counted}
 use Rattle.write.specs.Local.{Local}
 use Rattle.write.specs.RowByRow.{RowByRow}
 use Rattle.write.specs.Writing.{isTable}
 use Rattle.write.specs.Filling.{InSegment}
-use Rattle.write.specs.Passing.{linesOfRows, FourWithin, NextAfter, Writable, WrittenOut}
-use Rattle.write.specs.Tests.{placeOf}
+use Rattle.write.specs.Asked.{FourWithin}
+use Rattle.write.specs.Passing.{linesOfRows, NextAfter, Writable, WrittenOut}
 use Rattle.write.proofs.LocalTables.{headed-leaves, local-accepted}
 use Rattle.write.proofs.RowByRow.{rows-local}
-use Rattle.write.proofs.LaidRows.{ended-first, ended-next, sound-next}
+use Rattle.write.proofs.GoingOn.{sound-next}
 use Rattle.write.proofs.Passing.{three-leaves, header-sound}
 use Rattle.write.proofs.LentTables.{within-buffers, counted-sized, is-table-rows}
+use Rattle.table.specs.Rows.{leafRowSize, lengthIn, placeIn, startIn}
 
 -- a counted leaf of the lent rows and text
 module _ (rows text : List ℕ) (count size : ℕ) where
-  row-counted : (i k : ℕ) → i < count → k < 7 → getD (take (count * 7) rows) (i * 7 + k) 0 ≡ getD rows (i * 7 + k) 0
-  row-counted i k less small = getD-take (count * 7) rows (i * 7 + k) 0 (omega arith)
+  row-counted : (i k : ℕ) → i < count → k < 7 → getD (take (count * leafRowSize) rows) (i * leafRowSize + k) 0 ≡ getD rows (i * leafRowSize + k) 0
+  row-counted i k less small = getD-take (count * leafRowSize) rows (i * leafRowSize + k) 0 (omega arith)
 
-  pub leaf-counted : (i : ℕ) → i < count → getD rows (i * 7 + 5) 0 + getD rows (i * 7 + 6) 0 ≤ size
-      → leafAt (take (count * 7) rows) (take size text) i ≡ leafAt rows text i
+  pub leaf-counted : (i : ℕ) → i < count → startIn rows i + lengthIn rows i ≤ size
+      → leafAt (take (count * leafRowSize) rows) (take size text) i ≡ leafAt rows text i
   unfolding leafAt
   leaf-counted i less fits =
-      ap₂ leaf (part-taken rows (i * 7) 5 (count * 7) (omega arith))
+      ap₂ leaf (part-taken rows (i * leafRowSize) 5 (count * leafRowSize) (omega arith))
       (ap₂ (λ (n k : ℕ). take n (drop k (take size text))) (row-counted i 6 less (omega arith)) (row-counted i 5 less (omega arith))
-      ∙ part-taken text (getD rows (i * 7 + 5) 0) (getD rows (i * 7 + 6) 0) size fits)
+      ∙ part-taken text (startIn rows i) (lengthIn rows i) size fits)
 
 -- a part of a text that is all text has no CR in it
 in-segment : {s : List ℕ} (start size : ℕ) → All (λ (b : ℕ). space ≤ b) s → InSegment (take size (drop start s))
@@ -65,32 +65,6 @@ in-segment {s} start size w =
     all-text =
         all-left (take size (drop start s)) (drop size (drop start s))
         (subst (All (λ (b : ℕ). space ≤ b)) (sym (take-append-drop size (drop start s))) (all-drop start w))
-
--- the four bytes of the second leaf, where its row says that they lie
-module _ (field : ℕ) (rows text : List ℕ) (w : FourWithin rows text) {at : ℕ} (e : at ≡ getD rows 12 0) where
-  byte-of : (k : ℕ) → k < 4 → getD text (at + k) 0 ≡ getD (leafAt rows text 1 .text) k 0
-  unfolding leafAt
-  byte-of k less =
-      sym (ap₂ (λ (n j : ℕ). getD (take n (drop j text)) k 0) (w .four) (sym e)
-      ∙ getD-take 4 (drop at text) k 0 less
-      ∙ getD-drop at text k 0)
-
-  pub separators-read : _≡_ {A = Separators}
-      (record {
-        field = field;
-        subfield = getD text at 0;
-        repeater = getD text (at + 1) 0;
-        escape = getD text (at + 2) 0;
-        subsubfield = getD text (at + 3) 0;
-      })
-      (separatorsAt field rows text)
-  unfolding separatorsAt
-  separators-read =
-      let first = ap (λ (j : ℕ). getD text j 0) (let z : at ≡ at + 0 = omega arith in z) ∙ byte-of 0 (omega arith) in
-      let second = byte-of 1 (omega arith) in
-      let third = byte-of 2 (omega arith) in
-      let fourth = byte-of 3 (omega arith) in
-      cc
 
 module _ (L : Limits) (lawful : Lawful L) (levels : ℕ → ℕ → ℕ) (l : Lent) (test : isTable L levels l ≡ true) where
   within : withinBuffers l ≡ true
@@ -111,23 +85,18 @@ module _ (L : Limits) (lawful : Lawful L) (levels : ℕ → ℕ → ℕ) (l : Le
         length-values (leafAt (counted l .leafRows) (counted l .text)) 0 (l .card .leaves),
       )
 
-  ends : (i : ℕ) → i < l .card .leaves → getD (l .leafRows) (i * 7 + 5) 0 + getD (l .leafRows) (i * 7 + 6) 0 ≤ l .card .text
+  ends : (i : ℕ) → i < l .card .leaves → startIn (l .leafRows) i + lengthIn (l .leafRows) i ≤ l .card .text
   unfolding counted
   ends i less =
       omega (
         arith,
-        subst
-            (λ (j : ℕ).
-            getD (take (l .card .leaves * 7) (l .leafRows)) (j * 7 + 5) 0 + getD (take (l .card .leaves * 7) (l .leafRows)) (j * 7 + 6) 0
-            ≤ l .card .text)
-            (zero-add i)
-            (ends-each (counted l .leafRows) (l .card .text) 0 (l .card .leaves) 0 (rows .laid) i less),
+        ended-within (counted l .leafRows) (l .card .text) (l .card .leaves) (rows .laid) i less,
         row-counted (l .leafRows) (l .text) (l .card .leaves) (l .card .text) i 5 less (omega arith),
         row-counted (l .leafRows) (l .text) (l .card .leaves) (l .card .text) i 6 less (omega arith),
       )
 
   next-start : (i : ℕ) → i + 1 < l .card .leaves
-      → getD (l .leafRows) ((i + 1) * 7 + 5) 0 ≡ getD (l .leafRows) (i * 7 + 5) 0 + getD (l .leafRows) (i * 7 + 6) 0
+      → startIn (l .leafRows) (i + 1) ≡ startIn (l .leafRows) i + lengthIn (l .leafRows) i
   unfolding counted
   next-start i less =
       let there = row-counted (l .leafRows) (l .text) (l .card .leaves) (l .card .text) in
@@ -135,10 +104,10 @@ module _ (L : Limits) (lawful : Lawful L) (levels : ℕ → ℕ → ℕ) (l : Le
         arith,
         subst
             (λ (j : ℕ).
-            getD (take (l .card .leaves * 7) (l .leafRows)) (j * 7 + 5) 0
-            ≡ getD (take (l .card .leaves * 7) (l .leafRows)) (i * 7 + 5) 0 + getD (take (l .card .leaves * 7) (l .leafRows)) (i * 7 + 6) 0)
+            startIn (take (l .card .leaves * leafRowSize) (l .leafRows)) j
+            ≡ startIn (take (l .card .leaves * leafRowSize) (l .leafRows)) i + lengthIn (take (l .card .leaves * leafRowSize) (l .leafRows)) i)
             (let e : suc i ≡ i + 1 = omega arith in e)
-            (ended-next (counted l .leafRows) (l .card .leaves) (l .card .text) (rows .laid) i (omega arith)),
+            (ended-next (counted l .leafRows) (l .card .text) (l .card .leaves) (rows .laid) i (omega arith)),
         there (i + 1) 5 less (omega arith),
         there i 5 (omega arith) (omega arith),
         there i 6 (omega arith) (omega arith),
@@ -147,11 +116,11 @@ module _ (L : Limits) (lawful : Lawful L) (levels : ℕ → ℕ → ℕ) (l : Le
   next-place : (i : ℕ) → i + 1 < l .card .leaves → NextAfter (l .leafRows) i
   unfolding counted
   next-place i less =
-      ap₂ nextPlace (sym (part-taken (l .leafRows) (i * 7) 5 (l .card .leaves * 7) (omega arith)))
-      (sym (part-taken (l .leafRows) ((i + 1) * 7) 5 (l .card .leaves * 7) (omega arith)))
-      ∙ subst (λ (j : ℕ). nextPlace (placeOf (counted l .leafRows) i) (placeOf (counted l .leafRows) j) ≡ true) (let e : suc i ≡ i + 1 = omega arith in e)
-      (sound-next (l .card .separator) (counted l .leafRows) (counted l .text) (l .card .leaves) (three-leaves (counted l) (rows .others))
-      (header-sound (counted l) (rows .header) (rows .others)) i (omega arith))
+      ap₂ nextPlace (sym (part-taken (l .leafRows) (i * leafRowSize) 5 (l .card .leaves * leafRowSize) (omega arith)))
+      (sym (part-taken (l .leafRows) ((i + 1) * leafRowSize) 5 (l .card .leaves * leafRowSize) (omega arith)))
+      ∙ subst (λ (j : ℕ). nextPlace (placeIn (counted l .leafRows) i) (placeIn (counted l .leafRows) j) ≡ true) (let e : suc i ≡ i + 1 = omega arith in e)
+      (sound-next (l .card .separator) (counted l .leafRows) (counted l .text) (l .card .leaves) (header-sound (counted l) (rows .header) (rows .others))
+      (three-leaves (counted l) (rows .others)) i (omega arith))
 
   leaf-same : (i : ℕ) → i < l .card .leaves → leafAt (counted l .leafRows) (counted l .text) i ≡ leafAt (l .leafRows) (l .text) i
   unfolding counted
@@ -183,12 +152,12 @@ module _ (L : Limits) (lawful : Lawful L) (levels : ℕ → ℕ → ℕ) (l : Le
       let held = within-buffers l .0 within .text in
       let some = some-leaves in
       let ended = ends 1 some-leaves in
-      let size : getD (l .leafRows) 13 0 ≡ 4 =
+      let size : lengthIn (l .leafRows) 1 ≡ 4 =
       omega (
         arith,
         sym (ap (λ (m : Leaf). length (m .text)) (leaf-same 1 some-leaves)) ∙ local .header .four,
-        length-take (getD (l .leafRows) 13 0) (drop (getD (l .leafRows) 12 0) (l .text)),
-        length-drop (getD (l .leafRows) 12 0) (l .text),
+        length-take (lengthIn (l .leafRows) 1) (drop (startIn (l .leafRows) 1) (l .text)),
+        length-drop (startIn (l .leafRows) 1) (l .text),
       ) in
       record { row = omega arith; four = size; within = omega arith }
 
@@ -223,9 +192,11 @@ module _ (L : Limits) (lawful : Lawful L) (levels : ℕ → ℕ → ℕ) (l : Le
                 within = omega (arith, ends i less, within-buffers l .0 within .text);
                 inSegment =
                     subst (λ (m : Leaf). InSegment (m .text)) (leaf-same i less)
-                    (in-segment (getD (counted l .leafRows) (i * 7 + 5) 0) (getD (counted l .leafRows) (i * 7 + 6) 0) (local .bytes));
+                    (in-segment (startIn (counted l .leafRows) i) (lengthIn (counted l .leafRows) i) (local .bytes));
               };
-          first = sym (row-counted (l .leafRows) (l .text) (l .card .leaves) (l .card .text) 0 5 (omega (arith, some-leaves)) (omega arith)) ∙ ended-first (counted l .leafRows) (l .card .leaves) (l .card .text) (rows .laid) (omega (arith, some-leaves));
+          first =
+              sym (row-counted (l .leafRows) (l .text) (l .card .leaves) (l .card .text) 0 5 (omega (arith, some-leaves)) (omega arith))
+              ∙ ended-first (counted l .leafRows) (l .card .text) (l .card .leaves) (rows .laid) (omega (arith, some-leaves));
           next = next-start;
           splits = splits-clear;
           places = next-place;

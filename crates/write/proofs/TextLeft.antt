@@ -14,7 +14,10 @@ use Rattle.laws.proofs.Parts.{left-cons, part-cons}
 use Rattle.laws.proofs.Stores.{sets-first}
 use Rattle.form.specs.declared.limits.Limits.{Limits}
 use Rattle.line.specs.Lines.{CR}
-use Rattle.write.specs.Filling.{Stand, stand, broken, opened, puts, Fits, InSegment}
+use Rattle.form.specs.Limits.{Lawful}
+use Rattle.form.proofs.RoundedUp.{some-more}
+use Rattle.write.specs.Asked.{RoomForEnd}
+use Rattle.write.specs.Filling.{Stand, stand, broken, lineOpened, puts, Fits, InSegment}
 use Rattle.write.proofs.Filling.{going, same-going, puts-append, puts-opened, puts-room, opened-kept, opened-full, puts-kept, fits-first, fits-next, open-fits, break-fits}
 
 -- copying: what is left to copy from i on gives the whole
@@ -78,7 +81,7 @@ pub record TextLeft (L : Limits) (f : ℕ) (text : List ℕ) (end : ℕ) (s₀ :
 
 -- one turn: more is left than the line has room for, so it is filled and broken
 module _ {L : Limits} {f : ℕ} {text : List ℕ} {end : ℕ} {s₀ : Stand} {whole : List ℕ} {s : Stand} {at : ℕ}
-    (w : TextLeft L f text end s₀ whole s at) (some : 1 ≤ L .more) (within : end ≤ length text) (more : s .going .room < end - at) where
+    (w : TextLeft L f text end s₀ whole s at) (lawful : Lawful L) (within : end ≤ length text) (more : s .going .room < end - at) where
   abbrev count : ℕ
   count = s .going .room
 
@@ -130,20 +133,21 @@ module _ {L : Limits} {f : ℕ} {text : List ℕ} {end : ℕ} {s₀ : Stand} {wh
     others-fit : Fits L f full others
     others-fit = subst (λ (u : Stand). Fits L f u others) (sym filled) (fits-next L f s bytes others (subst (Fits L f s) halves (w .fits)))
 
-    pub text-broken : (s .going .out + count + 3 ≤ length output) × (s .going .lines ≤ s .going .out + count)
+    pub text-broken : RoomForEnd (going (s .going .out + count) 0 (s .going .lines)) output 3
     unfolding full
     text-broken =
-        let asks = open-fits L f full (getD text (at + count) 0) (eqb-false (getD text (at + count) 0) CR no-CR) (subst (Fits L f full) first others-fit) in
-        (break-fits L f full (length output) refl (asks .0), asks .1)
+        break-fits L f full refl
+        (open-fits L f full (getD text (at + count) 0) (eqb-false (getD text (at + count) 0) CR no-CR) (subst (Fits L f full) first others-fit))
 
     kept : length output ≡ length (s₀ .output)
     unfolding full
     kept = ap (λ (u : Stand). length (u .output)) filled ∙ puts-kept L f s bytes .same-length ∙ w .same
 
     pub text-room : s .going .out + count + 3 ≤ length (s₀ .output)
-    text-room = omega (arith, text-broken .0, kept)
+    unfolding full
+    text-room = omega (arith, text-broken .within, kept)
 
-    opens : opened L f full ≡ broken L f full
+    opens : lineOpened L f full ≡ broken L f full
     unfolding full
     opens = opened-full L f full refl
 
@@ -153,8 +157,8 @@ module _ {L : Limits} {f : ℕ} {text : List ℕ} {end : ℕ} {s₀ : Stand} {wh
     text-turn {t} e =
         let same-puts : puts L f t others ≡ puts L f full others =
         ap (λ (u : Stand). puts L f u others) (e ∙ sym opens)
-        ∙ ap (puts L f (opened L f full)) first
-        ∙ puts-opened L f some full (getD text (at + count) 0) (part text (at + count + 1) end) no-CR
+        ∙ ap (puts L f (lineOpened L f full)) first
+        ∙ puts-opened L f (some-more L lawful) full (getD text (at + count) 0) (part text (at + count + 1) end) no-CR
         ∙ ap (puts L f full) (sym first) in
         let same-size : length (t .output) ≡ length output = ap (λ (u : Stand). length (u .output)) (e ∙ sym opens) ∙ opened-kept L f full .same-length in
         record {
@@ -179,7 +183,7 @@ module _ {L : Limits} {f : ℕ} {text : List ℕ} {end : ℕ} {s₀ : Stand} {wh
     pub text-less : {t : Stand} → t ≡ broken L f (stand output (going (s .going .out + count) 0 (s .going .lines)))
         → (end - (at + count)) * 2 + (1 - t .going .room) < (end - at) * 2 + (1 - s .going .room)
     unfolding broken
-    text-less {t} e = let roomy : t .going .room ≡ L .more = ap (λ (u : Stand). u .going .room) e in omega arith
+    text-less {t} e = let roomy : t .going .room ≡ L .more = ap (λ (u : Stand). u .going .room) e in omega (arith, some-more L lawful)
 
 -- at last the line has room for all that is left
 module _ {L : Limits} {f : ℕ} {text : List ℕ} {end : ℕ} {s₀ : Stand} {whole : List ℕ} {s : Stand} {at : ℕ}

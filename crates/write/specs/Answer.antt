@@ -28,8 +28,8 @@ unfoldable pub writtenSize : Limits → (ℕ → ℕ → ℕ) → Lent → ℕ
 writtenSize L levels l = answer (writing L levels l (L .bytes)) .bytes
 
 -- what is written for a table, which its segment rows do not change
-unfoldable pub message : Limits → Card → List ℕ → List ℕ → Writing
-message L card leafRows text =
+unfoldable pub messageWritten : Limits → Card → List ℕ → List ℕ → Writing
+messageWritten L card leafRows text =
     writes (written L (counted (lent card [] leafRows text))) (length (linesOf L (counted (lent card [] leafRows text))))
 
 -- a card, leaf rows and a text that passed the table test, with some segment rows

@@ -29,8 +29,8 @@ placed s b =
     (record { out = s .going .out + 1; room = s .going .room - 1; lines = s .going .lines })
 
 -- the line begun, and with it the segment, is closed
-unfoldable pub closed : Limits → Stand → Stand
-closed L s =
+unfoldable pub segmentClosed : Limits → Stand → Stand
+segmentClosed L s =
     stand (set (s .output) (s .going .out) CR) (record { out = s .going .out + 1; room = L .line; lines = s .going .lines + 1 })
 
 -- the line begun is closed, and the segment goes on in an addendum
@@ -40,17 +40,17 @@ broken L f s =
     (record { out = s .going .out + 3; room = L .more; lines = s .going .lines + 1 })
 
 -- a line that has room for one more byte of the segment
-unfoldable pub opened : Limits → ℕ → Stand → Stand
-opened L f s = elim (eqb (s .going .room) 0) [ true ↦ broken L f s | false ↦ s ]
+unfoldable pub lineOpened : Limits → ℕ → Stand → Stand
+lineOpened L f s = elim (eqb (s .going .room) 0) [ true ↦ broken L f s | false ↦ s ]
 
 -- one byte more: CR closes the segment
-unfoldable pub put : Limits → ℕ → Stand → ℕ → Stand
-put L f s b = elim (eqb b CR) [ true ↦ closed L s | false ↦ placed (opened L f s) b ]
+unfoldable pub putByte : Limits → ℕ → Stand → ℕ → Stand
+putByte L f s b = elim (eqb b CR) [ true ↦ segmentClosed L s | false ↦ placed (lineOpened L f s) b ]
 
 -- bytes more, one after the other
 unfoldable pub puts : Limits → ℕ → Stand → List ℕ → Stand
 puts L f s [] = s
-puts L f s (b ∷ x) = puts L f (put L f s b) x
+puts L f s (b ∷ x) = puts L f (putByte L f s b) x
 
 -- what putting bytes asks: the output holds what they give; each line has a byte at least, its CR
 pub record Fits (L : Limits) (f : ℕ) (s : Stand) (x : List ℕ) : Type 0 where

@@ -5,3 +5,4 @@ pub mod Filling
 pub mod Passing
 pub mod Answer
 pub mod Tests
+pub mod Asked

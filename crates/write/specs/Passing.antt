@@ -4,7 +4,7 @@ use mathlib.Core.Bool.{true}
 use mathlib.Core.List.{List, _∷_}
 use mathlib.Core.Path.{_≡_}
 use Prim.Native.Nat.{ℕ, _+_, _*_, _≤_, _<_}
-use lib.ListN.{length, take, drop, getD}
+use lib.ListN.{length}
 use lib.Seq.{sets}
 use Rattle.laws.specs.Tables.{values}
 use Rattle.form.specs.declared.limits.Limits.{Limits}
@@ -18,10 +18,11 @@ use Rattle.table.specs.Back.{leafAt, between, unsplit}
 use Rattle.table.specs.RowTests.{nextPlace}
 use Rattle.write.specs.Filling.{InSegment}
 use Rattle.write.specs.declared.lines.Going.{Going}
+use Rattle.table.specs.Rows.{leafRowSize, placeIn, startIn, lengthIn}
 
 -- the text of the leaf of row i, counted from 0, lies in the text area and has no CR in it
 pub record LeafWithin (rows text : List ℕ) (i : ℕ) : Type 0 where
-  pub within : getD rows (i * 7 + 5) 0 + getD rows (i * 7 + 6) 0 ≤ length text
+  pub within : startIn rows i + lengthIn rows i ≤ length text
   pub inSegment : InSegment (leafAt rows text i .text)
 
 -- the lines that so many leaf rows are written in
@@ -29,29 +30,23 @@ unfoldable pub linesOfRows : Limits → Separators → List ℕ → ℕ → List
 linesOfRows L ps rows count text =
     cuts L (ps .field) (split CR (unsplit (CR ∷ splitting ps) (values (leafAt rows text) 0 count)))
 
--- what finding them asks: there is such a row, of four bytes, and these lie in the text area
-pub record FourWithin (rows text : List ℕ) : Type 0 where
-  pub row : 14 ≤ length rows
-  pub four : getD rows 13 0 ≡ 4
-  pub within : getD rows 12 0 + 4 ≤ length text
-
 -- the separator that leads from the leaf of a row to the next one
 abbrev pub leading : Separators → List ℕ → ℕ → ℕ
-leading ps rows row = between (CR ∷ splitting ps) (take 5 (drop (row * 7) rows)) (take 5 (drop ((row + 1) * 7) rows))
+leading ps rows row = between (CR ∷ splitting ps) (placeIn rows row) (placeIn rows (row + 1))
 
 -- the leaf after that of a row stands at the place that comes next
 abbrev pub NextAfter : List ℕ → ℕ → Type 0
-NextAfter rows row = nextPlace (take 5 (drop (row * 7) rows)) (take 5 (drop ((row + 1) * 7) rows)) ≡ true
+NextAfter rows row = nextPlace (placeIn rows row) (placeIn rows (row + 1)) ≡ true
 
 -- what the pass asks
 pub record Writable (L : Limits) (ps : Separators) (rows : List ℕ) (count : ℕ) (text output : List ℕ) : Type 0 where
   pub lawful : Lawful L
   pub some : 1 ≤ count
-  pub long : count * 7 ≤ length rows
+  pub long : count * leafRowSize ≤ length rows
   pub leaves : (i : ℕ) → i < count → LeafWithin rows text i
   -- the texts lie end to end
-  pub first : getD rows 5 0 ≡ 0
-  pub next : (i : ℕ) → i + 1 < count → getD rows ((i + 1) * 7 + 5) 0 ≡ getD rows (i * 7 + 5) 0 + getD rows (i * 7 + 6) 0
+  pub first : startIn rows 0 ≡ 0
+  pub next : (i : ℕ) → i + 1 < count → startIn rows (i + 1) ≡ startIn rows i + lengthIn rows i
   -- no separator is CR
   pub splits : InSegment (splitting ps)
   -- each place comes next after the one before it

@@ -6,54 +6,35 @@ use mathlib.Core.List.{List, [], _∷_}
 use mathlib.Core.Path.{_≡_}
 use Prim.Native.Nat.{ℕ, zero, suc, _+_, _-_, _*_, _≤_, _<_}
 use lib.Dec.{leb, ltb, eqb}
-use lib.ListN.{length, take, drop, getD}
+use lib.ListN.{length, getD}
 use Rattle.laws.specs.Lists.{same, among}
 use Rattle.laws.specs.Tables.{values}
-use Rattle.form.specs.declared.limits.Limits.{Limits}
-use Rattle.form.specs.declared.separators.Separators.{Separators}
 use Rattle.form.specs.Header.{allAllowed, different, five, splitting}
 use Rattle.form.specs.Names.{numberAmong}
 use Rattle.line.specs.Lines.{space}
 use Rattle.table.specs.declared.Card.{Card}
 use Rattle.table.specs.Leaves.{Leaf}
-use Rattle.form.specs.Limits.{Lawful}
-use Rattle.write.specs.RowByRow.{Sized}
-use Rattle.table.specs.Rows.{Table, segmentRowSize, leafRowSize}
+use Rattle.table.specs.Rows.{Table, segmentRowSize, leafRowSize, kindIn, ownerIn, firstIn, countIn, segmentIn, placeIn, width}
 use Rattle.table.specs.Back.{leafAt, separatorsAt}
 use Rattle.order.specs.Place.{misplaced}
 use Rattle.table.specs.BySegment.{bySegment, kindAmong, contextAmong, numberOfField}
 use Rattle.table.specs.RowTests.{endToEnd, nextPlace, goOnFrom}
 use Rattle.write.specs.Local.{thirdPlace}
 
--- limits whose numbers fit the rows' numbers, so that no sum wraps
-pub record Small (L : Limits) : Type 0 where
-  pub segments : L .segments ≤ 65535
-  pub leaves : L .leaves ≤ 65535
-  pub bytes : L .bytes ≤ 4294967295
-
 -- a test that is passed exactly where something holds
 abbrev pub Decides : Bool → Type 0 → Type 0
 Decides r holds = (r ≡ true → holds) × (r ≡ false → holds → ⊥)
 
--- counts within the limits and within lent buffers of some lengths
-unfoldable pub countsWithin : Limits → Card → ℕ → ℕ → ℕ → Bool
-countsWithin L c segmentRows leafRows text =
-    leb (c .segments) (L .segments) && leb (c .leaves) (L .leaves) && leb (c .text) (L .bytes)
-    && (leb (c .segments * segmentRowSize) segmentRows && leb (c .leaves * leafRowSize) leafRows && leb (c .text) text)
-
--- so many leaf rows, each of which states a part of the text
+-- so many leaf rows, whose texts lie end to end in a text; both are few enough for a row's number
 pub record InText (rows text : List ℕ) (count : ℕ) : Type 0 where
   pub sized : length rows ≡ count * leafRowSize
-  pub few : count ≤ 65535
-  pub fits : (k : ℕ) → k < count → getD rows (k * leafRowSize + 5) 0 + getD rows (k * leafRowSize + 6) 0 ≤ length text
-
--- the place that a leaf row states
-abbrev pub placeOf : List ℕ → ℕ → List ℕ
-placeOf rows i = take 5 (drop (i * leafRowSize) rows)
+  pub few : count < width
+  pub short : length text < width
+  pub ended : endToEnd rows (length text) 0 count 0 ≡ true
 
 -- leaf rows of which each stands at the place that comes next
 abbrev pub PlacesFollow : List ℕ → ℕ → Type 0
-PlacesFollow rows count = (k : ℕ) → suc k < count → nextPlace (placeOf rows k) (placeOf rows (suc k)) ≡ true
+PlacesFollow rows count = (k : ℕ) → suc k < count → nextPlace (placeIn rows k) (placeIn rows (suc k)) ≡ true
 
 -- leaf rows that are laid out: their texts lie end to end, and each stands at the place that comes next
 pub record Laid (rows : List ℕ) (count finish : ℕ) : Type 0 where
@@ -61,8 +42,8 @@ pub record Laid (rows : List ℕ) (count finish : ℕ) : Type 0 where
   pub next : PlacesFollow rows count
 
 -- the leaves that the rows from one up to another state
-abbrev pub leavesFrom : List ℕ → List ℕ → ℕ → ℕ → List Leaf
-leavesFrom rows text first end = values (leafAt rows text) first (end - first)
+abbrev pub leavesBetween : List ℕ → List ℕ → ℕ → ℕ → List Leaf
+leavesBetween rows text first end = values (leafAt rows text) first (end - first)
 
 -- the numbers of the place at an entry that are finer than its first k
 abbrev pub finer : List ℕ → ℕ → ℕ → List ℕ
@@ -71,20 +52,6 @@ finer rows at k = values (λ (j : ℕ). getD rows (at + j) 0) k (5 - k)
 -- whether a byte may stand in a leaf's text
 unfoldable pub leafByte : List ℕ → ℕ → Bool
 leafByte ps b = leb space b && not (among ps b)
-
--- the class of a byte, by which a text is tested: 0 where it may stand in a leaf's text, 1 where it is a separator or below 32
-unfoldable pub markOf : List ℕ → ℕ → ℕ
-markOf ps b = elim (among ps b) [ true ↦ 1 | false ↦ 0 ]
-
-unfoldable pub classOf : List ℕ → ℕ → ℕ
-classOf ps b = elim (ltb b space) [ true ↦ 1 | false ↦ markOf ps b ]
-
--- the tables of all bytes
-unfoldable pub markTable : List ℕ → List ℕ
-markTable ps = values (markOf ps) 0 256
-
-unfoldable pub classTable : List ℕ → List ℕ
-classTable ps = values (classOf ps) 0 256
 
 -- whether the first two leaf rows are a header's: `H`, and four bytes
 unfoldable pub headerLeavesAt : List ℕ → List ℕ → Bool
@@ -98,23 +65,23 @@ headerLeavesAt rows text =
 pub record SegmentEnd (rows : List ℕ) (count first end : ℕ) : Type 0 where
   pub from : first < end
   pub to : end ≤ count
-  pub within : (k : ℕ) → first ≤ k → k < end → getD rows (k * leafRowSize) 0 ≡ getD rows (first * leafRowSize) 0
-  pub other : end < count → getD rows (end * leafRowSize) 0 ≡ getD rows (first * leafRowSize) 0 → ⊥
+  pub within : (k : ℕ) → first ≤ k → k < end → segmentIn rows k ≡ segmentIn rows first
+  pub other : end < count → segmentIn rows end ≡ segmentIn rows first → ⊥
 
 -- the one leaf of a field among some leaves, or their end where the field is missing or is more than one leaf
 pub record FieldLeaf (rows : List ℕ) (field first end at : ℕ) : Type 0 where
   pub from : first ≤ at
   pub to : at ≤ end
   pub number : (names : List (List ℕ)) (text : List ℕ)
-      → numberOfField names field (leavesFrom rows text first end) ≡ cond (ltb at end) (numberAmong names (leafAt rows text at .text)) 0
+      → numberOfField names field (leavesBetween rows text first end) ≡ cond (ltb at end) (numberAmong names (leafAt rows text at .text)) 0
 
 -- whether segment row i states a known kind, a first leaf and a leaf count
 unfoldable pub rowStates : List ℕ → ℕ → ℕ → ℕ → ℕ → Bool
 rowStates rows i kind first count =
     not (eqb kind 0)
-    && eqb (getD rows (i * segmentRowSize) 0) kind
-    && eqb (getD rows (i * segmentRowSize + 2) 0) first
-    && eqb (getD rows (i * segmentRowSize + 3) 0) count
+    && eqb (kindIn rows i) kind
+    && eqb (firstIn rows i) first
+    && eqb (countIn rows i) count
 
 -- whether the n segment rows from row i on state the kinds, the first leaves and the leaf counts of some segments, owners aside
 unfoldable pub groupsStated : List ℕ → ℕ → ℕ → ℕ → List (List Leaf) → Bool
@@ -125,23 +92,23 @@ groupsStated rows i (suc n) first (g ∷ gs) = rowStates rows i (kindAmong g) fi
 
 -- the kinds and the owners that segment rows state
 unfoldable pub kindColumn : List ℕ → ℕ → List ℕ
-kindColumn rows n = values (λ (i : ℕ). getD rows (i * segmentRowSize) 0) 0 n
+kindColumn rows n = values (λ (i : ℕ). kindIn rows i) 0 n
 
 unfoldable pub ownerColumn : List ℕ → ℕ → List ℕ
-ownerColumn rows n = values (λ (i : ℕ). getD rows (i * segmentRowSize + 1) 0) 0 n
+ownerColumn rows n = values (λ (i : ℕ). ownerIn rows i) 0 n
 
 -- segment rows that state kinds
 pub record KindsStated (rows : List ℕ) (n : ℕ) : Type 0 where
   pub sized : length rows ≡ n * segmentRowSize
-  pub few : n ≤ 65535
-  pub kinds : (i : ℕ) → i < n → getD rows (i * segmentRowSize) 0 ≤ 12
+  pub few : n < width
+  pub kinds : (i : ℕ) → i < n → kindIn rows i ≤ 12
 
 -- whether the header's rows keep the header rule and the leaf rows after them go on soundly
 unfoldable pub soundLeaves : ℕ → List ℕ → List ℕ → ℕ → Bool
 soundLeaves field rows text count =
     headerLeavesAt rows text
     && (allAllowed (five (separatorsAt field rows text)) && different (five (separatorsAt field rows text)))
-    && goOnFrom (splitting (separatorsAt field rows text)) thirdPlace (leavesFrom rows text 2 count)
+    && goOnFrom (splitting (separatorsAt field rows text)) thirdPlace (leavesBetween rows text 2 count)
 
 -- whether field 7.7 names the context and the kinds stand where it allows them
 unfoldable pub inOrder : ℕ → List ℕ → ℕ → List ℕ → List ℕ → ℕ → Bool
@@ -150,11 +117,6 @@ inOrder context segments many rows text count =
     && eqb (contextAmong (bySegment (values (leafAt rows text) 0 count))) context
     && eqb (misplaced context (kindColumn segments many)) 0
 
--- a table of the counted entries, as the table test takes it
-pub record Counted (L : Limits) (levels : ℕ → ℕ → ℕ) (t : Table) : Type 0 where
-  pub lawful : Lawful L
-  pub small : Small L
-  pub low : (c k : ℕ) → levels c k < 8
-  pub sized : Sized t
-  pub segments : t .card .segments ≤ L .segments
-  pub leaves : t .card .leaves ≤ L .leaves
+-- a table of some counted entries
+abbrev pub tableWith : Card → (segmentRows leafRows text : List ℕ) → Table
+tableWith card segmentRows leafRows text = record { card = card; segmentRows = segmentRows; leafRows = leafRows; text = text }

@@ -5,53 +5,29 @@ use crate::lines::put_inside;
 use crate::lines::put_text;
 use form::limits::Limits;
 use form::separators::Separators;
+use table::rows;
+use table::rows::Entry;
 ghost use mathlib.Core.List.{[], _∷_};
 ghost use mathlib.Core.Path.{_≡_};
-ghost use Prim.Native.Nat.{_+_, _*_, _≤_, _<_};
-ghost use lib.ListN.{length, getD};
-ghost use Rattle.form.specs.Limits.{Lawful};
-ghost use Rattle.form.specs.Header.{splitting};
-ghost use Rattle.table.specs.Back.{separatorsAt};
-ghost use Rattle.write.specs.Filling.{stand, puts, Fits, InSegment};
-ghost use Rattle.write.specs.Passing.{leading, FourWithin, NextAfter, Writable, WrittenOut};
-
-// A number of a row as a size.
-fn wide(n: u16) -> usize
-    ensures { λ r. ⌜ (r ≡ n) × (r < 65536) ⌝ }
-{
-    n as usize
-}
-
-// The separators of a table: the card has the field separator, the text of the second leaf the others.
-pub(crate) fn separators_in(field: u8, leaves: &[u16], text: &[u8]) -> Separators
-    requires { ⌜ FourWithin (now leaves) (now text) ⌝ }
-    ensures { λ r. ⌜ r ≡ separatorsAt field (now (leaves .entry)) (now (text .entry)) ⌝ }
-{
-    let at = wide(leaves[12]);
-    Separators {
-        field,
-        subfield: text[at],
-        repeater: text[at + 1],
-        escape: text[at + 2],
-        subsubfield: text[at + 3],
-    }
-}
+ghost use Rattle.write.specs.Filling.{stand, puts};
+ghost use Rattle.write.specs.Passing.{leading, Writable, WrittenOut};
+ghost use Rattle.write.specs.Asked.{NextInside, SeparatorFits};
 
 // The separator between the leaf of a row and the next one of its segment: that of the first number of their places that differs. Some
 // number does, since the next leaf stands at the place that comes next.
-fn separator(separators: Separators, leaves: &[u16], row: usize) -> u8
-    requires { ⌜ ((row + 2) * 7 ≤ length (now leaves)) × NextAfter (now leaves) row
-        × (getD (now leaves) (row * 7) 0 ≡ getD (now leaves) (row * 7 + 7) 0) ⌝ }
+fn separator(separators: Separators, leaves: &[Entry], row: usize) -> u8
+    requires { ⌜ NextInside (now leaves) row ⌝ }
     ensures { λ r. ⌜ r ≡ leading separators (now (leaves .entry)) row ⌝ }
 {
-    let at = row * 7;
-    if leaves[at + 1] != leaves[at + 8] {
+    let at = row * rows::LEAF_ROW;
+    let next = at + rows::LEAF_ROW;
+    if leaves[at + rows::FIELD] != leaves[next + rows::FIELD] {
         return separators.field;
     }
-    if leaves[at + 2] != leaves[at + 9] {
+    if leaves[at + rows::REPETITION] != leaves[next + rows::REPETITION] {
         return separators.repeater;
     }
-    if leaves[at + 3] != leaves[at + 10] {
+    if leaves[at + rows::SUBFIELD] != leaves[next + rows::SUBFIELD] {
         return separators.subfield;
     }
     separators.subsubfield
@@ -62,17 +38,16 @@ fn put_separator(
     limits: Limits,
     separators: Separators,
     going: Going,
-    leaves: &[u16],
+    leaves: &[Entry],
     row: usize,
     output: &mut [u8],
 ) -> Going
-    requires { ⌜ Lawful limits × InSegment (splitting separators) × ((row + 2) * 7 ≤ length (now leaves)) × NextAfter (now leaves) row
-        × Fits limits (separators .field) (stand (now output) going) (leading separators (now leaves) row ∷ []) ⌝ }
+    requires { ⌜ SeparatorFits limits separators (stand (now output) going) (now leaves) row ⌝ }
     ensures { λ r. ⌜ stand (now (output .exit)) r
         ≡ puts limits (separators .field) (stand (now (output .entry)) going) (leading separators (now (leaves .entry)) row ∷ []) ⌝ }
 {
-    let at = row * 7;
-    if leaves[at] != leaves[at + 7] {
+    let at = row * rows::LEAF_ROW;
+    if leaves[at] != leaves[at + rows::LEAF_ROW] {
         return close(limits, going, output);
     }
     let byte = separator(separators, leaves, row);
@@ -84,7 +59,7 @@ fn put_separator(
 pub(crate) fn put_leaves(
     limits: Limits,
     separators: Separators,
-    leaves: &[u16],
+    leaves: &[Entry],
     count: usize,
     text: &[u8],
     output: &mut [u8],
@@ -101,7 +76,7 @@ pub(crate) fn put_leaves(
     let mut from = 0;
     let mut row = 0;
     loop {
-        let end = from + wide(leaves[row * 7 + 6]);
+        let end = from + rows::wide(leaves[row * rows::LEAF_ROW + rows::LENGTH]);
         let put = put_text(limits, field, going, text, from, end, output);
         if row + 1 == count {
             return close(limits, put, output);

@@ -2,6 +2,7 @@
 use form::limits::Form;
 use form::number::Number;
 use table::Card;
+use table::rows::Entry;
 ghost use mathlib.Core.Path.{_≡_};
 ghost use lib.ListN.{length};
 ghost use Rattle.form.specs.Limits.{form};
@@ -10,7 +11,6 @@ ghost use Rattle.table.specs.Lent.{lent};
 ghost use Rattle.write.specs.Writing.{refuses, writing};
 ghost use Rattle.write.specs.Answer.{answer, outputAfter};
 
-mod class;
 mod leaf_rows;
 mod leaves;
 mod lines;
@@ -31,8 +31,8 @@ pub struct Written {
 // table that no message reads to with 13; output bytes past the message stay as they were.
 pub fn write(
     card: Card,
-    segments: &[u16],
-    leaves: &[u16],
+    segments: &[Entry],
+    leaves: &[Entry],
     text: &[u8],
     output: &mut [u8],
 ) -> Written

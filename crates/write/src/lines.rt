@@ -5,9 +5,8 @@ ghost use mathlib.Core.Path.{_≡_};
 ghost use Prim.Native.Nat.{_+_, _-_, _≤_, _<_};
 ghost use lib.ListN.{length, take, drop};
 ghost use lib.Seq.{sets};
-ghost use Rattle.form.specs.Limits.{Lawful};
-ghost use Rattle.line.specs.Lines as lines;
-ghost use Rattle.write.specs.Filling.{stand, placed, closed, broken, opened, puts, Fits, InSegment};
+ghost use Rattle.write.specs.Filling.{stand, placed, segmentClosed, broken, lineOpened, puts};
+ghost use Rattle.write.specs.Asked.{Opens, RoomForByte, RoomForEnd, ByteInside, PartInside};
 
 // CR ends a line.
 pub(crate) const CR: u8 = 13;
@@ -21,7 +20,7 @@ pub struct Going {
 
 // A byte goes into the line begun, which has room for it.
 fn place(going: Going, byte: u8, output: &mut [u8]) -> Going
-    requires { ⌜ (going .out < length (now output)) × (1 ≤ going .room) ⌝ }
+    requires { ⌜ RoomForByte going (now output) ⌝ }
     ensures { λ r. ⌜ stand (now (output .exit)) r ≡ placed (stand (now (output .entry)) going) byte ⌝ }
 {
     let at = going.out;
@@ -35,8 +34,8 @@ fn place(going: Going, byte: u8, output: &mut [u8]) -> Going
 
 // The line begun ends, and its segment with it.
 pub(crate) fn close(limits: Limits, going: Going, output: &mut [u8]) -> Going
-    requires { ⌜ (going .out < length (now output)) × (going .lines ≤ going .out) ⌝ }
-    ensures { λ r. ⌜ stand (now (output .exit)) r ≡ closed limits (stand (now (output .entry)) going) ⌝ }
+    requires { ⌜ RoomForEnd going (now output) 1 ⌝ }
+    ensures { λ r. ⌜ stand (now (output .exit)) r ≡ segmentClosed limits (stand (now (output .entry)) going) ⌝ }
 {
     let at = going.out;
     output[at] = CR;
@@ -49,7 +48,7 @@ pub(crate) fn close(limits: Limits, going: Going, output: &mut [u8]) -> Going
 
 // The line begun ends, and its segment goes on in an addendum.
 fn break_line(limits: Limits, field: u8, going: Going, output: &mut [u8]) -> Going
-    requires { ⌜ (going .out + 3 ≤ length (now output)) × (going .lines ≤ going .out) ⌝ }
+    requires { ⌜ RoomForEnd going (now output) 3 ⌝ }
     ensures { λ r. ⌜ stand (now (output .exit)) r ≡ broken limits field (stand (now (output .entry)) going) ⌝ }
 {
     let at = going.out;
@@ -65,8 +64,8 @@ fn break_line(limits: Limits, field: u8, going: Going, output: &mut [u8]) -> Goi
 
 // A line with room for one more byte of the segment: the line begun, or an addendum where that is full.
 fn open_line(limits: Limits, field: u8, going: Going, output: &mut [u8]) -> Going
-    requires { ⌜ (opened limits field (stand (now output) going) .going .out ≤ length (now output)) × (going .lines ≤ going .out) ⌝ }
-    ensures { λ r. ⌜ stand (now (output .exit)) r ≡ opened limits field (stand (now (output .entry)) going) ⌝ }
+    requires { ⌜ Opens limits field (stand (now output) going) ⌝ }
+    ensures { λ r. ⌜ stand (now (output .exit)) r ≡ lineOpened limits field (stand (now (output .entry)) going) ⌝ }
 {
     if going.room == 0 {
         return break_line(limits, field, going, output);
@@ -82,7 +81,7 @@ pub(crate) fn put_inside(
     byte: u8,
     output: &mut [u8],
 ) -> Going
-    requires { ⌜ Lawful limits × Fits limits field (stand (now output) going) (byte ∷ []) × (byte ≡ lines.CR → ⊥) ⌝ }
+    requires { ⌜ ByteInside limits field (stand (now output) going) byte ⌝ }
     ensures { λ r. ⌜ stand (now (output .exit)) r ≡ puts limits field (stand (now (output .entry)) going) (byte ∷ []) ⌝ }
 {
     let open = open_line(limits, field, going, output);
@@ -111,8 +110,7 @@ pub(crate) fn put_text(
     end: usize,
     output: &mut [u8],
 ) -> Going
-    requires { ⌜ Lawful limits × (from ≤ end) × (end ≤ length (now text)) × InSegment (take (end - from) (drop from (now text)))
-        × Fits limits field (stand (now output) going) (take (end - from) (drop from (now text))) ⌝ }
+    requires { ⌜ PartInside limits field (stand (now output) going) (now text) from end ⌝ }
     ensures { λ r. ⌜ stand (now (output .exit)) r ≡ puts limits field (stand (now (output .entry)) going) (take (end - from) (drop from (now (text .entry)))) ⌝ }
 {
     let mut going = going;

@@ -6,19 +6,21 @@ use form::limits::Limits;
 use order::followers;
 use order::levels;
 use table::Card;
-ghost use mathlib.Core.Bool.{_&&_};
+use table::rows;
+use table::rows::Entry;
 ghost use mathlib.Core.Path.{_≡_};
-ghost use Prim.Native.Nat.{ℕ, _*_, _<_, _≤_};
-ghost use lib.ListN.{length};
-ghost use Rattle.form.specs.Limits.{form, Lawful};
+ghost use Prim.Native.Nat.{_*_, _<_};
+ghost use Rattle.form.specs.Limits.{form};
 ghost use Rattle.order.specs.Levels.{levelIn};
 ghost use Rattle.order.specs.Owners.{level};
 ghost use Rattle.write.specs.Writing.{isTable, readsBack};
-ghost use Rattle.write.specs.Tests.{Small, Counted, InText, Laid, KindsStated, countsWithin, soundLeaves, inOrder};
+ghost use Rattle.table.specs.Lent.{lent, withinLimits};
+ghost use Rattle.write.specs.Tests.{tableWith, soundLeaves, inOrder};
+ghost use Rattle.write.specs.Asked.{Testable, CountedTable, LaidOut, KindsAndLeaves};
 
 // Yes exactly where some message within the form's limits reads to the table that the card counts in the lent buffers, whatever these hold.
-pub fn is_table(card: Card, segments: &[u16], leaves: &[u16], text: &[u8]) -> bool
-    ensures { λ r. ⌜ r ≡ isTable form level (record { card = card; segmentRows = now (segments .entry); leafRows = now (leaves .entry); text = now (text .entry) }) ⌝ }
+pub fn is_table(card: Card, segments: &[Entry], leaves: &[Entry], text: &[u8]) -> bool
+    ensures { λ r. ⌜ r ≡ isTable form level (lent card (now (segments .entry)) (now (leaves .entry)) (now (text .entry))) ⌝ }
 {
     let levels = levels::table();
     is_table_of(Form::limits(), &levels, card, segments, leaves, text)
@@ -29,33 +31,35 @@ pub(crate) fn is_table_of(
     limits: Limits,
     levels: &[u8; 84],
     card: Card,
-    segments: &[u16],
-    leaves: &[u16],
+    segments: &[Entry],
+    leaves: &[Entry],
     text: &[u8],
 ) -> bool
-    requires { ⌜ Lawful limits × Small limits × ((c k : ℕ) → levelIn (now levels) c k < 8) ⌝ }
-    ensures { λ r. ⌜ r ≡ isTable limits (levelIn (now (levels .entry))) (record { card = card; segmentRows = now (segments .entry); leafRows = now (leaves .entry); text = now (text .entry) }) ⌝ }
+    requires { ⌜ Testable limits (levelIn (now levels)) ⌝ }
+    ensures { λ r. ⌜ r ≡ isTable limits (levelIn (now (levels .entry))) (lent card (now (segments .entry)) (now (leaves .entry)) (now (text .entry))) ⌝ }
 {
-    if !counts_within(limits, card, segments.len(), leaves.len(), text.len()) {
+    if !within_limits(limits, card) {
         return false;
     }
-    let many = card.segments * 4;
-    let size = card.leaves * 7;
+    if !rows::counts_fit(card, segments.len(), leaves.len(), text.len()) {
+        return false;
+    }
+    let many = card.segments * rows::SEGMENT_ROW;
+    let size = card.leaves * rows::LEAF_ROW;
     let end = card.text;
     reads_back(
         limits,
         levels,
         card,
-        &segments[0..many],
-        &leaves[0..size],
-        &text[0..end],
+        &segments[..many],
+        &leaves[..size],
+        &text[..end],
     )
 }
 
-// Whether a card's counts keep to the limits and to lent buffers of these lengths. Within the limits no product wraps.
-fn counts_within(limits: Limits, card: Card, segments: usize, leaves: usize, text: usize) -> bool
-    requires { ⌜ Small limits ⌝ }
-    ensures { λ r. ⌜ r ≡ countsWithin limits card segments leaves text ⌝ }
+// Whether a card's counts keep to the limits.
+fn within_limits(limits: Limits, card: Card) -> bool
+    ensures { λ r. ⌜ r ≡ withinLimits limits card ⌝ }
 {
     if limits.segments < card.segments {
         return false;
@@ -63,16 +67,7 @@ fn counts_within(limits: Limits, card: Card, segments: usize, leaves: usize, tex
     if limits.leaves < card.leaves {
         return false;
     }
-    if limits.bytes < card.text {
-        return false;
-    }
-    if segments < card.segments * 4 {
-        return false;
-    }
-    if leaves < card.leaves * 7 {
-        return false;
-    }
-    card.text <= text
+    card.text <= limits.bytes
 }
 
 // Whether some message reads to the table of the counted entries.
@@ -80,12 +75,12 @@ fn reads_back(
     limits: Limits,
     levels: &[u8; 84],
     card: Card,
-    segments: &[u16],
-    leaves: &[u16],
+    segments: &[Entry],
+    leaves: &[Entry],
     text: &[u8],
 ) -> bool
-    requires { ⌜ Counted limits (levelIn (now levels)) (record { card = card; segmentRows = now segments; leafRows = now leaves; text = now text }) ⌝ }
-    ensures { λ r. ⌜ r ≡ readsBack limits (levelIn (now (levels .entry))) (record { card = card; segmentRows = now (segments .entry); leafRows = now (leaves .entry); text = now (text .entry) }) ⌝ }
+    requires { ⌜ CountedTable limits (levelIn (now levels)) (tableWith card (now segments) (now leaves) (now text)) ⌝ }
+    ensures { λ r. ⌜ r ≡ readsBack limits (levelIn (now (levels .entry))) (tableWith card (now (segments .entry)) (now (leaves .entry)) (now (text .entry))) ⌝ }
 {
     let count = card.leaves;
     if count < 3 {
@@ -110,14 +105,14 @@ fn reads_back(
 }
 
 // Whether the header's rows keep the header rule and the leaf rows after them go on soundly.
-fn sound_leaves(field: u8, leaves: &[u16], text: &[u8], count: usize) -> bool
-    requires { ⌜ InText (now leaves) (now text) count × (3 ≤ count) × Laid (now leaves) count (length (now text)) ⌝ }
+fn sound_leaves(field: u8, leaves: &[Entry], text: &[u8], count: usize) -> bool
+    requires { ⌜ LaidOut (now leaves) (now text) count ⌝ }
     ensures { λ r. ⌜ r ≡ soundLeaves field (now (leaves .entry)) (now (text .entry)) count ⌝ }
 {
     if !leaf_rows::header_leaves(leaves, text, count) {
         return false;
     }
-    let separators = leaf_rows::separators_at(field, leaves, text, count);
+    let separators = leaf_rows::separators_at(field, leaves, text);
     if !separators.sound() {
         return false;
     }
@@ -127,13 +122,13 @@ fn sound_leaves(field: u8, leaves: &[u16], text: &[u8], count: usize) -> bool
 // Whether field 7.7 names the context and the kinds stand where it allows them.
 fn in_order(
     context: u8,
-    segments: &[u16],
+    segments: &[Entry],
     many: usize,
-    leaves: &[u16],
+    leaves: &[Entry],
     text: &[u8],
     count: usize,
 ) -> bool
-    requires { ⌜ KindsStated (now segments) many × InText (now leaves) (now text) count × (0 < count) ⌝ }
+    requires { ⌜ KindsAndLeaves (now segments) many (now leaves) (now text) count ⌝ }
     ensures { λ r. ⌜ r ≡ inOrder context (now (segments .entry)) many (now (leaves .entry)) (now (text .entry)) count ⌝ }
 {
     if context == 0 {

@@ -1,31 +1,16 @@
 -- `read::read` meets its contract: document 01's limits and levels.
 -- Assumes nothing.
-use mathlib.Core.Path.{_≡_, subst⁻¹, fun-ext}
-use mathlib.Core.List.{List}
-use Prim.Native.Nat.{ℕ, _≤_}
+use mathlib.Core.Path.{subst⁻¹}
+use Prim.Native.Nat.{_≤_}
 use native.Mathlib.Omega.{arith}
-use lib.Dec.{lit<}
 use borrow.Author.Needs.{needs}
 use Rattle.form.specs.declared.limits.Limits.{Limits}
-use Rattle.form.specs.Limits.{form}
-use Rattle.form.proofs.LineCount.{form-lawful}
-use Rattle.order.specs.Levels.{levelIn, levelTable}
-use Rattle.order.specs.Owners.{level}
-use Rattle.order.proofs.LevelTable.{level-in-this, level-few}
+use Rattle.order.proofs.LevelTable.{levels-are, levels-below}
 use Rattle.table.specs.Rows.{FitsRows}
-use Rattle.read.specs.Filling.{LevelsBelow}
+use Rattle.table.proofs.Width.{form-fits}
 use Rattle.read.proofs.Answering.{read-same}
 use Rattle.read.proofs.read.Statement.{statement}
 use Rattle.read.proofs.read.Tie as tie
-
-form-fits : FitsRows form
-form-fits = record { lawful = form-lawful; bytes = lit< tt; segments = lit< tt; leaves = lit< tt }
-
-levels-are : (table : List ℕ) → table ≡ levelTable → levelIn table ≡ level
-levels-are table e = fun-ext (λ (context : ℕ). fun-ext (λ (kind : ℕ). level-in-this table e context kind))
-
-levels-below : (table : List ℕ) → table ≡ levelTable → LevelsBelow (levelIn table)
-levels-below table e = subst⁻¹ LevelsBelow (levels-are table e) level-few
 
 table-requires : tie.Need-table-requires
 table-requires c κs = search needs
@@ -42,7 +27,7 @@ read-within-requires c κs =
     let at-table = at-limits .before in
     record {
       fits = subst⁻¹ FitsRows (at-limits .limits .ensures) form-fits;
-      below = levels-below (at-table .table .result) (at-table .table .ensures);
+      below = levels-below (at-table .table .ensures);
       notes = subst⁻¹ (λ (L : Limits). L .segments ≤ 256) (at-limits .limits .ensures) (omega arith);
     }
 
@@ -61,7 +46,7 @@ returns c =
     let at-limits = at-read .before .before .before .before .before .before in
     let at-table = at-limits .before in
     let at-start = at-table .before .before .before .before .before in
-    read-same (at-limits .limits .ensures) (levels-are (at-table .table .result) (at-table .table .ensures)) (at-start .args .message .now) (at-read .read-within .ensures)
+    read-same (at-limits .limits .ensures) (levels-are (at-table .table .ensures)) (at-start .args .message .now) (at-read .read-within .ensures)
 
 pub read-spec : {M : Type 1} → statement M
 read-spec =

@@ -1,14 +1,29 @@
 -- `abi::looking::sargaceu_find_leaf` meets its contract: what the lookup finds by the card that came in, put into the answer.
 -- Assumes nothing.
-use mathlib.Core.Path.{sym, ap, _∙_}
+use mathlib.Core.Path.{_≡_, sym, ap, _∙_}
 use Rattle.table.specs.declared.Card.{Card}
 use Rattle.table.specs.Lent.{lent}
 use Rattle.look.specs.Looking.{soughtIn}
-use Rattle.abi.specs.Looking.{placeOf}
+use Rattle.abi.specs.Cards.{cardOf}
+use Rattle.abi.specs.Looking.{givenPlace}
 use Rattle.abi.proofs.LeafAnswers.{leaf-there, leaf-not-there}
 use borrow.Author.Needs.{needs}
 use Rattle.abi.proofs.looking.sargaceu_find_leaf.Statement.{statement}
 use Rattle.abi.proofs.looking.sargaceu_find_leaf.Tie as tie
+
+abbrev start-of : tie.After-find-leaf → tie.Start
+start-of c = c .before .before .before .before .before .before .before
+
+-- what was sought, by the card that came in
+sought-here : (c : tie.After-find-leaf) → let a = start-of c .args in
+    c .find-leaf .result
+    ≡ soughtIn (lent (cardOf (a .card .now)) (a .segments .now) (a .leaves .now) (a .text .now))
+    (givenPlace (a .segment) (a .field) (a .repetition) (a .subfield) (a .subsubfield))
+sought-here c =
+    let a = start-of c .args in
+    let place = givenPlace (a .segment) (a .field) (a .repetition) (a .subfield) (a .subsubfield) in
+    c .find-leaf .ensures
+    ∙ ap (λ (k : Card). soughtIn (lent k (a .segments .now) (a .leaves .now) (a .text .now)) place) (c .before .card-of .ensures)
 
 card-of-requires : tie.Need-card-of-requires
 card-of-requires c κs = search needs
@@ -29,29 +44,20 @@ enum-told : tie.Need-enum-told
 enum-told c = search needs
 
 same-length : tie.Need-same-length
-same-length c = search needs
+same-length c = c .before .before .put-numbers .kept .0
 
 returns : tie.Need-returns
 returns c =
-    let at-sought = c .before .before .before .before .before .before .sought in
-    let at-args = c .before .before .before .before .before .before .before .before .before .before .before .before .before .before .before .args in
-    let at-find-leaf = c .before .before .before .before .before .before .before .before .find-leaf in
-    let at-card-of = c .before .before .before .before .before .before .before .before .before .card-of in
-    let at-put-numbers = c .before .before .put-numbers in
-    let place = placeOf (at-args .segment) (at-args .field) (at-args .repetition) (at-args .subfield) (at-args .subsubfield) in
-    let sought = at-find-leaf .ensures ∙ ap (λ (k : Card). soughtIn (lent k (at-args .segments .now) (at-args .leaves .now) (at-args .text .now)) place) (at-card-of .ensures) in
-    leaf-there (at-args .answer .now) (at-sought .given .0 .0) (at-sought .given .0 .1 .0)
-    (sym sought ∙ at-sought .given .1) (at-put-numbers .ensures)
+    let put = c .before .before in
+    let there = put .before .before .before .before in
+    let found = there .before .before in
+    leaf-there (start-of found .args .answer .now) (there .sought .given .0 .0) (there .sought .given .0 .1 .0)
+    (sym (sought-here found) ∙ there .sought .given .1) (put .put-numbers .ensures)
 
 returns-2 : tie.Need-returns-2
 returns-2 c =
-    let at-args = c .before .before .before .before .before .before .before .before .before .args in
-    let at-find-leaf = c .before .before .find-leaf in
-    let at-card-of = c .before .before .before .card-of in
-    let at-enum-told = c .enum-told in
-    let place = placeOf (at-args .segment) (at-args .field) (at-args .repetition) (at-args .subfield) (at-args .subsubfield) in
-    let sought = at-find-leaf .ensures ∙ ap (λ (k : Card). soughtIn (lent k (at-args .segments .now) (at-args .leaves .now) (at-args .text .now)) place) (at-card-of .ensures) in
-    leaf-not-there (at-args .answer .now) (sym sought ∙ at-enum-told .given .1)
+    let found = c .before .before in
+    leaf-not-there (start-of found .args .answer .now) (sym (sought-here found) ∙ c .enum-told .given .1)
 
 pub sargaceu-find-leaf-spec : {M : Type 1} → statement M
 sargaceu-find-leaf-spec =

@@ -5,11 +5,13 @@ use borrow.Author.Needs.{needs}
 use Rattle.abi.proofs.reading.sargaceu_read.Statement.{statement}
 use Rattle.abi.proofs.reading.sargaceu_read.Tie as tie
 
+abbrev read-of : tie.After-put-numbers → tie.After-read
+read-of c = c .before .before .before .before .before .before .before .before .before .before .before .before
+
 returns : tie.Need-returns
 returns c =
-    let at-args = c .before .before .before .before .before .before .args in
-    let at-if1 = c .if1 in
-    read-short (at-args .message .now) (at-args .text .now) (at-args .segments .now) (at-args .leaves .now) (at-args .answer .now) (at-if1 .taken)
+    let a = c .before .before .before .before .before .before .args in
+    read-short (a .message .now) (a .text .now) (a .segments .now) (a .leaves .now) (a .answer .now) (c .if1 .taken)
 
 read-requires : tie.Need-read-requires
 read-requires c κs = search needs
@@ -27,25 +29,25 @@ put-numbers-requires : tie.Need-put-numbers-requires
 put-numbers-requires c κs = search needs
 
 same-length : tie.Need-same-length
-same-length c = search needs
+same-length c = read-of (c .before .before) .read .kept .1 .0
 
 same-length-2 : tie.Need-same-length-2
-same-length-2 c = search needs
+same-length-2 c = read-of (c .before .before) .read .kept .1 .1 .0
 
 same-length-3 : tie.Need-same-length-3
-same-length-3 c = search needs
+same-length-3 c = read-of (c .before .before) .read .kept .1 .1 .1 .0
 
 same-length-4 : tie.Need-same-length-4
-same-length-4 c = search needs
+same-length-4 c = c .before .before .put-numbers .kept .0
 
 returns-2 : tie.Need-returns-2
 returns-2 c =
-    let at-args = c .before .before .before .before .before .before .before .before .before .before .before .before .before .before .before .before .before .before .before .before .before .before .before .before .args in
-    let at-if1 = c .before .before .before .before .before .before .before .before .before .before .before .before .before .before .before .before .before .before .if1 in
-    let at-read = c .before .before .before .before .before .before .before .before .before .before .before .before .before .before .read in
-    let at-put-numbers = c .before .before .put-numbers in
-    read-whole (at-args .message .now) (at-args .text .now) (at-args .segments .now) (at-args .leaves .now) (at-args .answer .now)
-    (at-if1 .left) (at-read .ensures) (at-put-numbers .ensures)
+    let put = c .before .before in
+    let read = read-of put in
+    let roomy = read .before .before .before .before in
+    let a = roomy .before .before .before .before .before .before .args in
+    read-whole (a .message .now) (a .text .now) (a .segments .now) (a .leaves .now) (a .answer .now)
+    (roomy .if1 .left) (read .read .ensures) (put .put-numbers .ensures)
 
 pub sargaceu-read-spec : {M : Type 1} → statement M
 sargaceu-read-spec =

@@ -9,10 +9,8 @@ use Rattle.abi.proofs.writing.sargaceu_write.Tie as tie
 
 returns : tie.Need-returns
 returns c =
-    let at-args = c .before .before .before .before .before .before .before .args in
-    let at-if1 = c .if1 in
-    write-short (lent (cardOf (at-args .card .now)) (at-args .segments .now) (at-args .leaves .now) (at-args .text .now))
-    (at-args .output .now) (at-args .answer .now) (at-if1 .taken)
+    let a = c .before .before .before .before .before .before .before .args in
+    write-short (lent (cardOf (a .card .now)) (a .segments .now) (a .leaves .now) (a .text .now)) (a .output .now) (a .answer .now) (c .if1 .taken)
 
 card-of-requires : tie.Need-card-of-requires
 card-of-requires c κs = search needs
@@ -27,20 +25,20 @@ put-numbers-requires : tie.Need-put-numbers-requires
 put-numbers-requires c κs = search needs
 
 same-length : tie.Need-same-length
-same-length c = search needs
+same-length c = c .before .before .before .before .before .before .before .write .kept .1 .1 .1 .1 .0
 
 same-length-2 : tie.Need-same-length-2
-same-length-2 c = search needs
+same-length-2 c = c .before .before .put-numbers .kept .0
 
 returns-2 : tie.Need-returns-2
 returns-2 c =
-    let at-card-of = c .before .before .before .before .before .before .before .before .before .card-of in
-    let at-args = c .before .before .before .before .before .before .before .before .before .before .before .before .before .before .before .before .before .args in
-    let at-if1 = c .before .before .before .before .before .before .before .before .before .before .if1 in
-    let at-write = c .before .before .before .before .before .before .before .write in
-    let at-put-numbers = c .before .before .put-numbers in
-    write-whole (at-card-of .result) (at-card-of .ensures) (at-args .segments .now) (at-args .leaves .now) (at-args .text .now) (at-args .output .now) (at-args .answer .now)
-    (at-if1 .left) (at-write .ensures .0) (at-write .ensures .1) (at-put-numbers .ensures)
+    let put = c .before .before in
+    let wrote = put .before .before .before .before .before in
+    let taken = wrote .before .before in
+    let roomy = taken .before in
+    let a = roomy .before .before .before .before .before .before .before .args in
+    write-whole (taken .card-of .result) (taken .card-of .ensures) (a .segments .now) (a .leaves .now) (a .text .now) (a .output .now)
+    (a .answer .now) (roomy .if1 .left) (wrote .write .ensures .0) (wrote .write .ensures .1) (put .put-numbers .ensures)
 
 pub sargaceu-write-spec : {M : Type 1} → statement M
 sargaceu-write-spec =

@@ -5,7 +5,7 @@ use mathlib.Core.Path.{sym, _∙_}
 use native.Mathlib.Omega.{arith}
 use Rattle.form.specs.Limits.{form}
 use Rattle.line.specs.Finding.{foundAt}
-use Rattle.line.proofs.Finding.{partOf-line, partOf-end, partOf-fault}
+use Rattle.line.proofs.Finding.{partFound-line, partFound-end, partFound-fault}
 use Rattle.line.proofs.Handing.{line-within}
 use Rattle.line.proofs.finder.line_part.Statement.{statement}
 use Rattle.line.proofs.finder.line_part.Tie as tie
@@ -54,21 +54,23 @@ returns c =
     let at-args = c .before .before .before .before .before .before .args in
     let at-end = c .before .before .end in
     let at-line-at = c .before .before .before .before .line-at in
-    sym (partOf-line (at-args .at) (at-args .message .now) (foundAt form (at-args .message .now) (at-args .at)) (at-end .given .0 .0) (at-end .given .0 .1 .0) (sym (at-line-at .ensures) ∙ at-end .given .1))
+    sym (partFound-line (at-args .at) (at-args .message .now) (foundAt form (at-args .message .now) (at-args .at))
+    (at-end .given .0 .0) (at-end .given .0 .1 .0) (sym (at-line-at .ensures) ∙ at-end .given .1))
 
 returns-2 : tie.Need-returns-2
 returns-2 c =
     let at-args = c .before .before .before .before .before .args in
     let at-line-at = c .before .before .before .line-at in
     let at-enum-told = c .before .enum-told in
-    sym (partOf-end (at-args .at) (at-args .message .now) (foundAt form (at-args .message .now) (at-args .at)) (sym (at-line-at .ensures) ∙ at-enum-told .given .1))
+    sym (partFound-end (at-args .at) (at-args .message .now) (foundAt form (at-args .message .now) (at-args .at)) (sym (at-line-at .ensures) ∙ at-enum-told .given .1))
 
 returns-3 : tie.Need-returns-3
 returns-3 c =
     let at-args = c .before .before .before .before .before .args in
     let at-enum-told2 = c .before .enum-told2 in
     let at-line-at = c .before .before .before .line-at in
-    sym (partOf-fault (at-args .at) (at-args .message .now) (foundAt form (at-args .message .now) (at-args .at)) (at-enum-told2 .given .0 .0) (at-enum-told2 .given .0 .1 .0) (sym (at-line-at .ensures) ∙ at-enum-told2 .given .1))
+    sym (partFound-fault (at-args .at) (at-args .message .now) (foundAt form (at-args .message .now) (at-args .at))
+    (at-enum-told2 .given .0 .0) (at-enum-told2 .given .0 .1 .0) (sym (at-line-at .ensures) ∙ at-enum-told2 .given .1))
 
 pub line-part-spec : {M : Type 1} → statement M
 line-part-spec =

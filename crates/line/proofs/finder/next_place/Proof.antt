@@ -39,7 +39,8 @@ returns-3 c =
     let at-args = c .before .before .before .before .args in
     let at-enum-told2 = c .enum-told2 in
     let at-line-at = c .before .before .line-at in
-    sym (nextOf-fault (at-args .at) (foundAt form (at-args .message .now) (at-args .at)) (at-enum-told2 .given .0 .0) (at-enum-told2 .given .0 .1 .0) (sym (at-line-at .ensures) ∙ at-enum-told2 .given .1))
+    sym (nextOf-fault (at-args .at) (foundAt form (at-args .message .now) (at-args .at))
+    (at-enum-told2 .given .0 .0) (at-enum-told2 .given .0 .1 .0) (sym (at-line-at .ensures) ∙ at-enum-told2 .given .1))
 
 pub next-place-spec : {M : Type 1} → statement M
 next-place-spec =

@@ -3,7 +3,7 @@
 use native.Mathlib.Omega.{arith}
 use Rattle.laws.specs.Texts.{bytes}
 use Rattle.listing.specs.Listing.{entry, answerLines}
-use Rattle.listing.proofs.Putting.{put-then}
+use Rattle.listing.proofs.Putting.{put-exact, within-then, within-more}
 use borrow.Author.Needs.{needs}
 use Rattle.listing.proofs.lines.put_answer.Statement.{statement}
 use Rattle.listing.proofs.lines.put_answer.Tie as tie
@@ -32,10 +32,10 @@ same-length c = search needs
 returns : tie.Need-returns
 unfolding answerLines entry bytes
 returns c =
-    let at-put-text = c .before .before .before .before .before .before .before .before .before .before .before .before .put-text in
-    let at-put-entry = c .before .before .before .before .before .before .before .put-entry in
-    let at-put-entry2 = c .before .before .put-entry2 in
-    record { put = put-then (at-put-text .ensures) (put-then (at-put-entry .ensures .put) (at-put-entry2 .ensures .put)); few = omega (arith, at-put-text .ensures .reached, at-put-entry .ensures .few, at-put-entry2 .ensures .few) }
+    let place = c .before .before in
+    let answer = place .before .before .before .before .before in
+    let form = answer .before .before .before .before .before in
+    within-more (omega arith) (within-then (put-exact (form .put-text .ensures)) (within-then (answer .put-entry .ensures) (place .put-entry2 .ensures)))
 
 pub put-answer-spec : {M : Type 1} → statement M
 put-answer-spec =

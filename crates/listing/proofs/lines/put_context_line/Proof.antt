@@ -1,9 +1,8 @@
 -- `listing::lines::put_context_line` meets its contract.
 -- Assumes nothing.
-use native.Mathlib.Omega.{arith}
 use Rattle.laws.specs.Texts.{bytes}
 use Rattle.listing.specs.Listing.{entryOf, entry, contextLine}
-use Rattle.listing.proofs.Putting.{put-then}
+use Rattle.listing.proofs.Putting.{put-exact, within-then}
 use borrow.Author.Needs.{needs}
 use Rattle.listing.proofs.lines.put_context_line.Statement.{statement}
 use Rattle.listing.proofs.lines.put_context_line.Tie as tie
@@ -26,10 +25,10 @@ same-length c = search needs
 returns : tie.Need-returns
 unfolding contextLine entry entryOf bytes
 returns c =
-    let at-put-text = c .before .before .before .before .before .before .before .before .before .before .put-text in
-    let at-put-context = c .before .before .before .before .before .before .put-context in
-    let at-put-byte = c .before .before .put-byte in
-    record { put = put-then (at-put-text .ensures) (put-then (at-put-context .ensures .put) (at-put-byte .ensures)); few = omega (arith, at-put-text .ensures .reached, at-put-context .ensures .few, at-put-byte .ensures .reached) }
+    let end = c .before .before in
+    let context = end .before .before .before .before in
+    let name = context .before .before .before .before in
+    within-then (put-exact (name .put-text .ensures)) (within-then (context .put-context .ensures) (put-exact (end .put-byte .ensures)))
 
 pub put-context-line-spec : {M : Type 1} → statement M
 put-context-line-spec =

@@ -3,7 +3,7 @@
 use native.Mathlib.Omega.{arith}
 use Rattle.laws.specs.Texts.{bytes}
 use Rattle.listing.specs.Listing.{entry, countLines}
-use Rattle.listing.proofs.Putting.{put-then}
+use Rattle.listing.proofs.Putting.{within-then, within-more}
 use borrow.Author.Needs.{needs}
 use Rattle.listing.proofs.lines.put_counts.Statement.{statement}
 use Rattle.listing.proofs.lines.put_counts.Tie as tie
@@ -41,12 +41,15 @@ same-length c = search needs
 returns : tie.Need-returns
 unfolding countLines entry bytes
 returns c =
-    let at-put-context-line = c .before .before .before .before .before .before .before .before .before .before .before .before .before .before .before .before .before .before .before .before .before .before .put-context-line in
-    let at-put-entry = c .before .before .before .before .before .before .before .before .before .before .before .before .before .before .before .before .before .put-entry in
-    let at-put-entry2 = c .before .before .before .before .before .before .before .before .before .before .before .before .put-entry2 in
-    let at-put-entry3 = c .before .before .before .before .before .before .before .put-entry3 in
-    let at-put-entry4 = c .before .before .put-entry4 in
-    record { put = put-then (at-put-context-line .ensures .put) (put-then (at-put-entry .ensures .put) (put-then (at-put-entry2 .ensures .put) (put-then (at-put-entry3 .ensures .put) (at-put-entry4 .ensures .put)))); few = omega (arith, at-put-context-line .ensures .few, at-put-entry .ensures .few, at-put-entry2 .ensures .few, at-put-entry3 .ensures .few, at-put-entry4 .ensures .few) }
+    let written = c .before .before in
+    let text = written .before .before .before .before .before in
+    let leaves = text .before .before .before .before .before in
+    let segments = leaves .before .before .before .before .before in
+    let context = segments .before .before .before .before .before in
+    within-more (omega arith)
+    (within-then (context .put-context-line .ensures)
+    (within-then (segments .put-entry .ensures)
+    (within-then (leaves .put-entry2 .ensures) (within-then (text .put-entry3 .ensures) (written .put-entry4 .ensures)))))
 
 pub put-counts-spec : {M : Type 1} → statement M
 put-counts-spec =

@@ -17,9 +17,13 @@ loop-holds c = rows-begin
 
 put-row-requires : tie.Need-put-row-requires Inv-loop μ-loop
 put-row-requires c κs =
-    let at-pre = c .before .before .before .before .before .pre in
-    let at-loop = c .before .before .loop in
-    (omega (arith, at-pre .0), omega (arith, at-pre .1), omega (arith, at-pre .2, at-loop .inv .few, at-loop .inv .same))
+    let at-loop = c .before .before in
+    let pre = at-loop .before .before .before .pre in
+    record {
+      rows-there = omega (arith, pre .rows-there);
+      number = omega (arith, pre .number);
+      room = omega (arith, pre .room, at-loop .loop .inv .few, at-loop .loop .inv .same);
+    }
 
 add-i : tie.Need-add-i Inv-loop μ-loop
 add-i c = omega arith

@@ -1,5 +1,6 @@
 -- `listing::list::list` meets its contract: a short buffer, a refused message, an accepted one.
 -- Assumes nothing.
+use mathlib.Core.Path.{_∙_}
 use native.Mathlib.Omega.{arith}
 use Rattle.form.specs.Limits.{form}
 use Rattle.form.proofs.LineCount.{form-lawful}
@@ -13,12 +14,28 @@ use borrow.Author.Needs.{needs}
 use Rattle.listing.proofs.list.list.Statement.{statement}
 use Rattle.listing.proofs.list.list.Tie as tie
 
+abbrev start-of : tie.Else1 → tie.Start
+start-of c = c .before .before .before .before .before .before
+
+-- where the buffer was found to be long enough, and where the message was read
+abbrev roomy-of : tie.After-read → tie.Else1
+roomy-of c = c .before .before .before .before
+
+abbrev read-of : tie.After-put-answer → tie.After-read
+read-of c = c .before .before .before .before .before .before .before .before
+
+abbrev begun-of : tie.After-struct-known → tie.After-put-answer
+begun-of c = c .before .before .before
+
+abbrev begun-after : tie.After-put-table → tie.After-put-answer
+begun-after c = begun-of (c .before .before .before .before .before .before)
+
 returns : tie.Need-returns
 unfolding listingSize
 returns c =
-    let at-args = c .before .before .before .before .before .before .args in
-    let at-if1 = c .if1 in
-    (list-short form (reading form level (roomOf (at-args .text .now) (at-args .segments .now) (at-args .leaves .now)) (at-args .message .now)) (at-args .text .now) (at-args .segments .now) (at-args .leaves .now) (at-args .list .now) (at-if1 .taken), omega arith)
+    let a = c .before .before .before .before .before .before .args in
+    let outcome = reading form level (roomOf (a .text .now) (a .segments .now) (a .leaves .now)) (a .message .now) in
+    (list-short form outcome (a .text .now) (a .segments .now) (a .leaves .now) (a .list .now) (c .if1 .taken), omega arith)
 
 read-requires : tie.Need-read-requires
 read-requires c κs = search needs
@@ -27,60 +44,69 @@ put-answer-requires : tie.Need-put-answer-requires
 put-answer-requires c κs = search needs
 
 same-length : tie.Need-same-length
-same-length c = search needs
+same-length c = read-of (begun-of (c .before)) .read .kept .1 .0
 
 same-length-2 : tie.Need-same-length-2
-same-length-2 c = search needs
+same-length-2 c = read-of (begun-of (c .before)) .read .kept .1 .1 .0
 
 same-length-3 : tie.Need-same-length-3
-same-length-3 c = search needs
+same-length-3 c = read-of (begun-of (c .before)) .read .kept .1 .1 .1 .0
 
 same-length-4 : tie.Need-same-length-4
-same-length-4 c = search needs
+same-length-4 c = begun-of (c .before) .put-answer .kept .1 .1 .0
 
 returns-2 : tie.Need-returns-2
 unfolding listingSize
 returns-2 c =
-    let at-args = c .before .before .before .before .before .before .before .before .before .before .before .before .before .before .before .before .before .before .before .before .before .before .args in
-    let at-read = c .before .before .before .before .before .before .before .before .before .before .before .before .read in
-    let at-if1 = c .before .before .before .before .before .before .before .before .before .before .before .before .before .before .before .before .if1 in
-    let at-if2 = c .if2 in
-    let at-put-answer = c .before .before .before .before .put-answer in
-    (list-refused form level (at-args .message .now) (at-args .text .now) (at-args .segments .now) (at-args .leaves .now) (at-args .list .now) (at-read .ensures) (at-if1 .left) (at-if2 .taken) (at-put-answer .ensures), omega (arith, at-put-answer .ensures .few, at-if1 .left))
+    let begun = begun-of (c .before) in
+    let read = read-of begun in
+    let roomy = roomy-of read in
+    let a = start-of roomy .args in (
+      list-refused form level (a .message .now) (a .text .now) (a .segments .now) (a .leaves .now) (a .list .now)
+          (read .read .ensures) (roomy .if1 .left) (c .if2 .taken) (begun .put-answer .ensures),
+      omega (arith, begun .put-answer .ensures .few, roomy .if1 .left),
+    )
 
 put-table-requires : tie.Need-put-table-requires
 unfolding listingSize
 put-table-requires c κs =
-    let at-args = c .before .before .before .before .before .before .before .before .before .before .before .before .before .before .before .before .before .before .before .before .before .before .before .before .before .before .args in
-    let at-read = c .before .before .before .before .before .before .before .before .before .before .before .before .before .before .before .before .read in
-    let at-if1 = c .before .before .before .before .before .before .before .before .before .before .before .before .before .before .before .before .before .before .before .before .if1 in
-    let at-if2 = c .before .before .before .before .if2 in
-    let at-put-answer = c .before .before .before .before .before .before .before .before .put-answer in
-    let ready = list-ready form level (at-args .message .now) (at-args .text .now) (at-args .segments .now) (at-args .leaves .now) (at-args .list .now) (at-read .ensures) (at-if1 .left) form-lawful (at-if2 .left) (at-put-answer .ensures) in (ready .0, omega (arith, ready .1), ready .2)
+    let accepted = c .before .before .before .before in
+    let begun = begun-of (accepted .before) in
+    let read = read-of begun in
+    let roomy = roomy-of read in
+    let a = start-of roomy .args in
+    list-ready form level (a .message .now) (a .text .now) (a .segments .now) (a .leaves .now) (a .list .now)
+    (read .read .ensures) (roomy .if1 .left) form-lawful (omega arith) (accepted .if2 .left) (begun .put-answer .ensures)
 
 same-length-5 : tie.Need-same-length-5
-same-length-5 c = search needs
+same-length-5 c = read-of (begun-after (c .before .before)) .read .kept .1 .0
 
 same-length-6 : tie.Need-same-length-6
-same-length-6 c = search needs
+same-length-6 c = read-of (begun-after (c .before .before)) .read .kept .1 .1 .0
 
 same-length-7 : tie.Need-same-length-7
-same-length-7 c = search needs
+same-length-7 c = read-of (begun-after (c .before .before)) .read .kept .1 .1 .1 .0
 
 same-length-8 : tie.Need-same-length-8
-same-length-8 c = search needs
+same-length-8 c = c .before .before .put-table .kept .1 .1 .1 .1 .0 ∙ begun-after (c .before .before) .put-answer .kept .1 .1 .0
 
 returns-3 : tie.Need-returns-3
 unfolding listingSize
 returns-3 c =
-    let at-args = c .before .before .before .before .before .before .before .before .before .before .before .before .before .before .before .before .before .before .before .before .before .before .before .before .before .before .before .before .before .args in
-    let at-read = c .before .before .before .before .before .before .before .before .before .before .before .before .before .before .before .before .before .before .before .read in
-    let at-if1 = c .before .before .before .before .before .before .before .before .before .before .before .before .before .before .before .before .before .before .before .before .before .before .before .if1 in
-    let at-if2 = c .before .before .before .before .before .before .before .if2 in
-    let at-put-answer = c .before .before .before .before .before .before .before .before .before .before .before .put-answer in
-    let at-put-table = c .before .before .put-table in
-    let ready = list-ready form level (at-args .message .now) (at-args .text .now) (at-args .segments .now) (at-args .leaves .now) (at-args .list .now) (at-read .ensures) (at-if1 .left) form-lawful (at-if2 .left) (at-put-answer .ensures) in
-    (list-accepted form level (at-args .message .now) (at-args .text .now) (at-args .segments .now) (at-args .leaves .now) (at-args .list .now) (at-read .ensures) (at-if1 .left) form-lawful (at-if2 .left) (at-put-answer .ensures) (at-put-table .ensures .put), omega (arith, at-put-table .ensures .few, ready .2, put-length (at-put-answer .ensures .put)))
+    let put = c .before .before in
+    let accepted = put .before .before .before .before .before in
+    let begun = begun-of (accepted .before) in
+    let read = read-of begun in
+    let roomy = roomy-of read in
+    let a = start-of roomy .args in
+    let ready =
+    list-ready form level (a .message .now) (a .text .now) (a .segments .now) (a .leaves .now) (a .list .now)
+    (read .read .ensures) (roomy .if1 .left) form-lawful (omega arith) (accepted .if2 .left) (begun .put-answer .ensures) in (
+      list-accepted form level (a .message .now) (a .text .now) (a .segments .now) (a .leaves .now) (a .list .now)
+          (read .read .ensures) (roomy .if1 .left) form-lawful (omega arith) (accepted .if2 .left) (begun .put-answer .ensures)
+          (put .put-table .ensures .put),
+      omega (arith, put .put-table .ensures .few, ready .room, put-length (begun .put-answer .ensures .put)),
+    )
 
 pub list-spec : {M : Type 1} → statement M
 list-spec =

@@ -1,9 +1,8 @@
 -- `listing::list::put_table` meets its contract: the counts, and the rows behind them.
 -- Assumes nothing.
 use mathlib.Core.Path.{ap}
-use native.Mathlib.Omega.{arith}
 use Rattle.listing.specs.Listing.{countLines}
-use Rattle.listing.proofs.Putting.{put-as, put-then}
+use Rattle.listing.proofs.Putting.{within-as, within-then}
 use borrow.Author.Needs.{needs}
 use Rattle.listing.proofs.list.put_table.Statement.{statement}
 use Rattle.listing.proofs.list.put_table.Tie as tie
@@ -22,16 +21,11 @@ same-length c = search needs
 
 returns : tie.Need-returns
 returns c =
-    let at-args = c .before .before .before .before .before .before .before .before .before .before .before .before .before .args in
-    let at-written-bytes = c .before .before .before .before .before .before .before .before .written-bytes in
-    let at-put-counts = c .before .before .before .before .before .before .put-counts in
-    let at-put-rows = c .before .before .put-rows in
-    record {
-      put = put-then (put-as (ap (countLines (at-args .card)) (at-written-bytes .ensures)) (at-put-counts .ensures .put)) (at-put-rows .ensures .put);
-      few = omega (arith, at-put-counts .ensures .few, at-put-rows .ensures .few);
-    }
+    let rows = c .before .before in
+    let counts = rows .before .before .before .before in
+    let written = counts .before .before in
+    let a = written .before .before .before .before .before .args in
+    within-then (within-as (ap (countLines (a .card)) (written .written-bytes .ensures)) (counts .put-counts .ensures)) (rows .put-rows .ensures)
 
 pub put-table-spec : {M : Type 1} → statement M
-put-table-spec =
-    tie.close
-    (tie.spec written-bytes-requires put-counts-requires put-rows-requires same-length returns)
+put-table-spec = tie.close (tie.spec written-bytes-requires put-counts-requires put-rows-requires same-length returns)

@@ -3,63 +3,69 @@
 use mathlib.Core.Path.{_≡_, sym, ap, _∙_}
 use Prim.Native.Nat.{ℕ, _*_, _-_}
 use native.Mathlib.Omega.{arith}
-use lib.ListN.{length}
+use lib.ListN.{length, take, drop}
 use borrow.Author.Needs.{needs}
+use Rattle.listing.specs.Names.{nameIn}
 use Rattle.listing.proofs.Names.{none-named, past-named, one-named, name-short, name-few, part-named}
 use Rattle.listing.proofs.Putting.{put-as, put-nothing, put-within}
 use Rattle.listing.proofs.put.put_name.Statement.{statement}
 use Rattle.listing.proofs.put.put_name.Tie as tie
 
+abbrev start-of : tie.After-name-end → tie.Start
+start-of c = c .before .before .before .before .before
+
+abbrev from-of : tie.After-name-end → ℕ
+from-of c = start-of c .args .number * 3 - 3
+
+-- the part that is put is the name
+named : (c : tie.After-name-end) → take (c .name-end .result - from-of c) (drop (from-of c) (start-of c .args .letters .now))
+    ≡ nameIn (start-of c .args .letters .now) (start-of c .args .number)
+named c =
+    let a = start-of c .args in
+    part-named (a .letters .now) (from-of c) (c .name-end .result) (c .name-end .ensures)
+    ∙ sym (one-named (a .letters .now) (a .number) (c .before .before .if1 .left) (c .before .if2 .left))
+
 mul-before : tie.Need-mul-before
-mul-before c = search needs
+mul-before c = omega arith
 
 returns : tie.Need-returns
 returns c =
-    let at-args = c .before .before .before .args in
-    let at-if1 = c .if1 in
-    put-within (put-as (none-named (at-args .letters .now) (at-args .number) (at-if1 .taken)) put-nothing) 3 (name-few (at-args .letters .now) (at-args .number))
+    let a = c .before .before .before .args in
+    put-within (put-as (none-named (a .letters .now) (a .number) (c .if1 .taken)) put-nothing) 3 (name-few (a .letters .now) (a .number))
 
 returns-2 : tie.Need-returns-2
 returns-2 c =
-    let at-args = c .before .before .before .before .args in
-    let at-if2 = c .if2 in
-    put-within (put-as (past-named (at-args .letters .now) (at-args .number) (at-if2 .taken)) put-nothing) 3 (name-few (at-args .letters .now) (at-args .number))
+    let a = c .before .before .before .before .args in
+    put-within (put-as (past-named (a .letters .now) (a .number) (c .if2 .taken)) put-nothing) 3 (name-few (a .letters .now) (a .number))
 
 name-end-requires : tie.Need-name-end-requires
 name-end-requires c κs = search needs
 
 sub-put-text : tie.Need-sub-put-text
-sub-put-text c = search needs
+sub-put-text c = omega arith
 
 part-put-text-start : tie.Need-part-put-text-start
-part-put-text-start c = search needs
+part-put-text-start c = omega arith
 
 part-put-text-end : tie.Need-part-put-text-end
 part-put-text-end c =
-    let at-name-end = c .name-end in
-    let at-args = c .before .before .before .before .before .args in
-    let at-if1 = c .before .before .if1 in
-    let at-if2 = c .before .if2 in
-    omega (arith, at-name-end .ensures, name-short (at-args .letters .now) (at-args .number * 3 - 3), at-if1 .left, at-if2 .left)
+    omega (arith, c .name-end .ensures, name-short (start-of c .args .letters .now) (from-of c), c .before .before .if1 .left, c .before .if2 .left)
 
 put-text-requires : tie.Need-put-text-requires
 put-text-requires c κs =
-    let at-pre = c .before .before .before .before .before .before .before .pre in
-    let at-args = c .before .before .before .before .before .before .before .args in
-    let at-name-end = c .before .before .name-end in
-    omega (arith, at-pre .1, name-short (at-args .letters .now) (at-args .number * 3 - 3), ap length (part-named (at-args .letters .now) (at-args .number * 3 - 3) (at-name-end .result) (at-name-end .ensures)))
+    let found = c .before .before in
+    let start = start-of found in
+    omega (arith, start .pre .1, name-few (start .args .letters .now) (start .args .number), ap length (named found))
 
 same-length : tie.Need-same-length
 same-length c = search needs
 
 returns-3 : tie.Need-returns-3
 returns-3 c =
-    let at-args = c .before .before .before .before .before .before .before .before .before .before .args in
-    let at-put-text = c .before .before .put-text in
-    let at-name-end = c .before .before .before .before .before .name-end in
-    let at-if1 = c .before .before .before .before .before .before .before .if1 in
-    let at-if2 = c .before .before .before .before .before .before .if2 in
-    put-within (put-as (part-named (at-args .letters .now) (at-args .number * 3 - 3) (at-name-end .result) (at-name-end .ensures) ∙ sym (one-named (at-args .letters .now) (at-args .number) (at-if1 .left) (at-if2 .left))) (at-put-text .ensures)) 3 (name-few (at-args .letters .now) (at-args .number))
+    let put = c .before .before in
+    let found = put .before .before .before in
+    let a = start-of found .args in
+    put-within (put-as (named found) (put .put-text .ensures)) 3 (name-few (a .letters .now) (a .number))
 
 pub put-name-spec : {M : Type 1} → statement M
 put-name-spec =

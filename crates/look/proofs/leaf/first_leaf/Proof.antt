@@ -1,6 +1,5 @@
 -- `look::leaf::first_leaf` meets its contract. The loop's invariant: what is left of the rows gives what all of them give.
 -- The measure is the rows that are left. Assumes nothing.
-use denote.Ref.{now}
 use borrow.Author.Needs.{needs}
 use Prim.Native.Nat.{_-_}
 use native.Mathlib.Omega.{arith}
@@ -9,24 +8,22 @@ use Rattle.look.proofs.leaf.first_leaf.Statement.{statement}
 use Rattle.look.proofs.leaf.first_leaf.Tie as tie
 
 abbrev Inv-loop : tie.InvT-loop
-Inv-loop leaves rows bytes place row₀ row = Seeking leaves bytes place rows row
+Inv-loop leaves count bytes place next₀ next = Seeking leaves bytes place count next
 
 abbrev μ-loop : tie.MeasureT-loop
-μ-loop leaves rows bytes place row₀ row = rows - row
+μ-loop leaves count bytes place next₀ next = count - next
 
 loop-holds : tie.Need-loop-holds Inv-loop μ-loop
-loop-holds c =
-    let at-args = c .before .args in
-    seek-begins (now (at-args .leaves)) (at-args .bytes) (at-args .place) (at-args .rows)
+loop-holds c = seek-begins
 
-mul-at : tie.Need-mul-at Inv-loop μ-loop
-mul-at c = omega arith
-
-add-row : tie.Need-add-row Inv-loop μ-loop
-add-row c = omega arith
+add-next : tie.Need-add-next Inv-loop μ-loop
+add-next c = omega arith
 
 is-at-requires : tie.Need-is-at-requires Inv-loop μ-loop
 is-at-requires c κs = omega arith
+
+mul-at : tie.Need-mul-at Inv-loop μ-loop
+mul-at c = omega arith
 
 add-wide : tie.Need-add-wide Inv-loop μ-loop
 add-wide c = omega arith
@@ -57,51 +54,36 @@ add-if2 c = omega arith
 
 returns : tie.Need-returns Inv-loop μ-loop
 returns c =
-    let at-args = c .before .before .before .before .before .before .before .before .before .before .args in
-    let at-loop = c .before .before .before .before .before .before .before .before .loop in
-    let at-loop-test = c .before .before .before .before .before .before .before .loop-test in
-    let at-is-at = c .before .before .before .before .before .before .is-at in
-    let at-wide = c .before .before .before .wide in
-    let at-wide2 = c .before .wide2 in
-    let at-if1 = c .before .before .before .before .before .if1 in
-    let at-if2 = c .if2 in
-    seek-found (now (at-args .leaves)) (at-args .bytes) (at-args .place) (at-args .rows) (at-loop .row) (at-loop .inv)
-    (at-loop-test .taken) (at-is-at .ensures) (at-wide .ensures .0) (at-wide2 .ensures .0) (at-if1 .taken) (at-if2 .taken)
+    let measured = c .before in
+    let begun = measured .before .before in
+    let here = begun .before .before in
+    let turn = here .before .before in
+    seek-found (turn .before .loop .inv) (turn .loop-test .taken) (here .before .is-at .ensures) (begun .wide .ensures .0)
+    (measured .wide2 .ensures .0) (here .if1 .taken) (c .if2 .taken)
 
 loop-less : tie.Need-loop-less Inv-loop μ-loop
 loop-less c = omega arith
 
 loop-again : tie.Need-loop-again Inv-loop μ-loop
 loop-again c =
-    let at-args = c .before .before .before .before .before .before .before .before .before .before .args in
-    let at-loop = c .before .before .before .before .before .before .before .before .loop in
-    let at-loop-test = c .before .before .before .before .before .before .before .loop-test in
-    let at-is-at = c .before .before .before .before .before .before .is-at in
-    let at-wide = c .before .before .before .wide in
-    let at-wide2 = c .before .wide2 in
-    let at-if2 = c .if2 in
-    seek-past (now (at-args .leaves)) (at-args .bytes) (at-args .place) (at-args .rows) (at-loop .row) (at-loop .inv)
-    (at-loop-test .taken) (at-is-at .ensures) (at-wide .ensures .0) (at-wide2 .ensures .0) (at-if2 .left)
+    let measured = c .before in
+    let begun = measured .before .before in
+    let asked = begun .before .before .before in
+    let turn = asked .before in
+    seek-past (turn .before .loop .inv) (turn .loop-test .taken) (asked .is-at .ensures) (begun .wide .ensures .0)
+    (measured .wide2 .ensures .0) (c .if2 .left)
 
 loop-less-2 : tie.Need-loop-less-2 Inv-loop μ-loop
 loop-less-2 c = omega arith
 
 loop-again-2 : tie.Need-loop-again-2 Inv-loop μ-loop
 loop-again-2 c =
-    let at-args = c .before .before .before .before .before .args in
-    let at-loop = c .before .before .before .loop in
-    let at-loop-test = c .before .before .loop-test in
-    let at-is-at = c .before .is-at in
-    let at-if1 = c .if1 in
-    seek-elsewhere (now (at-args .leaves)) (at-args .bytes) (at-args .place) (at-args .rows) (at-loop .row) (at-loop .inv)
-    (at-loop-test .taken) (at-is-at .ensures) (at-if1 .left)
+    let asked = c .before in
+    let turn = asked .before in
+    seek-elsewhere (turn .before .loop .inv) (turn .loop-test .taken) (asked .is-at .ensures) (c .if1 .left)
 
 returns-2 : tie.Need-returns-2 Inv-loop μ-loop
-returns-2 c =
-    let at-args = c .before .before .before .args in
-    let at-loop = c .before .loop in
-    let at-loop-test = c .loop-test in
-    seek-nowhere (now (at-args .leaves)) (at-args .bytes) (at-args .place) (at-args .rows) (at-loop .row) (at-loop .inv) (at-loop-test .left)
+returns-2 c = seek-nowhere (c .before .loop .inv) (c .loop-test .left)
 
 pub first-leaf-spec : {M : Type 1} → statement M
 first-leaf-spec =
@@ -110,9 +92,9 @@ first-leaf-spec =
     Inv-loop
     μ-loop
     loop-holds
-    mul-at
-    add-row
+    add-next
     is-at-requires
+    mul-at
     add-wide
     mul-wide
     shared-slice-read-wide

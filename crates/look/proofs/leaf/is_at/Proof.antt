@@ -1,101 +1,102 @@
 -- `look::leaf::is_at` meets its contract: the first number that differs, or the last one, decides.
 -- Assumes nothing.
-use denote.Ref.{now}
+use native.Mathlib.Omega.{arith}
 use Rattle.look.proofs.Seeking.{segment-differs, field-differs, repetition-differs, subfield-differs, subsubfield-decides}
 use borrow.Author.Needs.{needs}
 use Rattle.look.proofs.leaf.is_at.Statement.{statement}
 use Rattle.look.proofs.leaf.is_at.Tie as tie
 
+mul-at : tie.Need-mul-at
+mul-at c = omega arith
+
 mul-if1 : tie.Need-mul-if1
-mul-if1 c = search needs
+mul-if1 c = omega arith
 
 shared-slice-read-if1 : tie.Need-shared-slice-read-if1
-shared-slice-read-if1 c = search needs
+shared-slice-read-if1 c = omega arith
 
 returns : tie.Need-returns
 returns c =
-    let at-args = c .before .before .before .args in
-    let at-pre = c .before .before .before .pre in
-    let at-if1 = c .if1 in
-    segment-differs (now (at-args .leaves)) (at-args .at) at-pre (at-args .place) (at-if1 .taken)
+    let start = c .before .before .before in
+    let a = start .args in
+    segment-differs (a .leaves .now) (a .row) (start .pre) (a .place) (c .if1 .taken)
 
 add-if2 : tie.Need-add-if2
-add-if2 c = search needs
+add-if2 c = omega arith
 
 mul-if2 : tie.Need-mul-if2
-mul-if2 c = search needs
+mul-if2 c = omega arith
 
 shared-slice-read-if2 : tie.Need-shared-slice-read-if2
-shared-slice-read-if2 c = search needs
+shared-slice-read-if2 c = omega arith
 
 returns-2 : tie.Need-returns-2
 returns-2 c =
-    let at-args = c .before .before .before .before .before .before .args in
-    let at-pre = c .before .before .before .before .before .before .pre in
-    let at-if1 = c .before .before .before .if1 in
-    let at-if2 = c .if2 in
-    field-differs (now (at-args .leaves)) (at-args .at) at-pre (at-args .place) (at-if1 .left) (at-if2 .taken)
+    let segment = c .before .before .before in
+    let start = segment .before .before .before in
+    let a = start .args in
+    field-differs (a .leaves .now) (a .row) (start .pre) (a .place) (segment .if1 .left) (c .if2 .taken)
 
 add-if3 : tie.Need-add-if3
-add-if3 c = search needs
+add-if3 c = omega arith
 
 mul-if3 : tie.Need-mul-if3
-mul-if3 c = search needs
+mul-if3 c = omega arith
 
 shared-slice-read-if3 : tie.Need-shared-slice-read-if3
-shared-slice-read-if3 c = search needs
+shared-slice-read-if3 c = omega arith
 
 returns-3 : tie.Need-returns-3
 returns-3 c =
-    let at-args = c .before .before .before .before .before .before .before .before .before .args in
-    let at-pre = c .before .before .before .before .before .before .before .before .before .pre in
-    let at-if1 = c .before .before .before .before .before .before .if1 in
-    let at-if2 = c .before .before .before .if2 in
-    let at-if3 = c .if3 in
-    repetition-differs (now (at-args .leaves)) (at-args .at) at-pre (at-args .place) (at-if1 .left) (at-if2 .left) (at-if3 .taken)
+    let field = c .before .before .before in
+    let segment = field .before .before .before in
+    let start = segment .before .before .before in
+    let a = start .args in
+    repetition-differs (a .leaves .now) (a .row) (start .pre) (a .place) (segment .if1 .left) (field .if2 .left) (c .if3 .taken)
 
 add-if4 : tie.Need-add-if4
-add-if4 c = search needs
+add-if4 c = omega arith
 
 mul-if4 : tie.Need-mul-if4
-mul-if4 c = search needs
+mul-if4 c = omega arith
 
 shared-slice-read-if4 : tie.Need-shared-slice-read-if4
-shared-slice-read-if4 c = search needs
+shared-slice-read-if4 c = omega arith
 
 returns-4 : tie.Need-returns-4
 returns-4 c =
-    let at-args = c .before .before .before .before .before .before .before .before .before .before .before .before .args in
-    let at-pre = c .before .before .before .before .before .before .before .before .before .before .before .before .pre in
-    let at-if1 = c .before .before .before .before .before .before .before .before .before .if1 in
-    let at-if2 = c .before .before .before .before .before .before .if2 in
-    let at-if3 = c .before .before .before .if3 in
-    let at-if4 = c .if4 in
-    subfield-differs (now (at-args .leaves)) (at-args .at) at-pre (at-args .place) (at-if1 .left) (at-if2 .left) (at-if3 .left) (at-if4 .taken)
+    let repetition = c .before .before .before in
+    let field = repetition .before .before .before in
+    let segment = field .before .before .before in
+    let start = segment .before .before .before in
+    let a = start .args in
+    subfield-differs (a .leaves .now) (a .row) (start .pre) (a .place) (segment .if1 .left) (field .if2 .left) (repetition .if3 .left) (c .if4 .taken)
 
 add-result : tie.Need-add-result
-add-result c = search needs
+add-result c = omega arith
 
 mul-result : tie.Need-mul-result
-mul-result c = search needs
+mul-result c = omega arith
 
 shared-slice-read-result : tie.Need-shared-slice-read-result
-shared-slice-read-result c = search needs
+shared-slice-read-result c = omega arith
 
 returns-5 : tie.Need-returns-5
 returns-5 c =
-    let at-args = c .before .before .before .before .before .before .before .before .before .before .before .before .before .before .args in
-    let at-pre = c .before .before .before .before .before .before .before .before .before .before .before .before .before .before .pre in
-    let at-if1 = c .before .before .before .before .before .before .before .before .before .before .before .if1 in
-    let at-if2 = c .before .before .before .before .before .before .before .before .if2 in
-    let at-if3 = c .before .before .before .before .before .if3 in
-    let at-if4 = c .before .before .if4 in
-    subsubfield-decides (now (at-args .leaves)) (at-args .at) at-pre (at-args .place) (at-if1 .left) (at-if2 .left) (at-if3 .left) (at-if4 .left)
+    let subfield = c .before .before in
+    let repetition = subfield .before .before .before in
+    let field = repetition .before .before .before in
+    let segment = field .before .before .before in
+    let start = segment .before .before .before in
+    let a = start .args in
+    subsubfield-decides (a .leaves .now) (a .row) (start .pre) (a .place) (segment .if1 .left) (field .if2 .left) (repetition .if3 .left)
+    (subfield .if4 .left)
 
 pub is-at-spec : {M : Type 1} → statement M
 is-at-spec =
     tie.close
     (tie.spec
+    mul-at
     mul-if1
     shared-slice-read-if1
     returns

@@ -1,14 +1,37 @@
 -- `look::leaf::leaf_text` meets its contract: by what `find_leaf` finds, which lies within the text.
 -- Assumes nothing.
 use denote.Ref.{now}
-use mathlib.Core.Path.{sym, _∙_}
+use mathlib.Core.Path.{_≡_, sym, _∙_}
+use Prim.Native.Nat.{_+_, _≤_}
 use native.Mathlib.Omega.{arith}
-use Rattle.table.specs.Lent.{lent}
+use lib.ListN.{length}
+use Rattle.table.specs.Lent.{Lent, lent}
+use Rattle.look.specs.declared.leaf.Sought.the-variants.{At}
+use Rattle.look.specs.Looking.{soughtIn}
 use Rattle.look.proofs.Seeking.{found-within}
 use Rattle.look.proofs.TextParts.{part-found, no-part}
 use borrow.Author.Needs.{needs}
 use Rattle.look.proofs.leaf.leaf_text.Statement.{statement}
 use Rattle.look.proofs.leaf.leaf_text.Tie as tie
+
+abbrev start-of : tie.After-find-leaf → tie.Start
+start-of c = c .before .before .before .before .before
+
+-- the table that is lent
+abbrev lent-here : tie.After-find-leaf → Lent
+lent-here c =
+    let a = start-of c .args in
+    lent (a .card) (now (a .segments)) (now (a .leaves)) (now (a .text))
+
+-- a leaf is found, within the text
+found : (c : tie.After-start) → soughtIn (lent-here (c .before .before)) (start-of (c .before .before) .args .place)
+    ≡ At (c .start .given .0 .0) (c .start .given .0 .1 .0)
+found c = sym (c .before .before .find-leaf .ensures) ∙ c .start .given .1
+
+within : (c : tie.After-start) → c .start .given .0 .0 + c .start .given .0 .1 .0 ≤ length (now (start-of (c .before .before) .args .text))
+within c =
+    let asked = c .before .before in
+    found-within (lent-here asked) (start-of asked .args .place) (c .start .given .0 .0) (c .start .given .0 .1 .0) (found c)
 
 find-leaf-requires : tie.Need-find-leaf-requires
 find-leaf-requires c κs = search needs
@@ -17,15 +40,7 @@ enum-known-start : tie.Need-enum-known-start
 enum-known-start c = search needs
 
 add-end : tie.Need-add-end
-add-end c =
-    let at-args = c .before .before .before .before .before .before .before .before .args in
-    let at-start = c .before .start in
-    let at-find-leaf = c .before .before .before .find-leaf in
-    let t = lent (at-args .card) (now (at-args .segments)) (now (at-args .leaves)) (now (at-args .text)) in
-    let found = sym (at-find-leaf .ensures) ∙ at-start .given .1 in
-    let start = at-start .given .0 .0 in
-    let length = at-start .given .0 .1 .0 in
-    omega (arith, found-within t (at-args .place) start length found)
+add-end c = omega (arith, within (c .before))
 
 sub-result : tie.Need-sub-result
 sub-result c = search needs
@@ -34,38 +49,23 @@ part-result-start : tie.Need-part-result-start
 part-result-start c = search needs
 
 part-result-end : tie.Need-part-result-end
-part-result-end c =
-    let at-args = c .before .before .before .before .before .before .before .before .args in
-    let at-start = c .before .start in
-    let at-find-leaf = c .before .before .before .find-leaf in
-    let t = lent (at-args .card) (now (at-args .segments)) (now (at-args .leaves)) (now (at-args .text)) in
-    let found = sym (at-find-leaf .ensures) ∙ at-start .given .1 in
-    let start = at-start .given .0 .0 in
-    let length = at-start .given .0 .1 .0 in
-    omega (arith, found-within t (at-args .place) start length found)
+part-result-end c = omega (arith, within (c .before))
 
 enum-told : tie.Need-enum-told
 enum-told c = search needs
 
 returns : tie.Need-returns
 returns c =
-    let at-args = c .before .before .before .before .before .before .before .before .before .args in
-    let at-start = c .before .before .start in
-    let at-find-leaf = c .before .before .before .before .find-leaf in
-    let t = lent (at-args .card) (now (at-args .segments)) (now (at-args .leaves)) (now (at-args .text)) in
-    let found = sym (at-find-leaf .ensures) ∙ at-start .given .1 in
-    let start = at-start .given .0 .0 in
-    let length = at-start .given .0 .1 .0 in
-    part-found t (at-args .place) (now (at-args .substitute)) start length found
+    let here = c .before .before in
+    let asked = here .before .before in
+    let a = start-of asked .args in
+    part-found (lent-here asked) (a .place) (now (a .substitute)) (here .start .given .0 .0) (here .start .given .0 .1 .0) (found here)
 
 returns-2 : tie.Need-returns-2
 returns-2 c =
-    let at-args = c .before .before .before .before .before .before .before .args in
-    let at-find-leaf = c .before .before .find-leaf in
-    let at-enum-told = c .enum-told in
-    let t = lent (at-args .card) (now (at-args .segments)) (now (at-args .leaves)) (now (at-args .text)) in
-    let none = sym (at-find-leaf .ensures) ∙ at-enum-told .given .1 in
-    no-part t (at-args .place) (now (at-args .substitute)) none
+    let asked = c .before .before in
+    let a = start-of asked .args in
+    no-part (lent-here asked) (a .place) (now (a .substitute)) (sym (asked .find-leaf .ensures) ∙ c .enum-told .given .1)
 
 pub leaf-text-spec : {M : Type 1} → statement M
 leaf-text-spec =

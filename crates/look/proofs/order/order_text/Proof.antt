@@ -2,12 +2,21 @@
 -- Assumes nothing.
 use denote.Ref.{now}
 use mathlib.Core.Path.{sym, _∙_}
-use Rattle.table.specs.Lent.{lent}
+use Rattle.table.specs.Lent.{Lent, lent}
 use Rattle.look.specs.Looking.{orderPlace}
-use Rattle.look.proofs.Orders.{order-by-segments, order-text, no-order}
+use Rattle.look.proofs.Orders.{order-text, no-order}
 use borrow.Author.Needs.{needs}
 use Rattle.look.proofs.order.order_text.Statement.{statement}
 use Rattle.look.proofs.order.order_text.Tie as tie
+
+abbrev start-of : tie.After-is-order → tie.Start
+start-of c = c .before .before .before .before
+
+-- the table that is lent
+abbrev lent-here : tie.After-is-order → Lent
+lent-here c =
+    let a = start-of c .args in
+    lent (a .card) (now (a .segments)) (now (a .leaves)) (now (a .text))
 
 is-order-requires : tie.Need-is-order-requires
 is-order-requires c κs = search needs
@@ -18,24 +27,14 @@ find-leaf-requires c κs = search needs
 returns : tie.Need-returns
 unfolding orderPlace
 returns c =
-    let at-find-leaf = c .find-leaf in
-    let at-args = c .before .before .before .before .before .before .args in
-    let at-is-order = c .before .before .is-order in
-    let at-if1 = c .before .if1 in
-    let t = lent (at-args .card) (now (at-args .segments)) (now (at-args .leaves)) (now (at-args .text)) in
-    let by-segments = order-by-segments (at-args .card) (now (at-args .segments)) (now (at-args .leaves)) (now (at-args .text)) (at-args .row) in
-    let asked = sym by-segments ∙ sym (at-is-order .ensures) ∙ at-if1 .taken in
-    at-find-leaf .ensures ∙ sym (order-text t (at-args .row) asked)
+    let asked = c .before .before in
+    let order = sym (asked .is-order .ensures) ∙ c .before .if1 .taken in
+    c .find-leaf .ensures ∙ sym (order-text (lent-here asked) (start-of asked .args .row) order)
 
 returns-2 : tie.Need-returns-2
 returns-2 c =
-    let at-args = c .before .before .before .before .before .args in
-    let at-is-order = c .before .is-order in
-    let at-if1 = c .if1 in
-    let t = lent (at-args .card) (now (at-args .segments)) (now (at-args .leaves)) (now (at-args .text)) in
-    let by-segments = order-by-segments (at-args .card) (now (at-args .segments)) (now (at-args .leaves)) (now (at-args .text)) (at-args .row) in
-    let asked = sym by-segments ∙ sym (at-is-order .ensures) ∙ at-if1 .left in
-    sym (no-order t (at-args .row) asked)
+    let asked = c .before in
+    sym (no-order (lent-here asked) (start-of asked .args .row) (sym (asked .is-order .ensures) ∙ c .if1 .left))
 
 pub order-text-spec : {M : Type 1} → statement M
 order-text-spec = tie.close (tie.spec is-order-requires find-leaf-requires returns returns-2)

@@ -1,28 +1,34 @@
 -- `look::row::next_row` meets its contract. The loop's invariant: what is left of the rows gives what all after the given one give.
 -- The measure is the rows that are left. Assumes nothing.
-use denote.Ref.{now}
-use mathlib.Core.Path.{sym}
+use mathlib.Core.Path.{_≡_, sym, _∙_}
 use Prim.Native.Nat.{_-_}
 use native.Mathlib.Omega.{arith}
+use borrow.Author.Needs.{needs}
+use borrow.Author.Tests.{not-true, not-false}
 use Rattle.look.proofs.RowSearch.{RowSearch, rows-past, rows-begin, other-kind, other-owner, row-found, no-row}
 use Rattle.look.proofs.row.next_row.Statement.{statement}
 use Rattle.look.proofs.row.next_row.Tie as tie
 
 abbrev Inv-loop : tie.InvT-loop
-Inv-loop segments after kind owner rows row₀ row = RowSearch segments rows after kind owner row
+Inv-loop segments after kind owner count row₀ row = RowSearch segments count after kind owner row
 
 abbrev μ-loop : tie.MeasureT-loop
-μ-loop segments after kind owner rows row₀ row = rows - row
+μ-loop segments after kind owner count row₀ row = count - row
+
+segments-fit-requires : tie.Need-segments-fit-requires Inv-loop μ-loop
+segments-fit-requires c κs = search needs
 
 returns : tie.Need-returns Inv-loop μ-loop
 returns c =
-    let at-args = c .before .args in
-    sym (rows-past (now (at-args .segments)) (at-args .card .segments) (at-args .after) (at-args .kind) (at-args .owner) (omega arith))
+    let asked = c .before in
+    let a = asked .before .before .args in
+    rows-past (a .segments .now) (a .card .segments) (a .after) (a .kind) (a .owner)
+    (sym (asked .segments-fit .ensures) ∙ not-true (asked .segments-fit .result) (c .if1 .taken))
 
 loop-holds : tie.Need-loop-holds Inv-loop μ-loop
 loop-holds c =
-    let at-args = c .before .args in
-    rows-begin (now (at-args .segments)) (at-args .card .segments) (at-args .after) (at-args .kind) (at-args .owner)
+    let asked = c .before in
+    rows-begin (sym (asked .segments-fit .ensures) ∙ not-false (asked .segments-fit .result) (c .if1 .left))
 
 mul-at : tie.Need-mul-at Inv-loop μ-loop
 mul-at c = omega arith
@@ -47,41 +53,28 @@ shared-slice-read-if3 c = omega arith
 
 returns-2 : tie.Need-returns-2 Inv-loop μ-loop
 returns-2 c =
-    let at-args = c .before .before .before .before .before .before .before .args in
-    let at-loop = c .before .before .before .before .before .loop in
-    let at-loop-test = c .before .before .before .before .loop-test in
-    let at-if2 = c .before .before .if2 in
-    let at-if3 = c .if3 in
-    row-found (now (at-args .segments)) (at-args .card .segments) (at-args .after) (at-args .kind) (at-args .owner) (at-loop .row) (at-loop .inv) (omega arith) (at-loop-test .taken) (at-if2 .taken) (at-if3 .taken)
+    let of-kind = c .before .before in
+    let turn = of-kind .before .before in
+    row-found (turn .before .loop .inv) (turn .loop-test .taken) (of-kind .if2 .taken) (c .if3 .taken)
 
 loop-less : tie.Need-loop-less Inv-loop μ-loop
 loop-less c = omega arith
 
 loop-again : tie.Need-loop-again Inv-loop μ-loop
 loop-again c =
-    let at-args = c .before .before .before .before .before .before .before .args in
-    let at-loop = c .before .before .before .before .before .loop in
-    let at-loop-test = c .before .before .before .before .loop-test in
-    let at-if3 = c .if3 in
-    other-owner (now (at-args .segments)) (at-args .card .segments) (at-args .after) (at-args .kind) (at-args .owner) (at-loop .row) (at-loop .inv) (at-loop-test .taken) (at-if3 .left)
+    let turn = c .before .before .before .before in
+    other-owner (turn .before .loop .inv) (turn .loop-test .taken) (c .if3 .left)
 
 loop-less-2 : tie.Need-loop-less-2 Inv-loop μ-loop
 loop-less-2 c = omega arith
 
 loop-again-2 : tie.Need-loop-again-2 Inv-loop μ-loop
 loop-again-2 c =
-    let at-args = c .before .before .before .before .before .args in
-    let at-loop = c .before .before .before .loop in
-    let at-loop-test = c .before .before .loop-test in
-    let at-if2 = c .if2 in
-    other-kind (now (at-args .segments)) (at-args .card .segments) (at-args .after) (at-args .kind) (at-args .owner) (at-loop .row) (at-loop .inv) (at-loop-test .taken) (at-if2 .left)
+    let turn = c .before .before in
+    other-kind (turn .before .loop .inv) (turn .loop-test .taken) (c .if2 .left)
 
 returns-3 : tie.Need-returns-3 Inv-loop μ-loop
-returns-3 c =
-    let at-args = c .before .before .before .args in
-    let at-loop = c .before .loop in
-    let at-loop-test = c .loop-test in
-    no-row (now (at-args .segments)) (at-args .card .segments) (at-args .after) (at-args .kind) (at-args .owner) (at-loop .row) (at-loop .inv) (omega arith) (at-loop-test .left)
+returns-3 c = no-row (c .before .loop .inv) (c .loop-test .left)
 
 pub next-row-spec : {M : Type 1} → statement M
 next-row-spec =
@@ -89,6 +82,7 @@ next-row-spec =
     (tie.spec
     Inv-loop
     μ-loop
+    segments-fit-requires
     returns
     loop-holds
     mul-at

@@ -1,14 +1,14 @@
--- `order::levels::table` meets its contract: the constant is the table of document 01's levels, computed once over the whole.
+-- `order::levels::table` meets its contract: the constant is the table of the levels in force, computed once over the whole.
 -- Assumes nothing.
 use mathlib.Core.Path.{refl}
 use Rattle.laws.specs.Tables.{values}
 use Rattle.order.specs.Owners.{levels, level}
-use Rattle.order.specs.Levels.{flat, levelTable}
+use Rattle.order.specs.Levels.{levelTableOf, levelTable}
 use Rattle.order.proofs.levels.table.Statement.{statement}
 use Rattle.order.proofs.levels.table.Tie as tie
 
 returns : tie.Need-returns
-unfolding levelTable flat level levels values
+unfolding levelTable levelTableOf level levels values
 returns c = refl
 
 pub table-spec : {M : Type 1} → statement M

@@ -1,4 +1,4 @@
--- `order::owners::place_of` meets its contract: each return is one case of `placeOf`.
+-- `order::owners::place_of` meets its contract: each return is one case of `levelPlace`.
 -- Assumes nothing.
 use mathlib.Core.Path.{sym}
 use native.Mathlib.Omega.{arith}

@@ -2,7 +2,7 @@
 -- Assumes nothing.
 use borrow.Author.Needs.{needs}
 use mathlib.Core.Path.{refl}
-use Rattle.order.specs.Watcher.{listed}
+use Rattle.order.specs.Watcher.{followsBy}
 use Rattle.order.proofs.watcher.is_listed.Statement.{statement}
 use Rattle.order.proofs.watcher.is_listed.Tie as tie
 
@@ -31,7 +31,7 @@ element-copy-out-result : tie.Need-element-copy-out-result
 element-copy-out-result c = search needs
 
 returns : tie.Need-returns
-unfolding listed
+unfolding followsBy
 returns c = refl
 
 pub is-listed-spec : {M : Type 1} → statement M

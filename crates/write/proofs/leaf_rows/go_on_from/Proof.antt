@@ -1,98 +1,52 @@
--- `write::leaf_rows::go_on_from` meets its contract. One law a return.
+-- `write::leaf_rows::go_on_from` meets its contract: the third row's field, and then the bytes from its start on.
 -- Assumes nothing.
-use mathlib.Core.Path.{_≡_, _∙_}
-use Prim.Native.Nat.{_≤_}
-use Rattle.form.specs.Header.{splitting}
-use Rattle.write.proofs.GoingOn.{third-elsewhere}
-use Rattle.write.proofs.LaidRows.{place-other, third-decides}
-use native.Mathlib.Omega.{arith}
 use borrow.Author.Needs.{needs}
+use native.Mathlib.Omega.{arith}
+use mathlib.Core.Path.{refl, _∙_}
+use Prim.Native.Nat.{_≤_, _*_}
+use lib.ListN.{length}
+use Rattle.form.specs.Header.{splitting}
+use Rattle.table.proofs.Classes.{classes-set}
+use Rattle.write.proofs.LaidRows.{in-text-fits}
+use Rattle.write.proofs.GoingOn.{third-elsewhere, third-decides}
 use Rattle.write.proofs.leaf_rows.go_on_from.Statement.{statement}
 use Rattle.write.proofs.leaf_rows.go_on_from.Tie as tie
+use Rattle.table.specs.Rows.{leafRowSize}
 
-mul-if1 : tie.Need-mul-if1
-mul-if1 c =
-    let at-pre = c .before .before .pre in
-    omega (arith, at-pre .0 .sized, at-pre .1)
-
-add-if1 : tie.Need-add-if1
-add-if1 c =
-    let at-pre = c .before .before .pre in
-    omega (arith, at-pre .0 .sized, at-pre .1)
-
-mul-if1-2 : tie.Need-mul-if1-2
-mul-if1-2 c =
-    let at-pre = c .before .before .pre in
-    omega (arith, at-pre .0 .sized, at-pre .1)
+-- three rows at least
+rows-there : (s : tie.Start) → 3 * leafRowSize ≤ length (s .args .rows .now)
+rows-there s = let laid = s .pre .laid in omega (arith, laid .inText .sized, laid .three)
 
 shared-slice-read-if1 : tie.Need-shared-slice-read-if1
-shared-slice-read-if1 c =
-    let at-pre = c .before .before .before .pre in
-    omega (arith, at-pre .0 .sized, at-pre .1)
+shared-slice-read-if1 c = omega (arith, rows-there (c .before .before .before))
 
 returns : tie.Need-returns
 returns c =
-    let at-args = c .before .before .before .before .args in
-    let at-pre = c .before .before .before .before .pre in
-    let at-if1 = c .if1 in
-    third-elsewhere (splitting (at-args .separators)) (at-args .rows .now) (at-args .text .now) (at-args .count) (at-pre .1) (place-other (at-args .rows .now) 14 3 (at-if1 .taken))
-
-classes-requires : tie.Need-classes-requires
-classes-requires c κs = search needs
-
-mul-wide : tie.Need-mul-wide
-mul-wide c =
-    let at-pre = c .before .before .before .before .before .before .pre in
-    omega (arith, at-pre .0 .sized, at-pre .1)
-
-add-wide : tie.Need-add-wide
-add-wide c =
-    let at-pre = c .before .before .before .before .before .before .pre in
-    omega (arith, at-pre .0 .sized, at-pre .1)
-
-mul-wide-2 : tie.Need-mul-wide-2
-mul-wide-2 c =
-    let at-pre = c .before .before .before .before .before .before .pre in
-    omega (arith, at-pre .0 .sized, at-pre .1)
+    let start = c .before .before .before .before in
+    let a = start .args in
+    third-elsewhere (splitting (a .separators)) (a .rows .now) (a .text .now) (a .count) (start .pre .laid .three) (c .if1 .taken)
 
 shared-slice-read-wide : tie.Need-shared-slice-read-wide
-shared-slice-read-wide c =
-    let at-pre = c .before .before .before .before .before .before .before .pre in
-    omega (arith, at-pre .0 .sized, at-pre .1)
-
-wide-requires : tie.Need-wide-requires
-wide-requires c κs = search needs
+shared-slice-read-wide c = omega (arith, rows-there (c .before .before .before .before .before .before .before .before))
 
 leaf-text-requires : tie.Need-leaf-text-requires
 leaf-text-requires c κs =
-    let at-wide = c .wide in
-    let at-pre = c .before .before .before .before .before .before .before .before .pre in
-    (omega (arith, at-wide .ensures .0, at-pre .0 .fits 2 (at-pre .1)), omega arith)
+    let laid = c .before .before .before .before .before .before .before .before .before .pre .laid in
+    (omega (arith, c .wide .ensures .0, in-text-fits (laid .inText) 2 (laid .three)), omega arith)
 
 returns-2 : tie.Need-returns-2
 returns-2 c =
-    let at-leaf-text = c .leaf-text in
-    let at-args = c .before .before .before .before .before .before .before .before .before .args in
-    let at-classes = c .before .before .before .before .classes in
-    let at-pre = c .before .before .before .before .before .before .before .before .before .pre in
-    let at-if1 = c .before .before .before .before .before .if1 in
-    let at-wide = c .before .wide in
-    at-leaf-text .ensures (splitting (at-args .separators)) (at-classes .ensures) ∙ third-decides (splitting (at-args .separators)) (at-args .rows .now) (at-args .text .now) (at-args .count) (at-pre .1) (at-pre .0 .sized) (at-pre .2) (at-pre .3) (at-if1 .left) (at-wide .ensures .0)
+    let there = c .before .wide .ensures .0 in
+    let classed = c .before .before .before .before in
+    let third = classed .before .before in
+    let start = third .before .before .before .before in
+    let a = start .args in
+    c .leaf-text .ensures (a .separators) (classes-set (a .separators) refl (classed .set-classes .ensures))
+    ∙ third-decides (splitting (a .separators)) (a .rows .now) (a .text .now) (a .count) (start .pre) (third .if1 .left) there
 
 pub go-on-from-spec : {M : Type 1} → statement M
 go-on-from-spec =
     tie.close
     (tie.spec
-    mul-if1
-    add-if1
-    mul-if1-2
-    shared-slice-read-if1
-    returns
-    classes-requires
-    mul-wide
-    add-wide
-    mul-wide-2
-    shared-slice-read-wide
-    wide-requires
-    leaf-text-requires
-    returns-2)
+    (λ c. search needs) (λ c. search needs) (λ c. search needs) shared-slice-read-if1 returns (λ c κs. search needs) (λ c. search needs)
+    (λ c. search needs) (λ c. search needs) shared-slice-read-wide (λ c κs. search needs) leaf-text-requires returns-2)

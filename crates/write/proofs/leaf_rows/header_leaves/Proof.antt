@@ -1,125 +1,99 @@
--- `write::leaf_rows::header_leaves` meets its contract. One law a return.
+-- `write::leaf_rows::header_leaves` meets its contract: one law a return.
 -- Assumes nothing.
-use mathlib.Core.Path.{sym, ap, _∙_}
-use borrow.Author.Tests.{not-true, not-false}
-use Prim.Native.Nat.{ℕ, _-_}
-use lib.ListN.{getD}
-use Rattle.write.proofs.GoingOn.{head-elsewhere, head-other, head-long, head-no-h, second-elsewhere, second-long}
-use Rattle.write.proofs.LaidRows.{place-other, place-next}
-use native.Mathlib.Omega.{arith}
 use borrow.Author.Needs.{needs}
+use native.Mathlib.Omega.{arith}
+use mathlib.Core.Path.{sym, _∙_}
+use Prim.Native.Nat.{_≤_, _*_}
+use lib.ListN.{length}
+use borrow.Author.Tests.{not-true, not-false}
+use Rattle.write.proofs.LaidRows.{in-text-fits}
+use Rattle.write.proofs.HeaderTest.{not-segment-one, not-first, not-one-byte, not-letter, not-field-two, four-decides}
 use Rattle.write.proofs.leaf_rows.header_leaves.Statement.{statement}
 use Rattle.write.proofs.leaf_rows.header_leaves.Tie as tie
+use Rattle.table.specs.Rows.{leafRowSize}
 
-stands-at-requires : tie.Need-stands-at-requires
-stands-at-requires c κs =
-    let at-pre = c .before .before .pre in
-    omega (arith, at-pre .0 .sized, at-pre .1)
+-- three rows at least
+rows-there : (s : tie.Start) → 3 * leafRowSize ≤ length (s .args .rows .now)
+rows-there s = omega (arith, s .pre .inText .sized, s .pre .three)
+
+shared-slice-read-if1 : tie.Need-shared-slice-read-if1
+shared-slice-read-if1 c = omega (arith, rows-there (c .before .before .before))
 
 returns : tie.Need-returns
 returns c =
-    let at-args = c .before .before .before .before .args in
-    let at-stands-at = c .before .stands-at in
-    let at-if1 = c .if1 in
-    head-elsewhere (at-args .rows .now) (at-args .text .now) (sym (at-stands-at .ensures) ∙ not-true (at-stands-at .result) (at-if1 .taken))
+    let start = c .before .before .before .before in
+    not-segment-one (start .args .rows .now) (start .args .text .now) (start .pre) (c .if1 .taken)
 
-shared-slice-read-if2 : tie.Need-shared-slice-read-if2
-shared-slice-read-if2 c =
-    let at-pre = c .before .before .before .before .before .pre in
-    omega (arith, at-pre .0 .sized, at-pre .1)
+first-in-segment-requires : tie.Need-first-in-segment-requires
+first-in-segment-requires c κs = omega (arith, rows-there (c .before .before .before .before))
 
 returns-2 : tie.Need-returns-2
 returns-2 c =
-    let at-args = c .before .before .before .before .before .before .args in
-    let at-pre = c .before .before .before .before .before .before .pre in
-    let at-if2 = c .if2 in
-    head-other (at-args .rows .now) (at-args .text .now) (head-long (at-args .rows .now) (at-args .text .now) (at-pre .0 .fits 0 (omega (arith, at-pre .1))) (at-if2 .taken))
+    let first = c .before .first-in-segment in
+    let start = c .before .before .before .before .before .before in
+    not-first (start .args .rows .now) (start .args .text .now) (start .pre) (sym (first .ensures) ∙ not-true (first .result) (c .if2 .taken))
 
-shared-slice-read-wide : tie.Need-shared-slice-read-wide
-shared-slice-read-wide c =
-    let at-pre = c .before .before .before .before .before .before .before .pre in
-    omega (arith, at-pre .0 .sized, at-pre .1)
-
-wide-requires : tie.Need-wide-requires
-wide-requires c κs = search needs
+-- the place past the tests of the first row's place, and the start from there
+abbrev start-of : tie.Else2 → tie.Start
+start-of c = c .before .before .before .before .before .before
 
 shared-slice-read-if3 : tie.Need-shared-slice-read-if3
-shared-slice-read-if3 c =
-    let at-pre = c .before .before .before .before .before .before .before .before .before .pre in
-    let at-wide = c .before .wide in
-    let at-if2 = c .before .before .before .if2 in
-    omega (arith, (at-pre .0 .fits 0 (omega (arith, at-pre .1))), at-wide .ensures .0, at-if2 .left)
+shared-slice-read-if3 c = omega (arith, rows-there (start-of (c .before)))
 
 returns-3 : tie.Need-returns-3
 returns-3 c =
-    let at-args = c .before .before .before .before .before .before .before .before .before .before .args in
-    let at-pre = c .before .before .before .before .before .before .before .before .before .before .pre in
-    let at-if2 = c .before .before .before .before .if2 in
-    let at-if3 = c .if3 in
-    let at-wide = c .before .before .wide in
-    head-other (at-args .rows .now) (at-args .text .now) (head-no-h (at-args .rows .now) (at-args .text .now) (at-pre .0 .fits 0 (omega (arith, at-pre .1))) (at-if2 .left) (λ e. at-if3 .taken (ap (λ (k : ℕ). getD (at-args .text .now) k 0) (at-wide .ensures .0) ∙ e)))
+    let start = start-of (c .before .before) in
+    not-one-byte (start .args .rows .now) (start .args .text .now) (start .pre) (c .if3 .taken)
 
-add-if4 : tie.Need-add-if4
-add-if4 c = search needs
-
-mul-if4 : tie.Need-mul-if4
-mul-if4 c =
-    let at-pre = c .before .before .before .before .before .before .before .before .before .before .pre in
-    omega (arith, at-pre .0 .sized, at-pre .1)
+shared-slice-read-wide : tie.Need-shared-slice-read-wide
+shared-slice-read-wide c = omega (arith, rows-there (start-of (c .before .before .before)))
 
 shared-slice-read-if4 : tie.Need-shared-slice-read-if4
 shared-slice-read-if4 c =
-    let at-pre = c .before .before .before .before .before .before .before .before .before .before .before .pre in
-    omega (arith, at-pre .0 .sized, at-pre .1)
+    let one = c .before .before .before in
+    let pre = start-of (one .before .before) .pre in
+    omega (arith, in-text-fits (pre .inText) 0 (omega (arith, pre .three)), c .before .wide .ensures .0, one .if3 .left)
 
 returns-4 : tie.Need-returns-4
 returns-4 c =
-    let at-args = c .before .before .before .before .before .before .before .before .before .before .before .before .args in
-    let at-if4 = c .if4 in
-    second-elsewhere (at-args .rows .now) (at-args .text .now) (place-other (at-args .rows .now) 7 2 (at-if4 .taken))
+    let at-wide = c .before .before in
+    let one = at-wide .before .before in
+    let start = start-of (one .before .before) in
+    not-letter (start .args .rows .now) (start .args .text .now) (start .pre) (one .if3 .left) (at-wide .wide .ensures .0) (c .if4 .taken)
 
-add-result : tie.Need-add-result
-add-result c = search needs
+-- the place past the test of the letter
+abbrev start-from : tie.Else4 → tie.Start
+start-from c = start-of (c .before .before .before .before .before .before)
 
-mul-result : tie.Need-mul-result
-mul-result c =
-    let at-pre = c .before .before .before .before .before .before .before .before .before .before .before .before .pre in
-    omega (arith, at-pre .0 .sized, at-pre .1)
-
-shared-slice-read-result : tie.Need-shared-slice-read-result
-shared-slice-read-result c =
-    let at-pre = c .before .before .before .before .before .before .before .before .before .before .before .before .before .pre in
-    omega (arith, at-pre .0 .sized, at-pre .1)
+shared-slice-read-if5 : tie.Need-shared-slice-read-if5
+shared-slice-read-if5 c = omega (arith, rows-there (start-from (c .before)))
 
 returns-5 : tie.Need-returns-5
 returns-5 c =
-    let at-args = c .before .before .before .before .before .before .before .before .before .before .before .before .before .args in
-    let at-stands-at = c .before .before .before .before .before .before .before .before .before .before .stands-at in
-    let at-if1 = c .before .before .before .before .before .before .before .before .before .if1 in
-    let at-pre = c .before .before .before .before .before .before .before .before .before .before .before .before .before .pre in
-    let at-if2 = c .before .before .before .before .before .before .before .if2 in
-    let at-wide = c .before .before .before .before .before .wide in
-    let at-if3 = c .before .before .before .if3 in
-    let at-if4 = c .before .if4 in
-    second-long (at-args .rows .now) (at-args .text .now) (sym (at-stands-at .ensures) ∙ not-false (at-stands-at .result) (at-if1 .left)) (at-pre .0 .fits 0 (omega (arith, at-pre .1))) (at-if2 .left) (ap (λ (k : ℕ). getD (at-args .text .now) k 0) (sym (at-wide .ensures .0)) ∙ at-if3 .left) (place-next (at-args .rows .now) 0 7 1 (omega arith) (omega (arith, at-pre .0 .sized, at-pre .1)) (sym (at-stands-at .ensures) ∙ not-false (at-stands-at .result) (at-if1 .left)) (at-pre .2 .next 0 (omega (arith, at-pre .1))) (at-if4 .left)) (at-pre .0 .fits 1 (omega (arith, at-pre .1)))
+    let at-wide = c .before .before .before .before in
+    let one = at-wide .before .before in
+    let start = start-from (c .before .before) in
+    not-field-two (start .args .rows .now) (start .args .text .now) (start .pre) (one .if3 .left) (at-wide .wide .ensures .0) (c .if5 .taken)
+
+shared-slice-read-result : tie.Need-shared-slice-read-result
+shared-slice-read-result c = omega (arith, rows-there (start-from (c .before .before .before)))
+
+returns-6 : tie.Need-returns-6
+returns-6 c =
+    let letter = c .before .before .before in
+    let at-wide = letter .before .before in
+    let one = at-wide .before .before in
+    let first = one .before .before in
+    let called = first .before in
+    let start = start-of first in
+    four-decides (start .args .rows .now) (start .args .text .now) (start .pre) (one .if3 .left) (at-wide .wide .ensures .0)
+    (called .before .if1 .left) (sym (called .first-in-segment .ensures) ∙ not-false (called .first-in-segment .result) (first .if2 .left))
+    (letter .if4 .left) (c .before .if5 .left)
 
 pub header-leaves-spec : {M : Type 1} → statement M
 header-leaves-spec =
     tie.close
     (tie.spec
-    stands-at-requires
-    returns
-    shared-slice-read-if2
-    returns-2
-    shared-slice-read-wide
-    wide-requires
-    shared-slice-read-if3
-    returns-3
-    add-if4
-    mul-if4
-    shared-slice-read-if4
-    returns-4
-    add-result
-    mul-result
-    shared-slice-read-result
-    returns-5)
+    shared-slice-read-if1 returns first-in-segment-requires returns-2 shared-slice-read-if3 returns-3 shared-slice-read-wide
+    (λ c κs. search needs) shared-slice-read-if4 returns-4 (λ c. search needs) (λ c. search needs) shared-slice-read-if5 returns-5
+    (λ c. search needs) (λ c. search needs) shared-slice-read-result returns-6)

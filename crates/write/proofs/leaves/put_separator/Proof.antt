@@ -1,90 +1,70 @@
--- `write::leaves::put_separator` meets its contract: between two segments a line is closed, within one a byte goes into a line.
+-- `write::leaves::put_separator` meets its contract: CR where the segment ends, and else a separator that is none.
 -- Assumes nothing.
-use mathlib.Core.Path.{sym, ap, subst, _∙_}
-use mathlib.Core.List.{[], _∷_}
-use Prim.Native.Nat.{ℕ}
 use borrow.Author.Needs.{needs}
-use Rattle.write.specs.Filling.{stand, puts, Fits}
+use mathlib.Core.List.{[], _∷_}
+use mathlib.Core.Path.{_≡_, sym, ap, _∙_, subst}
+use Prim.Native.Nat.{ℕ}
+use Rattle.line.specs.Lines.{CR}
+use Rattle.write.specs.Filling.{Stand, stand, puts, Fits}
 use Rattle.write.specs.Passing.{leading}
 use Rattle.write.proofs.Filling.{close-fits, closed-one}
-use Rattle.write.proofs.RowPlaces.{other-segment, inside-clear}
+use Rattle.write.proofs.RowPlaces.{other-segment, inside-clear, next-inside}
 use Rattle.write.proofs.leaves.put_separator.Statement.{statement}
 use Rattle.write.proofs.leaves.put_separator.Tie as tie
 
-mul-at : tie.Need-mul-at
-mul-at c = search needs
+-- the output and how far it is written; the segment ends
+abbrev here : tie.Start → Stand
+here s = stand (s .args .output .now) (s .args .going)
 
-mul-if1 : tie.Need-mul-if1
-mul-if1 c = search needs
+abbrev start-of : tie.Then1 → tie.Start
+start-of c = c .before .before .before .before .before
 
-shared-slice-read-if1 : tie.Need-shared-slice-read-if1
-shared-slice-read-if1 c = search needs
-
-add-if1 : tie.Need-add-if1
-add-if1 c = search needs
-
-mul-if1-2 : tie.Need-mul-if1-2
-mul-if1-2 c = search needs
-
-shared-slice-read-if1-2 : tie.Need-shared-slice-read-if1-2
-shared-slice-read-if1-2 c = search needs
+ends : (c : tie.Then1) → let a = start-of c .args in leading (a .separators) (a .leaves .now) (a .row) ≡ CR
+ends c = let start = start-of c in sym (other-segment (start .args .separators) (start .pre .rowThere) (c .if1 .taken))
 
 close-requires : tie.Need-close-requires
 close-requires c κs =
-    let at-args = c .before .before .before .before .before .before .args in
-    let at-pre = c .before .before .before .before .before .before .pre in
-    let at-if1 = c .before .if1 in
-    close-fits (at-args .limits) (at-args .separators .field) (stand (at-args .output .now) (at-args .going)) (leading (at-args .separators) (at-args .leaves .now) (at-args .row)) (sym (other-segment (at-args .separators) (at-args .leaves .now) (at-args .row) (at-pre .2) (at-if1 .taken))) (at-pre .4)
-
-same-length : tie.Need-same-length
-same-length c = search needs
+    let start = start-of (c .before) in
+    let a = start .args in
+    close-fits (a .limits) (a .separators .field) (here start) (leading (a .separators) (a .leaves .now) (a .row)) (ends (c .before)) (start .pre .fits)
 
 returns : tie.Need-returns
 returns c =
-    let at-args = c .before .before .before .before .before .before .before .before .before .args in
-    let at-pre = c .before .before .before .before .before .before .before .before .before .pre in
-    let at-if1 = c .before .before .before .before .if1 in
-    let at-close = c .before .before .close in
-    closed-one (at-args .limits) (at-args .separators .field) (stand (at-args .output .now) (at-args .going)) (leading (at-args .separators) (at-args .leaves .now) (at-args .row)) (sym (other-segment (at-args .separators) (at-args .leaves .now) (at-args .row) (at-pre .2) (at-if1 .taken))) (at-close .ensures)
+    let closed = c .before .before in
+    let ended = closed .before .before in
+    let start = start-of ended in
+    let a = start .args in
+    closed-one (a .limits) (a .separators .field) (here start) (leading (a .separators) (a .leaves .now) (a .row)) (ends ended) (closed .close .ensures)
 
 separator-requires : tie.Need-separator-requires
 separator-requires c κs =
-    let at-pre = c .before .before .before .before .before .pre in
-    let at-if1 = c .if1 in
-    (at-pre .2, at-pre .3, at-if1 .left)
+    let start = c .before .before .before .before .before in
+    next-inside (start .args .separators) (start .pre .rowThere) (c .if1 .left)
 
 put-inside-requires : tie.Need-put-inside-requires
 put-inside-requires c κs =
-    let at-pre = c .before .before .before .before .before .before .before .pre in
-    let at-args = c .before .before .before .before .before .before .before .args in
-    let at-separator = c .before .separator in
-    let at-if1 = c .before .before .if1 in
-    (at-pre .0, subst (λ (n : ℕ). Fits (at-args .limits) (at-args .separators .field) (stand (at-args .output .now) (at-args .going)) (n ∷ [])) (sym (at-separator .ensures)) (at-pre .4), inside-clear (at-args .separators) (at-args .leaves .now) (at-args .row) (at-pre .2) (at-if1 .left) (at-pre .1) (at-separator .ensures))
-
-same-length-2 : tie.Need-same-length-2
-same-length-2 c = search needs
+    let asked = c .before in
+    let same = asked .before in
+    let start = same .before .before .before .before .before in
+    let a = start .args in
+    let is = asked .separator .ensures in
+    record {
+      lawful = start .pre .lawful;
+      fits = subst (λ (n : ℕ). Fits (a .limits) (a .separators .field) (here start) (n ∷ [])) (sym is) (start .pre .fits);
+      inside = inside-clear (a .separators) (start .pre .rowThere) (same .if1 .left) (start .pre .splits) is;
+    }
 
 returns-2 : tie.Need-returns-2
 returns-2 c =
-    let at-put-inside = c .before .before .put-inside in
-    let at-args = c .before .before .before .before .before .before .before .before .before .before .args in
-    let at-separator = c .before .before .before .before .separator in
-    at-put-inside .ensures ∙ ap (λ (n : ℕ). puts (at-args .limits) (at-args .separators .field) (stand (at-args .output .now) (at-args .going)) (n ∷ [])) (at-separator .ensures)
+    let put = c .before .before in
+    let asked = put .before .before in
+    let start = asked .before .before .before .before .before .before in
+    let a = start .args in
+    put .put-inside .ensures ∙ ap (λ (n : ℕ). puts (a .limits) (a .separators .field) (here start) (n ∷ [])) (asked .separator .ensures)
 
 pub put-separator-spec : {M : Type 1} → statement M
 put-separator-spec =
     tie.close
     (tie.spec
-    mul-at
-    mul-if1
-    shared-slice-read-if1
-    add-if1
-    mul-if1-2
-    shared-slice-read-if1-2
-    close-requires
-    same-length
-    returns
-    separator-requires
-    put-inside-requires
-    same-length-2
-    returns-2)
+    (λ c. search needs) (λ c. search needs) (λ c. search needs) (λ c. search needs) (λ c. search needs) (λ c. search needs) close-requires
+    (λ c. search needs) returns separator-requires put-inside-requires (λ c. search needs) returns-2)

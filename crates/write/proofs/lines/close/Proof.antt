@@ -2,7 +2,7 @@
 -- Assumes nothing.
 use mathlib.Core.Path.{refl}
 use borrow.Author.Needs.{needs}
-use Rattle.write.specs.Filling.{closed}
+use Rattle.write.specs.Filling.{segmentClosed}
 use Rattle.write.proofs.lines.close.Statement.{statement}
 use Rattle.write.proofs.lines.close.Tie as tie
 
@@ -19,7 +19,7 @@ same-length : tie.Need-same-length
 same-length c = search needs
 
 returns : tie.Need-returns
-unfolding closed
+unfolding segmentClosed
 returns c = refl
 
 pub close-spec : {M : Type 1} → statement M

@@ -1,17 +1,11 @@
 -- `write::segment_rows::owned` meets its contract. The loop's invariant: what is known of the rows so far, and their owners are right.
 -- Assumes nothing.
-use mathlib.Core.Path.{_≡_, sym, ap, _∙_}
-use borrow.Author.Tests.{not-true, not-false}
-use Prim.Native.Nat.{ℕ, _+_, _-_}
-use lib.ListN.{getD}
-use mathlib.Core.Path.{refl, subst}
-use mathlib.Core.List.{List}
-use Rattle.order.specs.Levels.{levelIn}
-use Rattle.order.proofs.Owner.{RowsKnown, rows-begin}
-use Rattle.write.specs.Tests.{kindColumn}
-use Rattle.write.proofs.Columns.{Owning, owning-begins, owning-fails, owning-on, owning-done}
-use native.Mathlib.Omega.{arith}
 use borrow.Author.Needs.{needs}
+use native.Mathlib.Omega.{arith}
+use mathlib.Core.Path.{refl}
+use Prim.Native.Nat.{_-_}
+use Rattle.order.specs.Levels.{levelIn}
+use Rattle.write.proofs.Columns.{Owning, owning-begins, owning-fails, owning-on, owning-done}
 use Rattle.write.proofs.segment_rows.owned.Statement.{statement}
 use Rattle.write.proofs.segment_rows.owned.Tie as tie
 
@@ -21,119 +15,39 @@ Inv-loop table context segments many nearest₀ i₀ nearest i = Owning (levelIn
 abbrev μ-loop : tie.MeasureT-loop
 μ-loop table context segments many nearest₀ i₀ nearest i = many - i
 
-no-rows-requires : tie.Need-no-rows-requires Inv-loop μ-loop
-no-rows-requires c κs = search needs
-
 loop-holds : tie.Need-loop-holds Inv-loop μ-loop
 loop-holds c =
-    let at-args = c .before .before .args in
-    let at-no-rows = c .no-rows in
-    owning-begins (subst (λ (n : List ℕ). RowsKnown (levelIn (at-args .table .now) (at-args .context)) (kindColumn (at-args .segments .now) (at-args .many)) 0 n) (sym (at-no-rows .ensures)) (rows-begin (levelIn (at-args .table .now) (at-args .context)) (kindColumn (at-args .segments .now) (at-args .many))))
-
-mul-at : tie.Need-mul-at Inv-loop μ-loop
-mul-at c =
-    let at-pre = c .before .before .before .before .pre in
-    omega (arith, at-pre .0 .few)
-
-mul-kind : tie.Need-mul-kind Inv-loop μ-loop
-mul-kind c =
-    let at-pre = c .before .before .before .before .pre in
-    omega (arith, at-pre .0 .few, at-pre .0 .sized)
-
-shared-slice-read-kind : tie.Need-shared-slice-read-kind Inv-loop μ-loop
-shared-slice-read-kind c =
-    let at-pre = c .before .before .before .before .before .pre in
-    omega (arith, at-pre .0 .sized)
+    let a = c .before .before .args in
+    owning-begins (levelIn (a .table .now) (a .context)) (a .segments .now) (a .many) (c .no-rows .ensures)
 
 cast-kind : tie.Need-cast-kind Inv-loop μ-loop
 cast-kind c =
-    let at-pre = c .before .before .before .before .before .pre in
-    let at-loop = c .before .before .loop in
-    omega (arith, at-pre .0 .kinds (at-loop .i) (omega arith))
-
-level-of-requires : tie.Need-level-of-requires Inv-loop μ-loop
-level-of-requires c κs = search needs
-
-add-row : tie.Need-add-row Inv-loop μ-loop
-add-row c =
-    let at-pre = c .before .before .before .before .before .before .pre in
-    omega (arith, at-pre .0 .few)
-
-cast-row : tie.Need-cast-row Inv-loop μ-loop
-cast-row c =
-    let at-pre = c .before .before .before .before .before .before .pre in
-    omega (arith, at-pre .0 .few)
-
-owner-of-requires : tie.Need-owner-of-requires Inv-loop μ-loop
-owner-of-requires c κs = search needs
-
-add-if1 : tie.Need-add-if1 Inv-loop μ-loop
-add-if1 c =
-    let at-pre = c .before .before .before .before .before .before .before .before .pre in
-    omega (arith, at-pre .0 .few)
-
-mul-if1 : tie.Need-mul-if1 Inv-loop μ-loop
-mul-if1 c =
-    let at-pre = c .before .before .before .before .before .before .before .before .pre in
-    omega (arith, at-pre .0 .few, at-pre .0 .sized)
-
-shared-slice-read-if1 : tie.Need-shared-slice-read-if1 Inv-loop μ-loop
-shared-slice-read-if1 c =
-    let at-pre = c .before .before .before .before .before .before .before .before .before .pre in
-    omega (arith, at-pre .0 .sized)
+    let turn = c .before .before in
+    omega (arith, turn .before .before .before .pre .kinds .kinds (turn .loop .i) (omega arith))
 
 returns : tie.Need-returns Inv-loop μ-loop
 returns c =
-    let at-loop = c .before .before .before .before .before .before .before .loop in
-    let at-pre = c .before .before .before .before .before .before .before .before .before .before .pre in
-    let at-args = c .before .before .before .before .before .before .before .before .before .before .args in
-    let at-level-of = c .before .before .before .before .level-of in
-    let at-owner-of = c .before .before .owner-of in
-    let at-if1 = c .if1 in
-    owning-fails (at-loop .inv) (at-pre .1 (at-args .context)) (omega arith) refl refl (at-level-of .ensures) (at-owner-of .ensures) (at-if1 .taken)
-
-add-i : tie.Need-add-i Inv-loop μ-loop
-add-i c = omega arith
-
-loop-less : tie.Need-loop-less Inv-loop μ-loop
-loop-less c = omega arith
+    let asked = c .before .before in
+    let levelled = asked .before .before in
+    let turn = levelled .before .before .before in
+    let start = turn .before .before .before in
+    owning-fails (turn .loop .inv) (start .pre .low (start .args .context)) (omega arith) refl refl (levelled .level-of .ensures) (asked .owner-of .ensures) (c .if1 .taken)
 
 loop-again : tie.Need-loop-again Inv-loop μ-loop
 loop-again c =
-    let at-loop = c .before .before .before .before .before .before .before .loop in
-    let at-pre = c .before .before .before .before .before .before .before .before .before .before .pre in
-    let at-args = c .before .before .before .before .before .before .before .before .before .before .args in
-    let at-level-of = c .before .before .before .before .level-of in
-    let at-owner-of = c .before .before .owner-of in
-    let at-if1 = c .if1 in
-    owning-on (at-loop .inv) (at-pre .1 (at-args .context)) (omega arith) refl refl (at-level-of .ensures) (at-owner-of .ensures) (at-if1 .left)
+    let asked = c .before .before in
+    let levelled = asked .before .before in
+    let turn = levelled .before .before .before in
+    let start = turn .before .before .before in
+    owning-on (turn .loop .inv) (start .pre .low (start .args .context)) (omega arith) refl refl (levelled .level-of .ensures) (asked .owner-of .ensures) (c .if1 .left)
 
 returns-2 : tie.Need-returns-2 Inv-loop μ-loop
-returns-2 c =
-    let at-loop = c .before .loop in
-    owning-done (at-loop .inv) (omega arith)
+returns-2 c = owning-done (c .before .loop .inv) (omega arith)
 
 pub owned-spec : {M : Type 1} → statement M
 owned-spec =
     tie.close
     (tie.spec
-    Inv-loop
-    μ-loop
-    no-rows-requires
-    loop-holds
-    mul-at
-    mul-kind
-    shared-slice-read-kind
-    cast-kind
-    level-of-requires
-    add-row
-    cast-row
-    owner-of-requires
-    add-if1
-    mul-if1
-    shared-slice-read-if1
-    returns
-    add-i
-    loop-less
-    loop-again
-    returns-2)
+    Inv-loop μ-loop (λ c κs. search needs) loop-holds (λ c. omega arith) (λ c. omega arith) (λ c. omega arith) cast-kind
+    (λ c κs. search needs) (λ c. omega arith) (λ c. omega arith) (λ c κs. search needs) (λ c. omega arith) (λ c. omega arith)
+    (λ c. omega arith) returns (λ c. omega arith) (λ c. omega arith) loop-again returns-2)

@@ -1,124 +1,50 @@
--- `write::segment_rows::text_bytes` meets its contract.
+-- `write::segment_rows::text_bytes` meets its contract: from the start of the first text up to the end of the last.
 -- Assumes nothing.
-use mathlib.Core.Path.{_≡_}
-use native.Mathlib.Omega.{arith}
 use borrow.Author.Needs.{needs}
-use Rattle.write.proofs.LaidRows.{texts-span}
+use native.Mathlib.Omega.{arith}
+use mathlib.Core.Path.{_≡_}
+use Prim.Native.Nat.{_+_, _-_}
+use lib.ListN.{length}
+use Rattle.table.specs.Rows.{textOf}
+use Rattle.write.specs.Tests.{leavesBetween}
+use Rattle.write.proofs.LaidRows.{stated-within, texts-span}
 use Rattle.write.proofs.segment_rows.text_bytes.Statement.{statement}
 use Rattle.write.proofs.segment_rows.text_bytes.Tie as tie
 
-sub-last : tie.Need-sub-last
-sub-last c =
-    let at-pre = c .before .before .pre in
-    omega (arith, at-pre .0 .sized, at-pre .0 .few, at-pre .1, at-pre .2)
+text-of-requires : tie.Need-text-of-requires
+text-of-requires c κs = let pre = c .before .before .pre in omega (arith, pre .inText .sized, pre .from, pre .to)
 
-mul-last : tie.Need-mul-last
-mul-last c =
-    let at-pre = c .before .before .pre in
-    omega (arith, at-pre .0 .sized, at-pre .0 .few, at-pre .1, at-pre .2)
+text-of-requires-2 : tie.Need-text-of-requires-2
+text-of-requires-2 c κs = let pre = c .before .before .before .pre in omega (arith, pre .inText .sized, pre .from, pre .to)
 
-add-wide : tie.Need-add-wide
-add-wide c =
-    let at-pre = c .before .before .pre in
-    omega (arith, at-pre .0 .sized, at-pre .0 .few, at-pre .1, at-pre .2)
-
-mul-wide : tie.Need-mul-wide
-mul-wide c =
-    let at-pre = c .before .before .pre in
-    omega (arith, at-pre .0 .sized, at-pre .0 .few, at-pre .1, at-pre .2)
-
-shared-slice-read-wide : tie.Need-shared-slice-read-wide
-shared-slice-read-wide c =
-    let at-pre = c .before .before .before .pre in
-    omega (arith, at-pre .0 .sized, at-pre .0 .few, at-pre .1, at-pre .2)
-
-wide-requires : tie.Need-wide-requires
-wide-requires c κs = search needs
-
-add-wide-2 : tie.Need-add-wide-2
-add-wide-2 c =
-    let at-pre = c .before .before .before .before .pre in
-    omega (arith, at-pre .0 .sized, at-pre .0 .few, at-pre .1, at-pre .2)
-
-mul-wide-2 : tie.Need-mul-wide-2
-mul-wide-2 c =
-    let at-pre = c .before .before .before .before .pre in
-    omega (arith, at-pre .0 .sized, at-pre .0 .few, at-pre .1, at-pre .2)
-
-shared-slice-read-wide-2 : tie.Need-shared-slice-read-wide-2
-shared-slice-read-wide-2 c =
-    let at-pre = c .before .before .before .before .before .pre in
-    omega (arith, at-pre .0 .sized, at-pre .0 .few, at-pre .1, at-pre .2)
-
-wide-requires-2 : tie.Need-wide-requires-2
-wide-requires-2 c κs = search needs
-
-add-finish : tie.Need-add-finish
-add-finish c =
-    let at-wide = c .before .before .wide in
-    let at-wide2 = c .wide2 in
-    omega (arith, at-wide .ensures .1, at-wide2 .ensures .1)
-
-mul-wide-3 : tie.Need-mul-wide-3
-mul-wide-3 c =
-    let at-pre = c .before .before .before .before .before .before .pre in
-    omega (arith, at-pre .0 .sized, at-pre .0 .few, at-pre .1, at-pre .2)
-
-add-wide-3 : tie.Need-add-wide-3
-add-wide-3 c =
-    let at-pre = c .before .before .before .before .before .before .pre in
-    omega (arith, at-pre .0 .sized, at-pre .0 .few, at-pre .1, at-pre .2)
-
-mul-wide-4 : tie.Need-mul-wide-4
-mul-wide-4 c =
-    let at-pre = c .before .before .before .before .before .before .pre in
-    omega (arith, at-pre .0 .sized, at-pre .0 .few, at-pre .1, at-pre .2)
-
-shared-slice-read-wide-3 : tie.Need-shared-slice-read-wide-3
-shared-slice-read-wide-3 c =
-    let at-pre = c .before .before .before .before .before .before .before .pre in
-    omega (arith, at-pre .0 .sized, at-pre .0 .few, at-pre .1, at-pre .2)
-
-wide-requires-3 : tie.Need-wide-requires-3
-wide-requires-3 c κs = search needs
+-- what lies between the two
+between : (c : tie.After-text-of2) → let a = c .before .before .before .before .args in
+    length (textOf (leavesBetween (a .rows .now) (a .text .now) (a .first) (a .end))) + c .text-of2 .result .start ≡ c .before .text-of .result .end
+between c =
+    let start = c .before .before .before .before in
+    let a = start .args in
+    let first = c .text-of2 .ensures in
+    let last = c .before .text-of .ensures in
+    omega (
+      arith,
+      texts-span (a .rows .now) (a .text .now) (a .count) (start .pre .inText) (a .first) (a .end) (start .pre .from) (start .pre .to),
+      first .starts,
+      last .starts,
+      last .ends,
+    )
 
 sub-result : tie.Need-sub-result
-sub-result c =
-    let at-args = c .before .before .before .before .before .before .before .before .args in
-    let at-pre = c .before .before .before .before .before .before .before .before .pre in
-    let at-wide = c .before .before .before .before .wide in
-    let at-wide2 = c .before .before .wide2 in
-    let at-wide3 = c .wide3 in
-    omega (arith, texts-span (at-args .rows .now) (at-args .text .now) (at-args .count) (at-pre .0) (at-pre .3) (at-args .first) (at-args .end) (at-pre .1) (at-pre .2), at-wide .ensures .0, at-wide2 .ensures .0, at-wide3 .ensures .0)
+sub-result c = omega (arith, between (c .before .before))
 
 returns : tie.Need-returns
 returns c =
-    let at-args = c .before .before .before .before .before .before .before .before .args in
-    let at-pre = c .before .before .before .before .before .before .before .before .pre in
-    let at-wide = c .before .before .before .before .wide in
-    let at-wide2 = c .before .before .wide2 in
-    let at-wide3 = c .wide3 in
-    (omega (arith, texts-span (at-args .rows .now) (at-args .text .now) (at-args .count) (at-pre .0) (at-pre .3) (at-args .first) (at-args .end) (at-pre .1) (at-pre .2), at-wide .ensures .0, at-wide2 .ensures .0, at-wide3 .ensures .0), omega (arith, at-wide .ensures .1, at-wide2 .ensures .1))
+    let pre = c .before .before .before .before .before .before .pre in
+    let last = c .before .before .before .text-of in
+    let text = between (c .before .before) in
+    (omega (arith, text), omega (arith, text, stated-within (pre .inText) (omega (arith, pre .from, pre .to)) (last .ensures)))
 
 pub text-bytes-spec : {M : Type 1} → statement M
 text-bytes-spec =
     tie.close
     (tie.spec
-    sub-last
-    mul-last
-    add-wide
-    mul-wide
-    shared-slice-read-wide
-    wide-requires
-    add-wide-2
-    mul-wide-2
-    shared-slice-read-wide-2
-    wide-requires-2
-    add-finish
-    mul-wide-3
-    add-wide-3
-    mul-wide-4
-    shared-slice-read-wide-3
-    wide-requires-3
-    sub-result
-    returns)
+    (λ c. search needs) text-of-requires text-of-requires-2 sub-result returns)

@@ -1,116 +1,83 @@
 -- `write::size::written_bytes` meets its contract: a table that passed the test has its bytes counted, another has none.
 -- Assumes nothing.
-use mathlib.Core.Bool.{true}
-use mathlib.Core.Path.{_≡_, sym, ap, _∙_, subst⁻¹}
-use native.Mathlib.Omega.{arith}
 use borrow.Author.Needs.{needs}
-use Prim.Native.Nat.{ℕ, _*_}
-use lib.ListN.{take}
+use native.Mathlib.Omega.{arith}
+use mathlib.Core.Path.{sym, ap, _∙_, subst⁻¹}
+use Prim.Native.Nat.{_*_}
 use lib.Seq.{length-take-le}
 use Rattle.laws.specs.Sums.{sumOf}
-use Rattle.laws.specs.Tables.{values}
-use Rattle.table.specs.Rows.{segmentRowSize, leafRowSize}
-use Rattle.table.specs.Back.{leafAt}
-use Rattle.table.specs.BySegment.{bySegment, writtenBytes}
 use Rattle.form.specs.declared.limits.Limits.{Limits}
-use Rattle.form.specs.Limits.{form, Lawful}
+use Rattle.form.specs.Limits.{form}
 use Rattle.form.proofs.LineCount.{form-lawful}
 use Rattle.order.specs.Owners.{level}
-use Rattle.table.specs.Lent.{Lent, lent}
-use Rattle.write.specs.Writing.{isTable}
+use Rattle.table.specs.Rows.{segmentRowSize, leafRowSize}
+use Rattle.table.specs.Back.{leavesOf}
+use Rattle.table.specs.BySegment.{writtenBytes}
+use Rattle.table.specs.Lent.{Lent, lent, counted}
+use Rattle.table.proofs.Width.{form-fits}
+use Rattle.write.specs.Asked.{Grouped}
+use Rattle.write.specs.Local.{groupsOf}
 use Rattle.write.proofs.Sizes.{Counts, table-counts, no-table-size}
 use Rattle.write.proofs.size.written_bytes.Statement.{statement}
 use Rattle.write.proofs.size.written_bytes.Tie as tie
 
--- what the form's table test shows
-counts : (l : Lent) → isTable form level l ≡ true → Counts form level l
-counts l e = table-counts form form-lawful level l (omega arith) e
+-- the lent table, and what the form's table test shows of it
+abbrev table : tie.Start → Lent
+table s = lent (s .args .card) (s .args .segments .now) (s .args .leaves .now) (s .args .text .now)
 
--- the bytes of the counted leaves' segments
-abbrev bytesOf : Limits → Lent → ℕ
-bytesOf L l =
-    sumOf (writtenBytes L)
-    (bySegment (values (leafAt (take (l .card .leaves * leafRowSize) (l .leafRows)) (take (l .card .text) (l .text))) 0 (l .card .leaves)))
+abbrev start-of : tie.Then1 → tie.Start
+start-of c = c .before .before .before .before .before
 
-is-table-requires : tie.Need-is-table-requires
-is-table-requires c κs = search needs
+counts : (c : tie.Then1) → Counts form level (table (start-of c))
+counts c = table-counts form form-lawful level (table (start-of c)) form-fits (sym (c .before .is-table .ensures) ∙ c .if1 .taken)
 
 mul-many : tie.Need-mul-many
-mul-many c =
-    let at-args = c .before .before .before .before .before .before .args in
-    let at-is-table = c .before .before .is-table in
-    let at-if1 = c .before .if1 in
-    omega (arith, counts (lent (at-args .card) (at-args .segments .now) (at-args .leaves .now) (at-args .text .now)) (sym (at-is-table .ensures) ∙ at-if1 .taken) .within .segmentRows)
+mul-many c = omega (arith, counts (c .before) .within .segmentRows)
 
 mul-size : tie.Need-mul-size
-mul-size c =
-    let at-args = c .before .before .before .before .before .before .before .args in
-    let at-is-table = c .before .before .before .is-table in
-    let at-if1 = c .before .before .if1 in
-    omega (arith, counts (lent (at-args .card) (at-args .segments .now) (at-args .leaves .now) (at-args .text .now)) (sym (at-is-table .ensures) ∙ at-if1 .taken) .few)
-
-limits-requires : tie.Need-limits-requires
-limits-requires c κs = search needs
+mul-size c = omega (arith, counts (c .before .before) .within .leafRows)
 
 slice-aggregate-message-bytes : tie.Need-slice-aggregate-message-bytes
 slice-aggregate-message-bytes c =
-    let at-args = c .before .before .before .before .before .before .before .before .before .args in
-    let at-is-table = c .before .before .before .before .before .is-table in
-    let at-if1 = c .before .before .before .before .if1 in
-    sym (length-take-le (at-args .card .segments * segmentRowSize) (at-args .segments .now) (counts (lent (at-args .card) (at-args .segments .now) (at-args .leaves .now) (at-args .text .now)) (sym (at-is-table .ensures) ∙ at-if1 .taken) .within .segmentRows))
+    let here = c .before .before .before .before in
+    let a = start-of here .args in
+    sym (length-take-le (a .card .segments * segmentRowSize) (a .segments .now) (counts here .within .segmentRows))
 
 slice-aggregate-message-bytes-2 : tie.Need-slice-aggregate-message-bytes-2
 slice-aggregate-message-bytes-2 c =
-    let at-args = c .before .before .before .before .before .before .before .before .before .before .args in
-    let at-is-table = c .before .before .before .before .before .before .is-table in
-    let at-if1 = c .before .before .before .before .before .if1 in
-    sym (length-take-le (at-args .card .leaves * leafRowSize) (at-args .leaves .now) (counts (lent (at-args .card) (at-args .segments .now) (at-args .leaves .now) (at-args .text .now)) (sym (at-is-table .ensures) ∙ at-if1 .taken) .within .leafRows))
+    let here = c .before .before .before .before .before in
+    let a = start-of here .args in
+    sym (length-take-le (a .card .leaves * leafRowSize) (a .leaves .now) (counts here .within .leafRows))
 
 slice-aggregate-message-bytes-3 : tie.Need-slice-aggregate-message-bytes-3
 slice-aggregate-message-bytes-3 c =
-    let at-args = c .before .before .before .before .before .before .before .before .before .before .before .args in
-    let at-is-table = c .before .before .before .before .before .before .before .is-table in
-    let at-if1 = c .before .before .before .before .before .before .if1 in
-    sym (length-take-le (at-args .card .text) (at-args .text .now) (counts (lent (at-args .card) (at-args .segments .now) (at-args .leaves .now) (at-args .text .now)) (sym (at-is-table .ensures) ∙ at-if1 .taken) .within .text))
+    let here = c .before .before .before .before .before .before in
+    let a = start-of here .args in
+    sym (length-take-le (a .card .text) (a .text .now) (counts here .within .text))
 
 message-bytes-requires : tie.Need-message-bytes-requires
+unfolding counted
 message-bytes-requires c κs =
-    let at-args = c .before .before .before .before .before .before .before .before .before .before .before .args in
-    let at-is-table = c .before .before .before .before .before .before .before .is-table in
-    let at-if1 = c .before .before .before .before .before .before .if1 in
-    let at-limits = c .before .before .before .limits in
-    let w = counts (lent (at-args .card) (at-args .segments .now) (at-args .leaves .now) (at-args .text .now)) (sym (at-is-table .ensures) ∙ at-if1 .taken) in
-    (subst⁻¹ Lawful (at-limits .ensures) form-lawful, w .inText, w .laid, w .segments, w .grouped)
+    let made = c .before .before .before in
+    let here = made .before .before .before in
+    let t = counted (table (start-of here)) in
+    subst⁻¹ (λ (L : Limits). Grouped L (t .segmentRows) (t .card .segments) (t .leafRows) (t .text) (t .card .leaves)) (made .limits .ensures) (counts here .asked)
 
 returns : tie.Need-returns
+unfolding counted groupsOf leavesOf
 returns c =
-    let at-message-bytes = c .message-bytes in
-    let at-args = c .before .before .before .before .before .before .before .before .before .before .before .before .args in
-    let at-limits = c .before .before .before .before .limits in
-    let at-is-table = c .before .before .before .before .before .before .before .before .is-table in
-    let at-if1 = c .before .before .before .before .before .before .before .if1 in
-    at-message-bytes .ensures
-    ∙ ap (λ (L : Limits). bytesOf L (lent (at-args .card) (at-args .segments .now) (at-args .leaves .now) (at-args .text .now))) (at-limits .ensures)
-    ∙ counts (lent (at-args .card) (at-args .segments .now) (at-args .leaves .now) (at-args .text .now)) (sym (at-is-table .ensures) ∙ at-if1 .taken) .size
+    let made = c .before .before .before .before in
+    let here = made .before .before .before in
+    c .message-bytes .ensures
+    ∙ ap (λ (L : Limits). sumOf (writtenBytes L) (groupsOf (counted (table (start-of here))))) (made .limits .ensures)
+    ∙ counts here .size
 
 returns-2 : tie.Need-returns-2
-returns-2 c =
-    let at-args = c .before .before .before .before .before .args in
-    let at-is-table = c .before .is-table in
-    let at-if1 = c .if1 in
-    no-table-size form form-lawful level (lent (at-args .card) (at-args .segments .now) (at-args .leaves .now) (at-args .text .now)) (sym (at-is-table .ensures) ∙ at-if1 .left)
+returns-2 c = no-table-size form form-lawful level (table (c .before .before .before .before .before)) (sym (c .before .is-table .ensures) ∙ c .if1 .left)
 
 pub written-bytes-spec : {M : Type 1} → statement M
 written-bytes-spec =
     tie.close
     (tie.spec
-    is-table-requires
-    mul-many
-    mul-size
-    limits-requires
-    slice-aggregate-message-bytes
-    slice-aggregate-message-bytes-2
-    slice-aggregate-message-bytes-3
-    message-bytes-requires
-    returns
-    returns-2)
+    (λ c κs. search needs) mul-many mul-size (λ c κs. search needs) slice-aggregate-message-bytes slice-aggregate-message-bytes-2
+    slice-aggregate-message-bytes-3 message-bytes-requires returns returns-2)

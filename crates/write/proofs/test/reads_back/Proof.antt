@@ -1,156 +1,147 @@
 -- `write::test::reads_back` meets its contract. Each test that fails refuses the table, and the last decides.
 -- Assumes nothing.
-use mathlib.Core.Path.{_≡_, sym, subst, _∙_}
+use native.Mathlib.Omega.{arith}
+use mathlib.Core.Bool.{false, true}
+use mathlib.Core.Path.{_≡_}
 use borrow.Author.Tests.{not-true, not-false}
-use mathlib.Core.Bool.{true}
-use Prim.Native.Nat.{ℕ}
-use Rattle.table.specs.RowTests.{endToEnd}
-use Rattle.laws.specs.Tables.{values}
 use Rattle.laws.proofs.Tests.{never-both}
 use Rattle.order.specs.Levels.{levelIn}
-use Rattle.table.specs.Back.{leafAt}
+use Rattle.table.specs.Rows.{Table}
 use Rattle.table.specs.BySegment.{bySegment}
-use Rattle.write.specs.Tests.{Laid}
-use Rattle.write.proofs.LaidRows.{sound-first}
-use Rattle.write.proofs.TableTest.{passed-laid, laid-in-text, grouped-kinds, refused-so, short-decides}
-use native.Mathlib.Omega.{arith}
-use borrow.Author.Needs.{needs}
+use Rattle.table.specs.Back.{leafAt}
+use Rattle.laws.specs.Tables.{values}
+use Rattle.write.specs.Tests.{tableWith, InText, Laid, KindsStated, soundLeaves, groupsStated}
+use Rattle.write.specs.Writing.{readsBack}
+use Rattle.write.proofs.GoingOn.{sound-first}
+use Rattle.write.proofs.Said.{answered-no, answered-yes}
+use Rattle.write.proofs.TableTest.{Passed, passed-laid, laid-in-text, counted-kinds, refused-so, short-decides}
 use Rattle.write.proofs.test.reads_back.Statement.{statement}
 use Rattle.write.proofs.test.reads_back.Tie as tie
 
+-- the table that is tested, and a test of it that fails
+abbrev table : tie.Start → Table
+table s = tableWith (s .args .card) (s .args .segments .now) (s .args .leaves .now) (s .args .text .now)
+
+refuses : (s : tie.Start) → (Passed (s .args .limits) (levelIn (s .args .levels .now)) (table s) → ⊥)
+    → false ≡ readsBack (s .args .limits) (levelIn (s .args .levels .now)) (table s)
+refuses s = refused-so (s .pre)
+
+-- the start, from the places past one test after the other
+abbrev start-1 : tie.Else1 → tie.Start
+start-1 c = c .before .before .before .before
+
+abbrev start-2 : tie.Else2 → tie.Start
+start-2 c = start-1 (c .before .before)
+
+abbrev start-3 : tie.Else3 → tie.Start
+start-3 c = start-2 (c .before .before)
+
+abbrev start-4 : tie.Else4 → tie.Start
+start-4 c = start-3 (c .before .before)
+
+abbrev start-5 : tie.Else5 → tie.Start
+start-5 c = start-4 (c .before .before)
+
+abbrev start-6 : tie.Else6 → tie.Start
+start-6 c = start-5 (c .before .before)
+
+-- what the tests have said
+laid-here : (c : tie.Else2) → Laid (table (start-2 c) .leafRows) (table (start-2 c) .card .leaves) (table (start-2 c) .card .text)
+laid-here c = c .before .laid .ensures .0 (not-false (c .before .laid .result) (c .if2 .left))
+
+text-here : (c : tie.Else2) → InText (table (start-2 c) .leafRows) (table (start-2 c) .text) (table (start-2 c) .card .leaves)
+text-here c =
+    let pre = start-2 c .pre in
+    laid-in-text (pre .testable .fits) (pre .sized) (pre .leaves) (pre .text) (laid-here c .ended)
+
+sound-here : (c : tie.Else3) → let t = table (start-3 c) in soundLeaves (t .card .separator) (t .leafRows) (t .text) (t .card .leaves) ≡ true
+sound-here c = answered-yes (c .before .sound-leaves .ensures) (c .if3 .left)
+
+grouped-here : (c : tie.Else4) → let t = table (start-4 c) in
+    groupsStated (t .segmentRows) 0 (t .card .segments) 1 (bySegment (values (leafAt (t .leafRows) (t .text)) 0 (t .card .leaves))) ≡ true
+grouped-here c = answered-yes (c .before .grouped .ensures) (c .if4 .left)
+
+kinds-here : (c : tie.Else4) → KindsStated (table (start-4 c) .segmentRows) (table (start-4 c) .card .segments)
+kinds-here c = counted-kinds (start-4 c .pre) (grouped-here c)
+
 returns : tie.Need-returns
-returns c =
-    let at-args = c .before .before .before .before .args in
-    let at-pre = c .before .before .before .before .pre in
-    let at-if1 = c .if1 in
-    refused-so (at-args .limits) (levelIn (at-args .levels .now)) (record { card = at-args .card; segmentRows = at-args .segments .now; leafRows = at-args .leaves .now; text = at-args .text .now }) (at-pre .sized) (at-pre .lawful) (λ w. omega (arith, w .three, at-if1 .taken))
+returns c = refuses (c .before .before .before .before) (λ w. omega (arith, w .three, c .if1 .taken))
 
 laid-requires : tie.Need-laid-requires
-laid-requires c κs =
-    let at-pre = c .before .before .before .before .pre in
-    let at-if1 = c .if1 in
-    (at-pre .sized .leafRows, omega (arith, at-if1 .left))
+laid-requires c κs = record { sized = start-1 c .pre .sized .leafRows; some = omega (arith, c .if1 .left) }
 
 returns-2 : tie.Need-returns-2
 returns-2 c =
-    let at-args = c .before .before .before .before .before .before .args in
-    let at-pre = c .before .before .before .before .before .before .pre in
-    let at-laid = c .before .laid in
-    let at-if2 = c .if2 in
-    refused-so (at-args .limits) (levelIn (at-args .levels .now)) (record { card = at-args .card; segmentRows = at-args .segments .now; leafRows = at-args .leaves .now; text = at-args .text .now }) (at-pre .sized) (at-pre .lawful) (λ w. at-laid .ensures .1 (not-true (at-laid .result) (at-if2 .taken)) (passed-laid w))
+    let asked = c .before in
+    refuses (start-1 (asked .before)) (λ w. asked .laid .ensures .1 (not-true (asked .laid .result) (c .if2 .taken)) (passed-laid w))
 
 sound-leaves-requires : tie.Need-sound-leaves-requires
-sound-leaves-requires c κs =
-    let at-args = c .before .before .before .before .before .before .args in
-    let at-pre = c .before .before .before .before .before .before .pre in
-    let at-laid = c .before .laid in
-    let at-if2 = c .if2 in
-    let at-if1 = c .before .before .if1 in
-    ((laid-in-text (at-args .leaves .now) (at-args .text .now) (at-args .card .leaves) (at-args .card .text) (at-pre .sized .leafRows) (omega (arith, at-pre .leaves, at-pre .small .leaves)) (at-pre .sized .text) (at-laid .ensures .0 (not-false (at-laid .result) (at-if2 .left)) .ended)), at-if1 .left, subst (Laid (at-args .leaves .now) (at-args .card .leaves)) (sym (at-pre .sized .text)) (at-laid .ensures .0 (not-false (at-laid .result) (at-if2 .left))))
+sound-leaves-requires c κs = record { inText = text-here c; three = c .before .before .if1 .left; next = laid-here c .next }
 
 returns-3 : tie.Need-returns-3
-returns-3 c =
-    let at-args = c .before .before .before .before .before .before .before .before .args in
-    let at-pre = c .before .before .before .before .before .before .before .before .pre in
-    let at-sound-leaves = c .before .sound-leaves in
-    let at-if3 = c .if3 in
-    refused-so (at-args .limits) (levelIn (at-args .levels .now)) (record { card = at-args .card; segmentRows = at-args .segments .now; leafRows = at-args .leaves .now; text = at-args .text .now }) (at-pre .sized) (at-pre .lawful) (λ w. never-both (w .sound) (sym (at-sound-leaves .ensures) ∙ not-true (at-sound-leaves .result) (at-if3 .taken)))
+returns-3 c = refuses (start-2 (c .before .before)) (λ w. never-both (w .sound) (answered-no (c .before .sound-leaves .ensures) (c .if3 .taken)))
 
 grouped-requires : tie.Need-grouped-requires
 grouped-requires c κs =
-    let at-sound-leaves = c .before .sound-leaves in
-    let at-if3 = c .if3 in
-    let at-pre = c .before .before .before .before .before .before .before .before .pre in
-    let at-args = c .before .before .before .before .before .before .before .before .args in
-    let at-laid = c .before .before .before .laid in
-    let at-if2 = c .before .before .if2 in
-    (at-pre .sized .segmentRows, (laid-in-text (at-args .leaves .now) (at-args .text .now) (at-args .card .leaves) (at-args .card .text) (at-pre .sized .leafRows) (omega (arith, at-pre .leaves, at-pre .small .leaves)) (at-pre .sized .text) (at-laid .ensures .0 (not-false (at-laid .result) (at-if2 .left)) .ended)), at-laid .ensures .0 (not-false (at-laid .result) (at-if2 .left)) .next, sound-first (at-args .card .separator) (at-args .leaves .now) (at-args .text .now) (at-args .card .leaves) (sym (at-sound-leaves .ensures) ∙ not-false (at-sound-leaves .result) (at-if3 .left)))
+    let t = table (start-3 c) in
+    let laid = c .before .before in
+    record {
+      sized = start-3 c .pre .sized .segmentRows;
+      inText = text-here laid;
+      next = laid-here laid .next;
+      head = sound-first (t .card .separator) (t .leafRows) (t .text) (t .card .leaves) (sound-here c);
+    }
 
 returns-4 : tie.Need-returns-4
-returns-4 c =
-    let at-args = c .before .before .before .before .before .before .before .before .before .before .args in
-    let at-pre = c .before .before .before .before .before .before .before .before .before .before .pre in
-    let at-grouped = c .before .grouped in
-    let at-if4 = c .if4 in
-    refused-so (at-args .limits) (levelIn (at-args .levels .now)) (record { card = at-args .card; segmentRows = at-args .segments .now; leafRows = at-args .leaves .now; text = at-args .text .now }) (at-pre .sized) (at-pre .lawful) (λ w. never-both (w .grouped) (sym (at-grouped .ensures) ∙ not-true (at-grouped .result) (at-if4 .taken)))
+returns-4 c = refuses (start-3 (c .before .before)) (λ w. never-both (w .grouped) (answered-no (c .before .grouped .ensures) (c .if4 .taken)))
 
 owned-requires : tie.Need-owned-requires
-owned-requires c κs =
-    let at-args = c .before .before .before .before .before .before .before .before .before .before .args in
-    let at-pre = c .before .before .before .before .before .before .before .before .before .before .pre in
-    let at-grouped = c .before .grouped in
-    let at-if4 = c .if4 in
-    ((grouped-kinds (at-args .segments .now) (at-args .card .segments) (bySegment (values (leafAt (at-args .leaves .now) (at-args .text .now)) 0 (at-args .card .leaves))) (at-pre .sized .segmentRows) (omega (arith, at-pre .segments, at-pre .small .segments)) (sym (at-grouped .ensures) ∙ not-false (at-grouped .result) (at-if4 .left))), at-pre .low)
+owned-requires c κs = record { kinds = kinds-here c; low = start-4 c .pre .testable .low }
 
 returns-5 : tie.Need-returns-5
-returns-5 c =
-    let at-args = c .before .before .before .before .before .before .before .before .before .before .before .before .args in
-    let at-pre = c .before .before .before .before .before .before .before .before .before .before .before .before .pre in
-    let at-owned = c .before .owned in
-    let at-if5 = c .if5 in
-    refused-so (at-args .limits) (levelIn (at-args .levels .now)) (record { card = at-args .card; segmentRows = at-args .segments .now; leafRows = at-args .leaves .now; text = at-args .text .now }) (at-pre .sized) (at-pre .lawful) (λ w. never-both (w .owned) (sym (at-owned .ensures) ∙ not-true (at-owned .result) (at-if5 .taken)))
+returns-5 c = refuses (start-4 (c .before .before)) (λ w. never-both (w .owned) (answered-no (c .before .owned .ensures) (c .if5 .taken)))
 
 in-order-requires : tie.Need-in-order-requires
 in-order-requires c κs =
-    let at-args = c .before .before .before .before .before .before .before .before .before .before .before .before .args in
-    let at-pre = c .before .before .before .before .before .before .before .before .before .before .before .before .pre in
-    let at-grouped = c .before .before .before .grouped in
-    let at-if4 = c .before .before .if4 in
-    let at-laid = c .before .before .before .before .before .before .before .laid in
-    let at-if2 = c .before .before .before .before .before .before .if2 in
-    let at-if1 = c .before .before .before .before .before .before .before .before .if1 in
-    ((grouped-kinds (at-args .segments .now) (at-args .card .segments) (bySegment (values (leafAt (at-args .leaves .now) (at-args .text .now)) 0 (at-args .card .leaves))) (at-pre .sized .segmentRows) (omega (arith, at-pre .segments, at-pre .small .segments)) (sym (at-grouped .ensures) ∙ not-false (at-grouped .result) (at-if4 .left))), (laid-in-text (at-args .leaves .now) (at-args .text .now) (at-args .card .leaves) (at-args .card .text) (at-pre .sized .leafRows) (omega (arith, at-pre .leaves, at-pre .small .leaves)) (at-pre .sized .text) (at-laid .ensures .0 (not-false (at-laid .result) (at-if2 .left)) .ended)), omega (arith, at-if1 .left))
+    let grouped = c .before .before in
+    let laid = grouped .before .before .before .before in
+    record { kinds = kinds-here grouped; inText = text-here laid; some = omega (arith, laid .before .before .if1 .left) }
 
 returns-6 : tie.Need-returns-6
-returns-6 c =
-    let at-args = c .before .before .before .before .before .before .before .before .before .before .before .before .before .before .args in
-    let at-pre = c .before .before .before .before .before .before .before .before .before .before .before .before .before .before .pre in
-    let at-in-order = c .before .in-order in
-    let at-if6 = c .if6 in
-    refused-so (at-args .limits) (levelIn (at-args .levels .now)) (record { card = at-args .card; segmentRows = at-args .segments .now; leafRows = at-args .leaves .now; text = at-args .text .now }) (at-pre .sized) (at-pre .lawful) (λ w. never-both (w .ordered) (sym (at-in-order .ensures) ∙ not-true (at-in-order .result) (at-if6 .taken)))
+returns-6 c = refuses (start-5 (c .before .before)) (λ w. never-both (w .ordered) (answered-no (c .before .in-order .ensures) (c .if6 .taken)))
 
 short-requires : tie.Need-short-requires
 short-requires c κs =
-    let at-pre = c .before .before .before .before .before .before .before .before .before .before .before .before .before .before .pre in
-    let at-args = c .before .before .before .before .before .before .before .before .before .before .before .before .before .before .args in
-    let at-laid = c .before .before .before .before .before .before .before .before .before .laid in
-    let at-if2 = c .before .before .before .before .before .before .before .before .if2 in
-    let at-grouped = c .before .before .before .before .before .grouped in
-    let at-if4 = c .before .before .before .before .if4 in
-    (at-pre .lawful, (laid-in-text (at-args .leaves .now) (at-args .text .now) (at-args .card .leaves) (at-args .card .text) (at-pre .sized .leafRows) (omega (arith, at-pre .leaves, at-pre .small .leaves)) (at-pre .sized .text) (at-laid .ensures .0 (not-false (at-laid .result) (at-if2 .left)) .ended)), subst (λ (n : ℕ). endToEnd (at-args .leaves .now) n 0 (at-args .card .leaves) 0 ≡ true) (sym (at-pre .sized .text)) (at-laid .ensures .0 (not-false (at-laid .result) (at-if2 .left)) .ended), at-pre .sized .segmentRows, sym (at-grouped .ensures) ∙ not-false (at-grouped .result) (at-if4 .left))
+    let grouped = c .before .before .before .before in
+    let pre = start-4 grouped .pre in
+    record {
+      lawful = pre .testable .fits .lawful;
+      inText = text-here (grouped .before .before .before .before);
+      sized = pre .sized .segmentRows;
+      grouped = grouped-here grouped;
+    }
 
 returns-7 : tie.Need-returns-7
 returns-7 c =
-    let at-short = c .short in
-    let at-args = c .before .before .before .before .before .before .before .before .before .before .before .before .before .before .before .args in
-    let at-pre = c .before .before .before .before .before .before .before .before .before .before .before .before .before .before .before .pre in
-    let at-if1 = c .before .before .before .before .before .before .before .before .before .before .before .if1 in
-    let at-laid = c .before .before .before .before .before .before .before .before .before .before .laid in
-    let at-if2 = c .before .before .before .before .before .before .before .before .before .if2 in
-    let at-sound-leaves = c .before .before .before .before .before .before .before .before .sound-leaves in
-    let at-if3 = c .before .before .before .before .before .before .before .if3 in
-    let at-grouped = c .before .before .before .before .before .before .grouped in
-    let at-if4 = c .before .before .before .before .before .if4 in
-    let at-owned = c .before .before .before .before .owned in
-    let at-if5 = c .before .before .before .if5 in
-    let at-in-order = c .before .before .in-order in
-    let at-if6 = c .before .if6 in
-    at-short .ensures ∙ short-decides (at-args .limits) (levelIn (at-args .levels .now)) (record { card = at-args .card; segmentRows = at-args .segments .now; leafRows = at-args .leaves .now; text = at-args .text .now }) (at-pre .sized) (at-pre .lawful) (at-pre .segments) (at-pre .leaves) (at-if1 .left) (at-laid .ensures .0 (not-false (at-laid .result) (at-if2 .left)) .ended) (sym (at-sound-leaves .ensures) ∙ not-false (at-sound-leaves .result) (at-if3 .left)) (sym (at-grouped .ensures) ∙ not-false (at-grouped .result) (at-if4 .left)) (sym (at-owned .ensures) ∙ not-false (at-owned .result) (at-if5 .left)) (sym (at-in-order .ensures) ∙ not-false (at-in-order .result) (at-if6 .left))
+    let ordered = c .before in
+    let owned = ordered .before .before in
+    let grouped = owned .before .before in
+    let sound = grouped .before .before in
+    let laid = sound .before .before in
+    short-decides (start-6 ordered .pre) (c .short .ensures) (λ h.
+    record {
+      three = laid .before .before .if1 .left;
+      laid = laid-here laid .ended;
+      sound = sound-here sound;
+      grouped = grouped-here grouped;
+      owned = answered-yes (owned .before .owned .ensures) (owned .if5 .left);
+      ordered = answered-yes (ordered .before .in-order .ensures) (ordered .if6 .left);
+      short = h;
+    })
 
 pub reads-back-spec : {M : Type 1} → statement M
 reads-back-spec =
     tie.close
     (tie.spec
-    returns
-    laid-requires
-    returns-2
-    sound-leaves-requires
-    returns-3
-    grouped-requires
-    returns-4
-    owned-requires
-    returns-5
-    in-order-requires
-    returns-6
-    short-requires
-    returns-7)
+    returns laid-requires returns-2 sound-leaves-requires returns-3 grouped-requires returns-4 owned-requires returns-5 in-order-requires
+    returns-6 short-requires returns-7)

@@ -1,70 +1,52 @@
 -- `write::test::sound_leaves` meets its contract. One law a return.
 -- Assumes nothing.
-use mathlib.Core.Path.{_≡_, sym, _∙_}
-use borrow.Author.Tests.{not-true, not-false}
-use Rattle.write.proofs.Parts.{header-four, no-header, no-rule, others-decide}
-use native.Mathlib.Omega.{arith}
 use borrow.Author.Needs.{needs}
+use mathlib.Core.Bool.{true}
+use mathlib.Core.Path.{_≡_, _∙_}
+use Rattle.write.specs.Tests.{headerLeavesAt}
+use Rattle.write.proofs.HeaderTest.{header-four}
+use Rattle.write.proofs.Said.{answered-no, answered-yes}
+use Rattle.write.proofs.Parts.{no-header, no-rule, others-decide}
 use Rattle.write.proofs.test.sound_leaves.Statement.{statement}
 use Rattle.write.proofs.test.sound_leaves.Tie as tie
 
-header-leaves-requires : tie.Need-header-leaves-requires
-header-leaves-requires c κs =
-    let at-pre = c .before .before .pre in
-    at-pre
-
 returns : tie.Need-returns
 returns c =
-    let at-args = c .before .before .before .before .args in
-    let at-header-leaves = c .before .header-leaves in
-    let at-if1 = c .if1 in
-    no-header (at-args .field) (at-args .leaves .now) (at-args .text .now) (at-args .count) (sym (at-header-leaves .ensures) ∙ not-true (at-header-leaves .result) (at-if1 .taken))
+    let a = c .before .before .before .before .args in
+    no-header (a .field) (a .leaves .now) (a .text .now) (a .count) (answered-no (c .before .header-leaves .ensures) (c .if1 .taken))
+
+-- the first two rows are a header's
+header-here : (c : tie.Else1) → let a = c .before .before .before .before .args in headerLeavesAt (a .leaves .now) (a .text .now) ≡ true
+header-here c = answered-yes (c .before .header-leaves .ensures) (c .if1 .left)
 
 separators-at-requires : tie.Need-separators-at-requires
 separators-at-requires c κs =
-    let at-pre = c .before .before .before .before .pre in
-    let at-args = c .before .before .before .before .args in
-    let at-header-leaves = c .before .header-leaves in
-    let at-if1 = c .if1 in
-    (at-pre .0, at-pre .1, header-four (at-args .leaves .now) (at-args .text .now) (sym (at-header-leaves .ensures) ∙ not-false (at-header-leaves .result) (at-if1 .left)))
-
-sound-requires : tie.Need-sound-requires
-sound-requires c κs = search needs
+    let start = c .before .before .before .before in
+    header-four (start .args .leaves .now) (start .args .text .now) (start .pre) (header-here c)
 
 returns-2 : tie.Need-returns-2
 returns-2 c =
-    let at-args = c .before .before .before .before .before .before .before .args in
-    let at-separators-at = c .before .before .separators-at in
-    let at-sound = c .before .sound in
-    let at-if2 = c .if2 in
-    no-rule (at-args .field) (at-args .leaves .now) (at-args .text .now) (at-args .count) (at-separators-at .ensures) (sym (at-sound .ensures) ∙ not-true (at-sound .result) (at-if2 .taken))
+    let named = c .before .before in
+    let a = named .before .before .before .before .before .args in
+    no-rule (a .field) (a .leaves .now) (a .text .now) (a .count) (named .separators-at .ensures) (answered-no (c .before .sound .ensures) (c .if2 .taken))
 
 go-on-from-requires : tie.Need-go-on-from-requires
 go-on-from-requires c κs =
-    let at-pre = c .before .before .before .before .before .before .before .pre in
-    let at-header-leaves = c .before .before .before .before .header-leaves in
-    let at-if1 = c .before .before .before .if1 in
-    (at-pre .0, at-pre .1, at-pre .2, sym (at-header-leaves .ensures) ∙ not-false (at-header-leaves .result) (at-if1 .left))
+    let headed = c .before .before .before in
+    record { laid = headed .before .before .before .before .pre; header = header-here headed }
 
 returns-3 : tie.Need-returns-3
 returns-3 c =
-    let at-go-on-from = c .go-on-from in
-    let at-args = c .before .before .before .before .before .before .before .before .args in
-    let at-separators-at = c .before .before .before .separators-at in
-    let at-header-leaves = c .before .before .before .before .before .header-leaves in
-    let at-if1 = c .before .before .before .before .if1 in
-    let at-sound = c .before .before .sound in
-    let at-if2 = c .before .if2 in
-    at-go-on-from .ensures ∙ others-decide (at-args .field) (at-args .leaves .now) (at-args .text .now) (at-args .count) (at-separators-at .ensures) (sym (at-header-leaves .ensures) ∙ not-false (at-header-leaves .result) (at-if1 .left)) (sym (at-sound .ensures) ∙ not-false (at-sound .result) (at-if2 .left))
+    let ruled = c .before in
+    let named = ruled .before .before in
+    let headed = named .before in
+    let a = headed .before .before .before .before .args in
+    c .go-on-from .ensures
+    ∙ others-decide (a .field) (a .leaves .now) (a .text .now) (a .count) (named .separators-at .ensures) (header-here headed)
+    (answered-yes (ruled .before .sound .ensures) (ruled .if2 .left))
 
 pub sound-leaves-spec : {M : Type 1} → statement M
 sound-leaves-spec =
     tie.close
     (tie.spec
-    header-leaves-requires
-    returns
-    separators-at-requires
-    sound-requires
-    returns-2
-    go-on-from-requires
-    returns-3)
+    (λ c κs. search needs) returns separators-at-requires (λ c κs. search needs) returns-2 go-on-from-requires returns-3)

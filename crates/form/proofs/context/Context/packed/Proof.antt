@@ -41,7 +41,9 @@ returns-8 : tie.Need-returns-8
 unfolding contextNames bytes packedNames packedOnto
 returns-8 c =
     let no = c .match .rest in
-    sym (packed-none contextNames (c .before .args .name) (past (no .0 .0 .0 .0 .0 .0 .1) (past (no .0 .0 .0 .0 .0 .1) (past (no .0 .0 .0 .0 .1) (past (no .0 .0 .0 .1) (past (no .0 .0 .1) (past (no .0 .1) (past (no .1) nowhere))))))))
+    sym (packed-none contextNames (c .before .args .name)
+    (past (no .0 .0 .0 .0 .0 .0 .1) (past (no .0 .0 .0 .0 .0 .1) (past (no .0 .0 .0 .0 .1) (past (no .0 .0 .0 .1) (past (no .0 .0 .1) (past (no .0 .1)
+    (past (no .1) nowhere))))))))
 
 pub packed-spec : {M : Type 1} → statement M
 packed-spec = tie.close (tie.spec returns returns-2 returns-3 returns-4 returns-5 returns-6 returns-7 returns-8)

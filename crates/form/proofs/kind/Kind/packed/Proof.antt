@@ -61,7 +61,10 @@ returns-13 : tie.Need-returns-13
 unfolding kindNames bytes packedNames packedOnto
 returns-13 c =
     let no = c .match .rest in
-    sym (packed-none kindNames (c .before .args .name) (past (no .0 .0 .0 .0 .0 .0 .0 .0 .0 .0 .0 .1) (past (no .0 .0 .0 .0 .0 .0 .0 .0 .0 .0 .1) (past (no .0 .0 .0 .0 .0 .0 .0 .0 .0 .1) (past (no .0 .0 .0 .0 .0 .0 .0 .0 .1) (past (no .0 .0 .0 .0 .0 .0 .0 .1) (past (no .0 .0 .0 .0 .0 .0 .1) (past (no .0 .0 .0 .0 .0 .1) (past (no .0 .0 .0 .0 .1) (past (no .0 .0 .0 .1) (past (no .0 .0 .1) (past (no .0 .1) (past (no .1) nowhere)))))))))))))
+    sym (packed-none kindNames (c .before .args .name)
+    (past (no .0 .0 .0 .0 .0 .0 .0 .0 .0 .0 .0 .1) (past (no .0 .0 .0 .0 .0 .0 .0 .0 .0 .0 .1) (past (no .0 .0 .0 .0 .0 .0 .0 .0 .0 .1) (past (no .0 .0 .0 .0 .0 .0 .0 .0 .1)
+    (past (no .0 .0 .0 .0 .0 .0 .0 .1) (past (no .0 .0 .0 .0 .0 .0 .1) (past (no .0 .0 .0 .0 .0 .1) (past (no .0 .0 .0 .0 .1)
+    (past (no .0 .0 .0 .1) (past (no .0 .0 .1) (past (no .0 .1) (past (no .1) nowhere)))))))))))))
 
 pub packed-spec : {M : Type 1} → statement M
 packed-spec = tie.close (tie.spec returns returns-2 returns-3 returns-4 returns-5 returns-6 returns-7 returns-8 returns-9 returns-10 returns-11 returns-12 returns-13)

@@ -56,10 +56,11 @@ allowed-requires c κs = search needs
 returns-4 : tie.Need-returns-4
 unfolding separatorsOf
 returns-4 c =
-    let at-args = c .before .before .before .before .before .before .before .before .before .before .before .before .before .before .args in
-    let at-allowed = c .before .allowed in
+    let at-allowed = c .before in
+    let at-if3 = at-allowed .before .before .before .before .before .before in
+    let at-args = at-if3 .before .before .before .before .before .before .before .args in
     let at-if4 = c .if4 in
-    sym (allowed-broken (at-args .message .now) (sym (at-allowed .ensures) ∙ not-true _ (at-if4 .taken)))
+    sym (allowed-broken (at-args .message .now) (sym (at-allowed .allowed .ensures) ∙ not-true _ (at-if4 .taken)))
 
 different-requires : tie.Need-different-requires
 different-requires c κs = search needs
@@ -67,18 +68,21 @@ different-requires c κs = search needs
 returns-5 : tie.Need-returns-5
 unfolding separatorsOf
 returns-5 c =
-    let at-args = c .before .before .before .before .before .before .before .before .before .before .before .before .before .before .before .before .args in
-    let at-different = c .before .different in
+    let at-different = c .before in
+    let at-if3 = at-different .before .before .before .before .before .before .before .before in
+    let at-args = at-if3 .before .before .before .before .before .before .before .args in
     let at-if5 = c .if5 in
-    sym (different-broken (at-args .message .now) (sym (at-different .ensures) ∙ not-true _ (at-if5 .taken)))
+    sym (different-broken (at-args .message .now) (sym (at-different .different .ensures) ∙ not-true _ (at-if5 .taken)))
 
 returns-6 : tie.Need-returns-6
 unfolding separatorsOf
 returns-6 c =
-    let at-args = c .before .before .before .before .before .before .before .before .before .before .before .before .before .before .before .before .args in
-    let at-if1 = c .before .before .before .before .before .before .before .before .before .before .before .before .before .before .if1 in
-    let at-if2 = c .before .before .before .before .before .before .before .before .before .before .before .before .if2 in
-    let at-if3 = c .before .before .before .before .before .before .before .before .before .if3 in
+    let to-if3 = c .before .before .before .before .before .before .before .before .before in
+    let to-if1 = to-if3 .before .before .before .before .before in
+    let at-args = to-if1 .before .before .args in
+    let at-if1 = to-if1 .if1 in
+    let at-if2 = to-if3 .before .before .before .if2 in
+    let at-if3 = to-if3 .if3 in
     let at-allowed = c .before .before .before .allowed in
     let at-if4 = c .before .before .if4 in
     let at-different = c .before .different in

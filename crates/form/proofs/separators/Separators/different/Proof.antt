@@ -56,38 +56,40 @@ returns-6 c =
 returns-7 : tie.Need-returns-7
 unfolding five
 returns-7 c =
-    let at-args = c .before .before .before .before .before .before .before .before .before .before .before .before .before .before .args in
+    let at-if5 = c .before .before .before .before in
+    let at-args = at-if5 .before .before .before .before .before .before .before .before .before .before .args in
     let at-if7 = c .if7 in
     sym (repeated (five (at-args .self)) 1 4 (lit< tt) (lit< tt) (at-if7 .taken))
 
 returns-8 : tie.Need-returns-8
 unfolding five
 returns-8 c =
-    let at-args = c .before .before .before .before .before .before .before .before .before .before .before .before .before .before .before .before .args in
+    let at-if5 = c .before .before .before .before .before .before in
+    let at-args = at-if5 .before .before .before .before .before .before .before .before .before .before .args in
     let at-if8 = c .if8 in
     sym (repeated (five (at-args .self)) 2 3 (lit< tt) (lit< tt) (at-if8 .taken))
 
 returns-9 : tie.Need-returns-9
 unfolding five
 returns-9 c =
-    let at-args = c .before .before .before .before .before .before .before .before .before .before .before .before .before .before .before .before .before .before .args in
+    let at-if5 = c .before .before .before .before .before .before .before .before in
+    let at-args = at-if5 .before .before .before .before .before .before .before .before .before .before .args in
     let at-if9 = c .if9 in
     sym (repeated (five (at-args .self)) 2 4 (lit< tt) (lit< tt) (at-if9 .taken))
 
 returns-10 : tie.Need-returns-10
 unfolding five
 returns-10 c =
-    let at-args = c .before .before .before .before .before .before .before .before .before .before .before .before .before .before .before .before .before .before .before .args in
-    let at-if1 = c .before .before .before .before .before .before .before .before .before .before .before .before .before .before .before .before .before .if1 in
-    let at-if2 = c .before .before .before .before .before .before .before .before .before .before .before .before .before .before .before .if2 in
-    let at-if3 = c .before .before .before .before .before .before .before .before .before .before .before .before .before .if3 in
-    let at-if4 = c .before .before .before .before .before .before .before .before .before .before .before .if4 in
-    let at-if5 = c .before .before .before .before .before .before .before .before .before .if5 in
-    let at-if6 = c .before .before .before .before .before .before .before .if6 in
-    let at-if7 = c .before .before .before .before .before .if7 in
-    let at-if8 = c .before .before .before .if8 in
-    let at-if9 = c .before .if9 in
-    let ps = at-args .self in
+    let if9 = c .before in
+    let if8 = if9 .before .before in
+    let if7 = if8 .before .before in
+    let if6 = if7 .before .before in
+    let if5 = if6 .before .before in
+    let if4 = if5 .before .before in
+    let if3 = if4 .before .before in
+    let if2 = if3 .before .before in
+    let if1 = if2 .before .before in
+    let ps = if1 .before .before .args .self in
     ⊎-elim
     (λ (e : eqb (ps .escape) (ps .subsubfield) ≡ true). rw e
     (sym (repeated (five ps) 3 4 (lit< tt) (lit< tt) (eqb-true (ps .escape) (ps .subsubfield) e))))
@@ -95,15 +97,15 @@ returns-10 c =
     (sym
     (facts-different ps
     (record {
-      field-subfield = at-if1 .left;
-      field-repeater = at-if2 .left;
-      field-escape = at-if3 .left;
-      field-subsubfield = at-if4 .left;
-      subfield-repeater = at-if5 .left;
-      subfield-escape = at-if6 .left;
-      subfield-subsubfield = at-if7 .left;
-      repeater-escape = at-if8 .left;
-      repeater-subsubfield = at-if9 .left;
+      field-subfield = if1 .if1 .left;
+      field-repeater = if2 .if2 .left;
+      field-escape = if3 .if3 .left;
+      field-subsubfield = if4 .if4 .left;
+      subfield-repeater = if5 .if5 .left;
+      subfield-escape = if6 .if6 .left;
+      subfield-subsubfield = if7 .if7 .left;
+      repeater-escape = if8 .if8 .left;
+      repeater-subsubfield = if9 .if9 .left;
       escape-subsubfield = eqb-false (ps .escape) (ps .subsubfield) e;
     }))))
     (either (eqb (ps .escape) (ps .subsubfield)))

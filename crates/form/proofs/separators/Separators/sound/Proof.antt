@@ -3,7 +3,7 @@
 use borrow.Author.Needs.{needs}
 use borrow.Author.Tests.{not-true, not-false}
 use mathlib.Core.Path.{_∙_, sym}
-use Rattle.form.specs.Header.{allAllowed, different, five}
+use Rattle.form.specs.Header.{different, five}
 use Rattle.laws.proofs.Tests.{and-fails-first, and-passed}
 use Rattle.form.proofs.separators.Separators.sound.Statement.{statement}
 use Rattle.form.proofs.separators.Separators.sound.Tie as tie

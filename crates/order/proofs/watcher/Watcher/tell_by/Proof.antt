@@ -2,7 +2,7 @@
 -- Assumes nothing.
 use borrow.Author.Needs.{needs}
 use mathlib.Core.Path.{sym, ap, _∙_}
-use Rattle.order.specs.Watcher.{listed}
+use Rattle.order.specs.Watcher.{followsBy}
 use Rattle.order.specs.declared.watcher.Watcher.{Watcher}
 use Rattle.order.specs.declared.watcher.Told.{Told}
 use mathlib.Core.Bool.{true}
@@ -23,7 +23,7 @@ returns c =
     let at-if1 = c .before .if1 in
     let a = at-args in
     ap {B = Told} (λ (w : Watcher). record { watcher = w; yes = true }) (c .after .ensures)
-    ∙ sym (says-yes (a .self) (a .kind) (listed (a .followers .now)) (sym (at-may-come .ensures) ∙ at-if1 .taken))
+    ∙ sym (says-yes (a .self) (a .kind) (followsBy (a .followers .now)) (sym (at-may-come .ensures) ∙ at-if1 .taken))
 
 returns-2 : tie.Need-returns-2
 returns-2 c =
@@ -31,7 +31,7 @@ returns-2 c =
     let at-may-come = c .before .may-come in
     let at-if1 = c .if1 in
     let a = at-args in
-    sym (says-no (a .self) (a .kind) (listed (a .followers .now)) (sym (at-may-come .ensures) ∙ at-if1 .left))
+    sym (says-no (a .self) (a .kind) (followsBy (a .followers .now)) (sym (at-may-come .ensures) ∙ at-if1 .left))
 
 pub tell-by-spec : {M : Type 1} → statement M
 tell-by-spec = tie.close (tie.spec may-come-requires after-requires returns returns-2)

@@ -4,7 +4,7 @@ use mathlib.Core.Path.{ap, _∙_}
 use Prim.Native.Nat.{ℕ, _-_}
 use lib.ListN.{set}
 use borrow.Author.Needs.{needs}
-use Rattle.order.specs.Watcher.{listed}
+use Rattle.order.specs.Watcher.{followsBy}
 use Rattle.read.proofs.Seeing.{closed-as}
 use Rattle.read.proofs.survey.Survey.closed.Statement.{statement}
 use Rattle.read.proofs.survey.Survey.closed.Tie as tie
@@ -40,7 +40,7 @@ returns c =
     let at-first-of2 = c .first-of2 in
     let at-note = c .before .before .before .before .before .before .before .before .note in
     let a = at-args in (
-      closed-as (a .self) (listed (a .followers .now)) (at-kind-number .ensures) (at-watching .ensures) (at-tell-by .ensures) (at-first-of .ensures)
+      closed-as (a .self) (followsBy (a .followers .now)) (at-kind-number .ensures) (at-watching .ensures) (at-tell-by .ensures) (at-first-of .ensures)
           (at-first-of2 .ensures),
       at-note .ensures ∙ ap (λ (k : ℕ). set (a .kinds .now) (a .self .segments - 1) k) (at-kind-number .ensures),
     )

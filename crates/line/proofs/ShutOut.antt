@@ -1,0 +1,65 @@
+-- What the contracts of the line finder and of the walk rule out, on short messages: a finder that puts the CR into the line, skips a byte
+-- after it, or refuses a line of full length; a walk that stays at the CR, or goes past a fault.
+-- Assumes nothing.
+use mathlib.Core.List.{List, [], _∷_, _++_}
+use mathlib.Core.Path.{_≡_, refl, sym, _∙_}
+use Prim.Native.Nat.{ℕ}
+use native.Mathlib.Omega.{arith}
+use lib.ListN.{replicate}
+use Rattle.form.specs.Limits.{form}
+use Rattle.form.specs.Numbers.{controlByte, longLine}
+use Rattle.line.specs.Lines.{CR}
+use Rattle.line.specs.Finding.{textRun, lowRun, textEnded, foundFrom, foundAt, nextOf}
+use Rattle.line.specs.declared.finder.Found.{Found}
+use Rattle.line.specs.declared.finder.Found.the-variants.{Line, End, Fault}
+
+-- two lines, of two bytes and of one
+unfoldable pub two : List ℕ
+two = 80 ∷ 49 ∷ CR ∷ 76 ∷ CR ∷ []
+
+-- a byte below 32 inside a line
+unfoldable pub spoilt : List ℕ
+spoilt = 80 ∷ 7 ∷ 49 ∷ CR ∷ []
+
+-- a line of as many bytes as a line may have
+unfoldable pub full : List ℕ
+full = replicate 219 65 ++ (CR ∷ [])
+
+two-found : foundAt form two 0 ≡ Line 2 3
+unfolding two textRun lowRun textEnded foundFrom
+two-found = refl
+
+spoilt-found : foundAt form spoilt 0 ≡ Fault controlByte 1
+unfolding spoilt textRun lowRun textEnded foundFrom
+spoilt-found = refl
+
+full-found : foundAt form full 0 ≡ Line 219 220
+unfolding full textRun lowRun textEnded foundFrom
+full-found = refl
+
+-- what meets the contract of `line_at`
+module _ (f : List ℕ → ℕ → Found) (meets : (m : List ℕ) (at : ℕ) → f m at ≡ foundAt form m at) where
+  pub cr-in-the-line : f two 0 ≡ Line 3 3 → ⊥
+  cr-in-the-line e = let z : _≡_ {A = ℕ} 2 3 = cc (meets two 0, two-found) in omega arith
+
+  pub byte-after-cr-skipped : f two 0 ≡ Line 2 4 → ⊥
+  byte-after-cr-skipped e = let z : _≡_ {A = ℕ} 3 4 = cc (meets two 0, two-found) in omega arith
+
+  pub full-line-refused : (place : ℕ) → f full 0 ≡ Fault longLine place → ⊥
+  full-line-refused place e = let z : _≡_ {A = ℕ} 0 1 = cc (meets full 0, full-found) in omega arith
+
+-- what meets the contract of `next_place`, and so of the walk's `go_on`
+module _ (g : List ℕ → ℕ → ℕ) (meets : (m : List ℕ) (at : ℕ) → g m at ≡ nextOf at (foundAt form m at)) where
+  pub stays-at-the-cr : g two 0 ≡ 2 → ⊥
+  unfolding nextOf
+  stays-at-the-cr e =
+      let next : nextOf 0 (foundAt form two 0) ≡ 3 = rw two-found in
+      let z : _≡_ {A = ℕ} 2 3 = sym e ∙ meets two 0 ∙ next in
+      omega arith
+
+  pub goes-past-a-fault : g spoilt 0 ≡ 1 → ⊥
+  unfolding nextOf
+  goes-past-a-fault e =
+      let next : nextOf 0 (foundAt form spoilt 0) ≡ 0 = rw spoilt-found in
+      let z : _≡_ {A = ℕ} 1 0 = sym e ∙ meets spoilt 0 ∙ next in
+      omega arith

@@ -1,0 +1,9 @@
+-- Document 01's numbers fit the rows.
+-- Assumes nothing.
+use native.Mathlib.Omega.{arith}
+use Rattle.form.specs.Limits.{form}
+use Rattle.form.proofs.LineCount.{form-lawful}
+use Rattle.table.specs.Rows.{FitsRows}
+
+pub form-fits : FitsRows form
+form-fits = record { lawful = form-lawful; segments = omega arith; leaves = omega arith; bytes = omega arith }
