@@ -11,6 +11,7 @@ pub mod SoundTables
 pub mod Examples
 pub mod Closing
 pub mod Accepting
+pub mod RowNumbers
 pub mod HeaderBytes
 pub mod Filing
 pub mod BySegment
