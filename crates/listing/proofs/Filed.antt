@@ -21,6 +21,7 @@ use Rattle.table.specs.Reading.{Room, accepted, reading, stated}
 use Rattle.table.specs.Back.{linesOf, written}
 use Rattle.table.specs.Lent.{Lent, withinLimits, counted, lent}
 use Rattle.table.proofs.Accepting.{Accepted, accepting}
+use Rattle.table.proofs.RowNumbers.{judged-few}
 use Rattle.read.specs.Answering.{roomOf}
 use Rattle.table.proofs.Room.{front-at, roomy-text, roomy-segments, roomy-leaves}
 use Rattle.write.specs.RowByRow.{Sized}
@@ -32,7 +33,6 @@ use Rattle.write.proofs.RowByRow.{row-by-row}
 use Rattle.write.proofs.LocalTables.{stated-roomy, accepted-local}
 use Rattle.write.proofs.LentTables.{Within, within-buffers, local-within, is-table, table-written-out}
 use Rattle.listing.specs.Listing.{columns, rowLine, rowLines}
-use Rattle.listing.proofs.RowNumbers.{judged-few}
 
 -- what is stored at the front is taken from there
 front-taken : (buffer front : List ℕ) (n : ℕ) → length front ≡ n → length front ≤ length buffer → take n (sets buffer 0 front) ≡ front

@@ -2,7 +2,6 @@ pub mod Decimal
 pub mod Names
 pub mod Putting
 pub mod RowLines
-pub mod RowNumbers
 pub mod Filed
 pub mod Listed
 pub mod Example
