@@ -23,7 +23,7 @@ use Rattle.table.specs.Flat.{leaf}
 use Rattle.table.specs.Back.{leafAt}
 use Rattle.table.specs.BySegment.{segmentOf, withLeaf, bySegment, kindAmong, numberOfField, contextAmong}
 use Rattle.table.proofs.BySegment.{InSegment, Ended, group-first}
-use Rattle.write.specs.Tests.{leavesBetween, SegmentEnd, FieldLeaf, rowStates, groupsStated}
+use Rattle.write.specs.Tests.{groupsIn, leavesBetween, SegmentEnd, FieldLeaf, rowStates, groupsStated}
 use Rattle.write.proofs.Said.{answered-no, answered-yes}
 use Rattle.write.proofs.SegmentTests.{row-segment, leaves-cons, leaves-none, SomeEnd, segment-ends}
 
@@ -83,7 +83,7 @@ module _ {rows : List ℕ} {field first end at : ℕ} (w : FieldLeaf rows field 
 
 -- the context: field 7 of the first segment
 pub context-first : (rows text : List ℕ) {count end : ℕ} → SegmentEnd rows count 0 end
-    → numberOfField contextNames 7 (leavesBetween rows text 0 end) ≡ contextAmong (bySegment (values (leafAt rows text) 0 count))
+    → numberOfField contextNames 7 (leavesBetween rows text 0 end) ≡ contextAmong (groupsIn rows text count)
 unfolding contextAmong
 context-first rows text {count} w =
     ap (λ (gs : List (List Leaf)). numberOfField contextNames 7 (getD gs 0 [])) (sym (first-segment rows text w) ∙ ap bySegment (leaves-all rows text count))
@@ -97,7 +97,7 @@ pub record Grouping (segments : List ℕ) (many : ℕ) (rows text : List ℕ) (c
   pub within : i ≤ many
   pub to : first ≤ count
   pub so : groupsStated segments i (many - i) (first + 1) (bySegment (leavesBetween rows text first count))
-      ≡ groupsStated segments 0 many 1 (bySegment (values (leafAt rows text) 0 count))
+      ≡ groupsStated segments 0 many 1 (groupsIn rows text count)
 
 pub grouping-begins : {segments : List ℕ} {many : ℕ} {rows text : List ℕ} {count : ℕ} → Grouping segments many rows text count 0 0
 grouping-begins {segments} {many} {rows} {text} {count} =
@@ -121,7 +121,7 @@ stated-more segments i first l ((m ∷ ms) ∷ groups) = go (tested (eqb (segmen
 
 module _ {segments : List ℕ} {many : ℕ} {rows text : List ℕ} {count i first : ℕ} (w : Grouping segments many rows text count i first) where
   abbrev Whole : Bool
-  Whole = groupsStated segments 0 many 1 (bySegment (values (leafAt rows text) 0 count))
+  Whole = groupsStated segments 0 many 1 (groupsIn rows text count)
 
   pub grouping-short : i < many → first ≡ count → false ≡ Whole
   unfolding groupsStated bySegment
@@ -188,11 +188,11 @@ module _ {segments : List ℕ} {many : ℕ} {rows text : List ℕ} {count i firs
 -- a row that states another count than its segment has
 pub grouping-otherwise : {segments : List ℕ} {many : ℕ} {rows text : List ℕ} {count i first : ℕ} → Grouping segments many rows text count i first → i < many
     → {stated : ℕ} → stated ≡ countIn segments i → (SegmentEnd rows count first (first + stated) → ⊥)
-    → false ≡ groupsStated segments 0 many 1 (bySegment (values (leafAt rows text) 0 count))
+    → false ≡ groupsStated segments 0 many 1 (groupsIn rows text count)
 unfolding rowStates
 grouping-otherwise {segments} {many} {rows} {text} {count} {i} {first} w h {stated} is n = go (less-or-not first count)
   where
-    refuted : SomeEnd rows count first → false ≡ groupsStated segments 0 many 1 (bySegment (values (leafAt rows text) 0 count))
+    refuted : SomeEnd rows count first → false ≡ groupsStated segments 0 many 1 (groupsIn rows text count)
     refuted v =
         grouping-fails w h (v .ends)
         (and-fails-second
@@ -202,7 +202,7 @@ grouping-otherwise {segments} {many} {rows} {text} {count} {i} {first} w h {stat
         (ne-eqb (countIn segments i) (v .end - first)
         (λ e. n (subst (SegmentEnd rows count first) (let q : v .end ≡ first + stated = omega (arith, v .ends .from, is, e) in q) (v .ends)))))
 
-    go : (first < count) ⊎ (count ≤ first) → false ≡ groupsStated segments 0 many 1 (bySegment (values (leafAt rows text) 0 count))
+    go : (first < count) ⊎ (count ≤ first) → false ≡ groupsStated segments 0 many 1 (groupsIn rows text count)
     go (inl l) = refuted (segment-ends rows count first l)
     go (inr l) = grouping-short w h (omega (arith, w .to))
 
@@ -212,7 +212,7 @@ pub record StatedEnd (segments : List ℕ) (many : ℕ) (rows text : List ℕ) (
   pub on : Grouping segments many rows text count (i + 1) end
 
 pub grouping-ends : {segments : List ℕ} {many : ℕ} {rows text : List ℕ} {count i first : ℕ} → Grouping segments many rows text count i first → i < many
-    → groupsStated segments 0 many 1 (bySegment (values (leafAt rows text) 0 count)) ≡ true
+    → groupsStated segments 0 many 1 (groupsIn rows text count) ≡ true
     → {stated : ℕ} → stated ≡ countIn segments i → StatedEnd segments many rows text count i first (first + stated)
 unfolding rowStates
 grouping-ends {segments} {many} {rows} {text} {count} {i} {first} w h all {stated} is = go (less-or-not first count)
@@ -238,5 +238,5 @@ grouping-ends {segments} {many} {rows} {text} {count} {i} {first} w h all {state
 
 -- and the last of them ends with the leaves
 pub grouping-all : {segments : List ℕ} {many : ℕ} {rows text : List ℕ} {count i first : ℕ} → Grouping segments many rows text count i first → many ≤ i
-    → groupsStated segments 0 many 1 (bySegment (values (leafAt rows text) 0 count)) ≡ true → first ≡ count
+    → groupsStated segments 0 many 1 (groupsIn rows text count) ≡ true → first ≡ count
 grouping-all {count = count} {first = first} w h all = eqb-true first count (grouping-done w h ∙ all)

@@ -3,6 +3,7 @@ pub mod SameTables
 pub mod RoundTrip
 pub mod Fewest
 pub mod Entries
+pub mod TableLeaves
 pub mod LocalTables
 pub mod RowByRow
 pub mod LentTables

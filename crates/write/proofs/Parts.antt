@@ -6,16 +6,15 @@ use mathlib.Core.Path.{_≡_, sym, ap, _∙_}
 use Prim.Native.Nat.{ℕ}
 use lib.Dec.{eqb}
 use borrow.Author.Tests.{eq-eqb, ne-eqb}
-use Rattle.laws.specs.Tables.{values}
 use Rattle.laws.proofs.Tests.{and-passed, and-both, and-fails-first, and-fails-second}
 use Rattle.form.specs.declared.separators.Separators.{Separators}
 use Rattle.form.specs.Header.{allAllowed, different, five, splitting}
 use Rattle.order.specs.Place.{misplaced}
-use Rattle.table.specs.Back.{leafAt, separatorsAt}
-use Rattle.table.specs.BySegment.{bySegment, contextAmong}
+use Rattle.table.specs.Back.{separatorsAt}
+use Rattle.table.specs.BySegment.{contextAmong}
 use Rattle.table.specs.RowTests.{goOnFrom}
 use Rattle.write.specs.Local.{thirdPlace}
-use Rattle.write.specs.Tests.{leavesBetween, headerLeavesAt, kindColumn, soundLeaves, inOrder}
+use Rattle.write.specs.Tests.{groupsIn, leavesBetween, headerLeavesAt, kindColumn, soundLeaves, inOrder}
 
 module _ (field : ℕ) (rows text : List ℕ) (count : ℕ) where
   abbrev rule : Separators → Bool
@@ -40,7 +39,7 @@ module _ (field : ℕ) (rows text : List ℕ) (count : ℕ) where
 
 module _ (context : ℕ) (segments : List ℕ) (many : ℕ) (rows text : List ℕ) (count : ℕ) where
   abbrev named : ℕ
-  named = contextAmong (bySegment (values (leafAt rows text) 0 count))
+  named = contextAmong (groupsIn rows text count)
 
   abbrev ordered : Bool
   ordered = eqb (misplaced context (kindColumn segments many)) 0

@@ -31,7 +31,8 @@ use Rattle.table.proofs.SoundRows.{coarsest-different, begin-sound}
 use Rattle.write.specs.Local.{HeaderRows, groupsOf, kindsAmong, thirdPlace, Local}
 use Rattle.write.specs.RowByRow.{Sized, RowByRow}
 use Rattle.write.specs.Writing.{readsBack}
-use Rattle.write.proofs.LocalTables.{headed-leaves, local-leaves, reads-back-local}
+use Rattle.write.proofs.TableLeaves.{headed-leaves}
+use Rattle.write.proofs.LocalTables.{local-leaves, reads-back-local}
 
 -- as many segment rows as segments
 length-stated : (lv : ℕ → ℕ) (first : ℕ) (before : List ℕ) (groups : List (List Leaf))

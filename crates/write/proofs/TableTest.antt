@@ -10,7 +10,6 @@ use lib.ListN.{length, getD, length-map}
 use borrow.Author.Tests.{eqb-true, eqb-false, eq-eqb, ne-eqb, leb-true, le-leb, not-true}
 use Rattle.laws.specs.Lists.{same}
 use Rattle.laws.specs.Sums.{sumOf}
-use Rattle.laws.specs.Tables.{values}
 use Rattle.laws.proofs.Lists.{same-equal}
 use Rattle.laws.proofs.Tables.{getD-values-zero}
 use Rattle.laws.proofs.Tests.{Tested, passed, failed, tested, never-both, and-first, and-second, and-both}
@@ -23,14 +22,14 @@ use Rattle.order.specs.Owners.{owners}
 use Rattle.order.proofs.Owner.{length-owners}
 use Rattle.table.specs.Leaves.{Leaf}
 use Rattle.table.specs.Rows.{Table, segmentRowsFrom, kindIn, FitsRows}
-use Rattle.table.specs.Back.{leafAt, leavesOf}
-use Rattle.table.specs.BySegment.{bySegment, fieldOf, goesOn, numberOfField, kindAmong, contextAmong, writtenBytes}
+use Rattle.table.specs.Back.{leavesOf}
+use Rattle.table.specs.BySegment.{fieldOf, goesOn, numberOfField, kindAmong, contextAmong, writtenBytes}
 use Rattle.table.specs.RowTests.{endToEnd}
 use Rattle.table.proofs.SegmentRows.{owners-stated}
 use Rattle.write.specs.Local.{groupsOf, kindsAmong}
 use Rattle.write.specs.RowByRow.{Sized, RowByRow}
 use Rattle.write.specs.Asked.{CountedTable}
-use Rattle.write.specs.Tests.{InText, Laid, KindsStated, groupsStated, kindColumn, ownerColumn, soundLeaves, inOrder}
+use Rattle.write.specs.Tests.{groupsIn, InText, Laid, KindsStated, groupsStated, kindColumn, ownerColumn, soundLeaves, inOrder}
 use Rattle.write.specs.Writing.{readsBack}
 use Rattle.write.proofs.RowByRow.{row-by-row, rows-local}
 use Rattle.write.proofs.GoingOn.{sound-next}
@@ -53,11 +52,11 @@ pub record Passed (L : Limits) (levels : ℕ → ℕ → ℕ) (t : Table) : Type
   pub three : 3 ≤ t .card .leaves
   pub laid : endToEnd (t .leafRows) (t .card .text) 0 (t .card .leaves) 0 ≡ true
   pub sound : soundLeaves (t .card .separator) (t .leafRows) (t .text) (t .card .leaves) ≡ true
-  pub grouped : groupsStated (t .segmentRows) 0 (t .card .segments) 1 (bySegment (values (leafAt (t .leafRows) (t .text)) 0 (t .card .leaves))) ≡ true
+  pub grouped : groupsStated (t .segmentRows) 0 (t .card .segments) 1 (groupsIn (t .leafRows) (t .text) (t .card .leaves)) ≡ true
   pub owned : same (ownerColumn (t .segmentRows) (t .card .segments))
       (owners (levels (t .card .context)) (kindColumn (t .segmentRows) (t .card .segments))) ≡ true
   pub ordered : inOrder (t .card .context) (t .segmentRows) (t .card .segments) (t .leafRows) (t .text) (t .card .leaves) ≡ true
-  pub short : leb (sumOf (writtenBytes L) (bySegment (values (leafAt (t .leafRows) (t .text)) 0 (t .card .leaves)))) (L .bytes) ≡ true
+  pub short : leb (sumOf (writtenBytes L) (groupsIn (t .leafRows) (t .text) (t .card .leaves))) (L .bytes) ≡ true
 
 -- so the rows of a table that passes them are laid out
 pub passed-laid : {L : Limits} {levels : ℕ → ℕ → ℕ} {t : Table} → Passed L levels t → Laid (t .leafRows) (t .card .leaves) (t .card .text)
@@ -68,7 +67,7 @@ module _ (L : Limits) (levels : ℕ → ℕ → ℕ) (t : Table) (sized : Sized 
   lv = levels (t .card .context)
 
   abbrev groups : List (List Leaf)
-  groups = bySegment (values (leafAt (t .leafRows) (t .text)) 0 (t .card .leaves))
+  groups = groupsIn (t .leafRows) (t .text) (t .card .leaves)
 
   abbrev kinds : List ℕ
   kinds = map kindAmong groups

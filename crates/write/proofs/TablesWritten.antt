@@ -34,7 +34,8 @@ use Rattle.write.specs.Writing.{isTable}
 use Rattle.write.specs.Filling.{InSegment}
 use Rattle.write.specs.Asked.{FourWithin}
 use Rattle.write.specs.Passing.{linesOfRows, NextAfter, Writable, WrittenOut}
-use Rattle.write.proofs.LocalTables.{headed-leaves, local-accepted}
+use Rattle.write.proofs.TableLeaves.{headed-leaves}
+use Rattle.write.proofs.LocalTables.{local-accepted}
 use Rattle.write.proofs.RowByRow.{rows-local}
 use Rattle.write.proofs.GoingOn.{sound-next}
 use Rattle.write.proofs.Passing.{three-leaves, header-sound}

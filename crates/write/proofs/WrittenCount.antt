@@ -21,7 +21,7 @@ use Rattle.table.specs.Rows.{textOf}
 use Rattle.table.specs.Back.{leafAt}
 use Rattle.table.specs.BySegment.{segmentOf, withLeaf, bySegment, segmentBytes, writtenBytes}
 use Rattle.table.proofs.BySegment.{concat-bySegment}
-use Rattle.write.specs.Tests.{InText, leavesBetween, SegmentEnd}
+use Rattle.write.specs.Tests.{groupsIn, InText, leavesBetween, SegmentEnd}
 use Rattle.laws.specs.Lists.{concat}
 use Rattle.laws.specs.Every.{All, none, also}
 use Rattle.table.proofs.LeafRows.{textOf-append}
@@ -59,7 +59,7 @@ some-lines L n = go (less-or-not (L .line) n)
 pub record Counting (L : Limits) (rows text : List ℕ) (count first total : ℕ) : Type 0 where
   pub to : first ≤ count
   pub so : total + sumOf (writtenBytes L) (bySegment (leavesBetween rows text first count))
-      ≡ sumOf (writtenBytes L) (bySegment (values (leafAt rows text) 0 count))
+      ≡ sumOf (writtenBytes L) (groupsIn rows text count)
 
 pub counting-begins : {L : Limits} {rows text : List ℕ} {count : ℕ} → Counting L rows text count 0 0
 counting-begins {L} {rows} {text} {count} =
@@ -77,7 +77,7 @@ module _ {L : Limits} {rows text : List ℕ} {count first total : ℕ} (w : Coun
         so = omega (arith, e, w .so, ap (sumOf (writtenBytes L)) (first-segment rows text v));
       }
 
-  pub counting-done : count ≤ first → total ≡ sumOf (writtenBytes L) (bySegment (values (leafAt rows text) 0 count))
+  pub counting-done : count ≤ first → total ≡ sumOf (writtenBytes L) (groupsIn rows text count)
   unfolding sumOf bySegment
   counting-done h = omega (arith, w .so, ap (λ (ls : List Leaf). sumOf (writtenBytes L) (bySegment ls)) (leaves-none rows text first count h))
 
@@ -116,7 +116,7 @@ few-written L lawful (also {a = g} {s = groups} w ws) =
 
 -- so all that is written is bounded by the text and the leaves
 pub all-written : (L : Limits) → Lawful L → {rows text : List ℕ} {count : ℕ} → InText rows text count
-    → sumOf (writtenBytes L) (bySegment (values (leafAt rows text) 0 count)) ≤ 4 * (length text + count)
+    → sumOf (writtenBytes L) (groupsIn rows text count) ≤ 4 * (length text + count)
 all-written L lawful {rows} {text} {count} w =
     let leaves = values (leafAt rows text) 0 count in
     omega (

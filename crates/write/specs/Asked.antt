@@ -5,7 +5,6 @@ use mathlib.Core.List.{List, [], _∷_}
 use mathlib.Core.Path.{_≡_}
 use Prim.Native.Nat.{ℕ, _+_, _-_, _*_, _≤_, _<_}
 use lib.ListN.{length, take, drop}
-use Rattle.laws.specs.Tables.{values}
 use Rattle.form.specs.declared.limits.Limits.{Limits}
 use Rattle.form.specs.declared.separators.Separators.{Separators}
 use Rattle.form.specs.Limits.{Lawful}
@@ -14,10 +13,8 @@ use Rattle.line.specs.Lines.{CR}
 use Rattle.order.specs.Followers.{followers}
 use Rattle.table.specs.declared.Card.{Card}
 use Rattle.table.specs.Rows.{Table, segmentRowSize, leafRowSize, FitsRows, segmentIn, fieldIn, startIn, lengthIn}
-use Rattle.table.specs.Back.{leafAt}
-use Rattle.table.specs.BySegment.{bySegment}
 use Rattle.write.specs.RowByRow.{Sized}
-use Rattle.write.specs.Tests.{InText, PlacesFollow, KindsStated, groupsStated, headerLeavesAt}
+use Rattle.write.specs.Tests.{groupsIn, InText, PlacesFollow, KindsStated, groupsStated, headerLeavesAt}
 use Rattle.write.specs.Filling.{Stand, Fits, InSegment, lineOpened}
 use Rattle.write.specs.Passing.{NextAfter, leading}
 use Rattle.write.specs.Answer.{Tested}
@@ -117,7 +114,7 @@ pub record Grouped (L : Limits) (segments : List ℕ) (many : ℕ) (rows text : 
   pub lawful : Lawful L
   pub inText : InText rows text count
   pub sized : length segments ≡ many * segmentRowSize
-  pub grouped : groupsStated segments 0 many 1 (bySegment (values (leafAt rows text) 0 count)) ≡ true
+  pub grouped : groupsStated segments 0 many 1 (groupsIn rows text count) ≡ true
 
 -- stated kinds, beside the table of followers, a table of levels, the leaves
 pub record Orderable (table segments : List ℕ) (many : ℕ) : Type 0 where

@@ -45,6 +45,10 @@ pub record Laid (rows : List ℕ) (count finish : ℕ) : Type 0 where
 abbrev pub leavesBetween : List ℕ → List ℕ → ℕ → ℕ → List Leaf
 leavesBetween rows text first end = values (leafAt rows text) first (end - first)
 
+-- so many leaves, by segment
+abbrev pub groupsIn : List ℕ → List ℕ → ℕ → List (List Leaf)
+groupsIn rows text count = bySegment (values (leafAt rows text) 0 count)
+
 -- the numbers of the place at an entry that are finer than its first k
 abbrev pub finer : List ℕ → ℕ → ℕ → List ℕ
 finer rows at k = values (λ (j : ℕ). getD rows (at + j) 0) k (5 - k)
@@ -114,7 +118,7 @@ soundLeaves field rows text count =
 unfoldable pub inOrder : ℕ → List ℕ → ℕ → List ℕ → List ℕ → ℕ → Bool
 inOrder context segments many rows text count =
     not (eqb context 0)
-    && eqb (contextAmong (bySegment (values (leafAt rows text) 0 count))) context
+    && eqb (contextAmong (groupsIn rows text count)) context
     && eqb (misplaced context (kindColumn segments many)) 0
 
 -- a table of some counted entries

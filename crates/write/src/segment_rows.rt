@@ -14,15 +14,13 @@ ghost use lib.Dec.{leb, eqb};
 ghost use lib.ListN.{length};
 ghost use Rattle.laws.specs.Lists.{same};
 ghost use Rattle.laws.specs.Sums.{sumOf};
-ghost use Rattle.laws.specs.Tables.{values};
 ghost use Rattle.order.specs.Levels.{levelIn};
 ghost use Rattle.order.specs.Owners.{owners};
 ghost use Rattle.order.specs.Place.{misplaced};
 ghost use Rattle.table.specs.Rows.{textOf};
-ghost use Rattle.table.specs.Back.{leafAt};
-ghost use Rattle.table.specs.BySegment.{bySegment, kindAmong, contextAmong, writtenBytes};
+ghost use Rattle.table.specs.BySegment.{kindAmong, contextAmong, writtenBytes};
 ghost use Rattle.table.specs.Rows.{segmentRowSize, leafRowSize};
-ghost use Rattle.write.specs.Tests.{Decides, leavesBetween, SegmentEnd, FieldLeaf, rowStates, groupsStated, kindColumn, ownerColumn};
+ghost use Rattle.write.specs.Tests.{groupsIn, Decides, leavesBetween, SegmentEnd, FieldLeaf, rowStates, groupsStated, kindColumn, ownerColumn};
 ghost use Rattle.write.specs.Asked.{TextStated, LeafAmong, Following, FieldThere, UpTo, Stretch, SegmentThere, LawfulStretch, Groupable, Grouped, Orderable, Ownable};
 
 // The leaf after the last one of the segment that the leaf `first` stands in.
@@ -130,7 +128,7 @@ fn kind_of(rows: &[Entry], text: &[u8], count: usize, first: usize, end: usize) 
 // The context that field 7 of the first segment names, or 0.
 pub(crate) fn context_of(rows: &[Entry], text: &[u8], count: usize) -> u8
     requires { ⌜ Stretch (now rows) (now text) count 0 count ⌝ }
-    ensures { λ r. ⌜ r ≡ contextAmong (bySegment (values (leafAt (now (rows .entry)) (now (text .entry))) 0 count)) ⌝ }
+    ensures { λ r. ⌜ r ≡ contextAmong (groupsIn (now (rows .entry)) (now (text .entry)) count) ⌝ }
 {
     let end = segment_end(rows, count, 0);
     let leaf = field_leaf(rows, 7, 0, end);
@@ -171,7 +169,7 @@ pub(crate) fn grouped(
 ) -> bool
     requires { ⌜ Groupable (now segments) many (now rows) (now text) count ⌝ }
     ensures { λ r. ⌜ r ≡ groupsStated (now (segments .entry)) 0 many 1
-        (bySegment (values (leafAt (now (rows .entry)) (now (text .entry))) 0 count)) ⌝ }
+        (groupsIn (now (rows .entry)) (now (text .entry)) count) ⌝ }
 {
     let mut first = 0;
     let mut i = 0;
@@ -266,7 +264,7 @@ pub(crate) fn message_bytes(
     count: usize,
 ) -> usize
     requires { ⌜ Grouped limits (now segments) many (now rows) (now text) count ⌝ }
-    ensures { λ r. ⌜ r ≡ sumOf (writtenBytes limits) (bySegment (values (leafAt (now (rows .entry)) (now (text .entry))) 0 count)) ⌝ }
+    ensures { λ r. ⌜ r ≡ sumOf (writtenBytes limits) (groupsIn (now (rows .entry)) (now (text .entry)) count) ⌝ }
 {
     let mut total = 0;
     let mut first = 0;
@@ -291,7 +289,7 @@ pub(crate) fn short(
     count: usize,
 ) -> bool
     requires { ⌜ Grouped limits (now segments) many (now rows) (now text) count ⌝ }
-    ensures { λ r. ⌜ r ≡ leb (sumOf (writtenBytes limits) (bySegment (values (leafAt (now (rows .entry)) (now (text .entry))) 0 count))) (limits .bytes) ⌝ }
+    ensures { λ r. ⌜ r ≡ leb (sumOf (writtenBytes limits) (groupsIn (now (rows .entry)) (now (text .entry)) count)) (limits .bytes) ⌝ }
 {
     message_bytes(limits, segments, many, rows, text, count) <= limits.bytes
 }

@@ -3,19 +3,14 @@
 use mathlib.Core.Path.{subst⁻¹}
 use Prim.Native.Nat.{_≤_}
 use native.Mathlib.Omega.{arith}
-use lib.Dec.{lit<}
 use borrow.Author.Needs.{needs}
 use Rattle.form.specs.declared.limits.Limits.{Limits}
-use Rattle.form.specs.Limits.{form}
-use Rattle.form.proofs.LineCount.{form-lawful}
 use Rattle.order.proofs.LevelTable.{levels-are, levels-below}
 use Rattle.table.specs.Rows.{FitsRows}
+use Rattle.table.proofs.Width.{form-fits}
 use Rattle.read.proofs.Answering.{read-same}
 use Rattle.read.proofs.read.Statement.{statement}
 use Rattle.read.proofs.read.Tie as tie
-
-form-fits : FitsRows form
-form-fits = record { lawful = form-lawful; bytes = lit< tt; segments = lit< tt; leaves = lit< tt }
 
 table-requires : tie.Need-table-requires
 table-requires c κs = search needs

@@ -7,10 +7,7 @@ use borrow.Author.Tests.{not-true, not-false}
 use Rattle.laws.proofs.Tests.{never-both}
 use Rattle.order.specs.Levels.{levelIn}
 use Rattle.table.specs.Rows.{Table}
-use Rattle.table.specs.BySegment.{bySegment}
-use Rattle.table.specs.Back.{leafAt}
-use Rattle.laws.specs.Tables.{values}
-use Rattle.write.specs.Tests.{tableWith, InText, Laid, KindsStated, soundLeaves, groupsStated}
+use Rattle.write.specs.Tests.{groupsIn, tableWith, InText, Laid, KindsStated, soundLeaves, groupsStated}
 use Rattle.write.specs.Writing.{readsBack}
 use Rattle.write.proofs.GoingOn.{sound-first}
 use Rattle.write.proofs.Said.{answered-no, answered-yes}
@@ -58,7 +55,7 @@ sound-here : (c : tie.Else3) → let t = table (start-3 c) in soundLeaves (t .ca
 sound-here c = answered-yes (c .before .sound-leaves .ensures) (c .if3 .left)
 
 grouped-here : (c : tie.Else4) → let t = table (start-4 c) in
-    groupsStated (t .segmentRows) 0 (t .card .segments) 1 (bySegment (values (leafAt (t .leafRows) (t .text)) 0 (t .card .leaves))) ≡ true
+    groupsStated (t .segmentRows) 0 (t .card .segments) 1 (groupsIn (t .leafRows) (t .text) (t .card .leaves)) ≡ true
 grouped-here c = answered-yes (c .before .grouped .ensures) (c .if4 .left)
 
 kinds-here : (c : tie.Else4) → KindsStated (table (start-4 c) .segmentRows) (table (start-4 c) .card .segments)
