@@ -1,4 +1,5 @@
 // The buffers that an operation writes: their sizes, what they hold before a case, and the sum by which a line shows the whole of one.
+use table::rows::Entry;
 ghost use Prim.Native.Nat.{_≤_};
 
 // The longest that a case asks for, of bytes and of row numbers.
@@ -10,6 +11,11 @@ pub const ROWS: usize = 14400;
 const SMALL: usize = 251;
 
 const LARGE: usize = 65521;
+
+// How much more each next element of a filled buffer is, of bytes and of row numbers.
+const BYTE_STEP: usize = 7;
+
+const NUMBER_STEP: usize = 13;
 
 // As many elements of a buffer as a case asks for, and all where it asks for more.
 pub fn least(asked: usize, all: usize) -> usize
@@ -30,7 +36,7 @@ pub fn sum_bytes(bytes: &[u8]) -> usize {
 }
 
 // The same of row numbers.
-pub fn sum_numbers(numbers: &[u16]) -> usize {
+pub fn sum_numbers(numbers: &[Entry]) -> usize {
     let mut sum = 0;
     let mut i = 0;
     while i < numbers.len() {
@@ -41,12 +47,12 @@ pub fn sum_numbers(numbers: &[u16]) -> usize {
 }
 
 // The sum with one element more. A sum stays below its modulus; that it is taken once more spares a proof of it.
-fn summed(sum: usize, element: u16) -> usize {
+fn summed(sum: usize, element: Entry) -> usize {
     (31 * (sum % LARGE) + element as usize + 1) % LARGE
 }
 
-fn wide(b: u8) -> u16 {
-    b as u16
+fn wide(b: u8) -> Entry {
+    b as Entry
 }
 
 // Bytes as they are to stand before a case: (7 i + 3) mod 251.
@@ -54,18 +60,18 @@ pub fn filled_bytes() -> [u8; TEXT] {
     let mut bytes = [0; TEXT];
     let mut i = 0;
     while i < TEXT {
-        bytes[i] = ((7 * i + 3) % SMALL) as u8;
+        bytes[i] = ((BYTE_STEP * i + 3) % SMALL) as u8;
         i += 1;
     }
     bytes
 }
 
 // Row numbers likewise: (13 i + 5) mod 65,521.
-pub fn filled_numbers() -> [u16; ROWS] {
+pub fn filled_numbers() -> [Entry; ROWS] {
     let mut numbers = [0; ROWS];
     let mut i = 0;
     while i < ROWS {
-        numbers[i] = ((13 * i + 5) % LARGE) as u16;
+        numbers[i] = ((NUMBER_STEP * i + 5) % LARGE) as Entry;
         i += 1;
     }
     numbers

@@ -11,6 +11,7 @@ use crate::reading;
 use crate::walking;
 use crate::watching;
 use crate::writing;
+use table::rows::Entry;
 
 // The pieces of an operation's case, as digits from the right to the left: B bytes, A a row of numbers, 1 to 9 so many numbers. A table is
 // BAA5: five numbers, segment rows, leaf rows, text area. 0 where there is no such operation.
@@ -29,11 +30,11 @@ fn pieces_of(operation: usize) -> usize {
 
 // Takes in the next case and runs it; false where there is none.
 pub fn next_case(
-    numbers: &mut [u16; ROOM],
+    numbers: &mut [Entry; ROOM],
     bytes: &mut [u8; ROOM],
     text: &mut [u8; TEXT],
-    segments: &mut [u16; ROWS],
-    leaves: &mut [u16; ROWS],
+    segments: &mut [Entry; ROWS],
+    leaves: &mut [Entry; ROWS],
 ) -> bool {
     let operation = number();
     if take_in(pieces_of(operation), numbers, bytes) {
@@ -47,11 +48,11 @@ pub fn next_case(
 // Runs a case whose pieces have come. The last three buffers are for what an operation writes.
 fn run(
     operation: usize,
-    numbers: &[u16; ROOM],
+    numbers: &[Entry; ROOM],
     bytes: &[u8; ROOM],
     text: &mut [u8; TEXT],
-    segments: &mut [u16; ROWS],
-    leaves: &mut [u16; ROWS],
+    segments: &mut [Entry; ROWS],
+    leaves: &mut [Entry; ROWS],
 ) {
     match operation {
         1 => reading::run(numbers, bytes, text, segments, leaves),

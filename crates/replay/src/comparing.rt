@@ -12,12 +12,13 @@ use crate::tables::LEAVES;
 use crate::tables::SEGMENTS;
 use crate::tables::card_at;
 use look::order::same_order;
+use table::rows::Entry;
 
 // Which piece the second table begins with.
 const OTHER: u8 = 5;
 
 // Compares a row of a table, which follows it, with a row of another table, which follows that one.
-pub fn run(numbers: &[u16; ROOM], bytes: &[u8; ROOM]) {
+pub fn run(numbers: &[Entry; ROOM], bytes: &[u8; ROOM]) {
     begin(5);
     put_yes_or_no(same_order(
         card_at(numbers, 0),

@@ -9,9 +9,10 @@ use crate::tables::ASKED;
 use crate::tables::SEGMENTS;
 use crate::tables::card_at;
 use look::row::next_row;
+use table::rows::Entry;
 
 // Asks for the row after the one that follows the table, with the kind and the owner that follow it.
-pub fn run(numbers: &[u16; ROOM]) {
+pub fn run(numbers: &[Entry; ROOM]) {
     begin(4);
     put(next_row(
         card_at(numbers, 0),

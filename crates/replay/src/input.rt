@@ -1,12 +1,13 @@
 // What comes on standard input: numbers, rows of numbers, and bytes. Each function answers MISSING where the input ends first.
 use crate::buffers::least;
 use libc::STDIN_FILENO;
+use table::rows::Entry;
 
 // More than every number and every place in a buffer, so that one test rules out what is missing and what is past a limit.
 pub const MISSING: usize = usize::MAX;
 
 // The largest number of a case, and the last place in a buffer of pieces.
-pub const MOST: usize = 65535;
+pub const MOST: usize = u16::MAX as usize;
 
 // Room for the longest case, which has two tables: every place that a number tells, and as far as a byte goes behind it.
 pub const ROOM: usize = 65792;
@@ -22,11 +23,11 @@ pub fn number() -> usize {
 
 // The number of four bytes, the lowest first.
 fn number_of(a: u8, b: u8, c: u8, d: u8) -> usize {
-    a as usize + 256 * (b as usize) + 65536 * (c as usize) + 16777216 * (d as usize)
+    a as usize + 256 * (b as usize + 256 * (c as usize + 256 * (d as usize)))
 }
 
 // So many numbers, put into a buffer from a place on. Answers the place behind them; MISSING too where one is too large or finds no room.
-pub fn numbers_in(buffer: &mut [u16; ROOM], from: usize, count: usize) -> usize {
+pub fn numbers_in(buffer: &mut [Entry; ROOM], from: usize, count: usize) -> usize {
     let mut at = from;
     let mut left = count;
     while left > 0 {
@@ -37,7 +38,7 @@ pub fn numbers_in(buffer: &mut [u16; ROOM], from: usize, count: usize) -> usize 
         if MOST < at {
             return MISSING;
         }
-        buffer[at] = n as u16;
+        buffer[at] = n as Entry;
         at += 1;
         left -= 1;
     }

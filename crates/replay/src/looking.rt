@@ -14,12 +14,13 @@ use crate::tables::SEGMENTS;
 use crate::tables::card_at;
 use look::leaf::Place;
 use look::leaf::leaf_text;
+use table::rows::Entry;
 
 // Which piece the substitute is.
 const SUBSTITUTE: u8 = 5;
 
 // Looks up the place that follows the table, with the substitute that follows it.
-pub fn run(numbers: &[u16; ROOM], bytes: &[u8; ROOM]) {
+pub fn run(numbers: &[Entry; ROOM], bytes: &[u8; ROOM]) {
     put_text(leaf_text(
         card_at(numbers, 0),
         row_at(numbers, SEGMENTS),

@@ -6,12 +6,13 @@ use crate::input::ROOM;
 use crate::input::bytes_in;
 use crate::input::number;
 use crate::input::numbers_in;
-ghost use Prim.Native.Nat.{_<_};
+use table::rows::Entry;
+use table::rows::wide;
 
 // As many pieces as a number of 64 bits has digits in base 16, and where the first lies.
 const PIECES: usize = 16;
 
-const FIRST: u16 = 17;
+const FIRST: Entry = 17;
 
 const BASE: usize = 16;
 
@@ -22,7 +23,7 @@ const BYTES: usize = 0xB;
 
 // Takes in the pieces that the digits of a number say, the lowest first. False where the input ends before they do, one is past the
 // format's sizes, or there are none.
-pub fn take_in(pieces: usize, numbers: &mut [u16; ROOM], bytes: &mut [u8; ROOM]) -> bool {
+pub fn take_in(pieces: usize, numbers: &mut [Entry; ROOM], bytes: &mut [u8; ROOM]) -> bool {
     numbers[0] = FIRST;
     let mut end = FIRST as usize;
     let mut left = pieces;
@@ -34,13 +35,13 @@ pub fn take_in(pieces: usize, numbers: &mut [u16; ROOM], bytes: &mut [u8; ROOM])
         }
         left /= BASE;
         k += 1;
-        numbers[k] = end as u16;
+        numbers[k] = end as Entry;
     }
     pieces > 0
 }
 
 // Takes in one piece from a place on, and answers the place behind it.
-fn piece(kind: usize, from: usize, numbers: &mut [u16; ROOM], bytes: &mut [u8; ROOM]) -> usize {
+fn piece(kind: usize, from: usize, numbers: &mut [Entry; ROOM], bytes: &mut [u8; ROOM]) -> usize {
     match kind {
         BYTES => bytes_in(bytes, from, number()),
         ROW => numbers_in(numbers, from, number()),
@@ -49,33 +50,26 @@ fn piece(kind: usize, from: usize, numbers: &mut [u16; ROOM], bytes: &mut [u8; R
 }
 
 // Number i of piece k.
-pub fn number_at(numbers: &[u16; ROOM], k: u8, i: u8) -> u16 {
+pub fn number_at(numbers: &[Entry; ROOM], k: u8, i: u8) -> Entry {
     numbers[wide(numbers[k as usize]) + i as usize]
 }
 
 // The row of numbers that piece k is.
-pub fn row_at(numbers: &[u16; ROOM], k: u8) -> &[u16] {
+pub fn row_at(numbers: &[Entry; ROOM], k: u8) -> &[Entry] {
     let from = wide(numbers[k as usize]);
     let end = wide(numbers[k as usize + 1]);
     numbers_between(numbers, from, end)
 }
 
 // The bytes that piece k is.
-pub fn bytes_at<'a>(numbers: &[u16; ROOM], bytes: &'a [u8; ROOM], k: u8) -> &'a [u8] {
+pub fn bytes_at<'a>(numbers: &[Entry; ROOM], bytes: &'a [u8; ROOM], k: u8) -> &'a [u8] {
     let from = wide(numbers[k as usize]);
     let end = wide(numbers[k as usize + 1]);
     bytes_between(bytes, from, end)
 }
 
-// A place that a number tells: every one is within the room.
-fn wide(n: u16) -> usize
-    ensures { λ r. ⌜ r < 65536 ⌝ }
-{
-    n as usize
-}
-
 // The part between two places, as far as the buffer goes, so that no place asks for a proof.
-pub fn numbers_between(numbers: &[u16], from: usize, end: usize) -> &[u16] {
+pub fn numbers_between(numbers: &[Entry], from: usize, end: usize) -> &[Entry] {
     let b = least(end, numbers.len());
     let a = least(from, b);
     &numbers[a..b]

@@ -14,14 +14,15 @@ use crate::pieces::number_at;
 use crate::pieces::numbers_between;
 use read::Answer;
 use read::read;
+use table::rows::Entry;
 
 // Reads the message into buffers of the lengths that follow it.
 pub fn run(
-    numbers: &[u16; ROOM],
+    numbers: &[Entry; ROOM],
     bytes: &[u8; ROOM],
     text: &mut [u8; TEXT],
-    segments: &mut [u16; ROWS],
-    leaves: &mut [u16; ROWS],
+    segments: &mut [Entry; ROWS],
+    leaves: &mut [Entry; ROWS],
 ) {
     let area = number_at(numbers, 1, 0) as usize;
     let rows = number_at(numbers, 1, 1) as usize;
@@ -43,9 +44,9 @@ fn read_into(
     message: &[u8],
     text: &mut [u8],
     area: usize,
-    segments: &mut [u16],
+    segments: &mut [Entry],
     rows: usize,
-    leaves: &mut [u16],
+    leaves: &mut [Entry],
     leaf_rows: usize,
 ) -> Answer {
     let a = least(area, text.len());
@@ -76,9 +77,9 @@ fn put_answer(answer: Answer) {
 fn put_sums(
     text: &[u8; TEXT],
     area: usize,
-    segments: &[u16; ROWS],
+    segments: &[Entry; ROWS],
     rows: usize,
-    leaves: &[u16; ROWS],
+    leaves: &[Entry; ROWS],
     leaf_rows: usize,
 ) {
     put(sum_bytes(bytes_between(text, 0, area)));

@@ -2,6 +2,7 @@
 use crate::input::ROOM;
 use crate::pieces::number_at;
 use table::Card;
+use table::rows::Entry;
 
 // Which pieces are the rows and the text area, and which is asked of the table, in a case that begins with one.
 pub const SEGMENTS: u8 = 1;
@@ -13,7 +14,7 @@ pub const AREA: u8 = 3;
 pub const ASKED: u8 = 4;
 
 // The card whose five numbers are piece k. The first two are below 256, which the remainder says to the proof.
-pub fn card_at(numbers: &[u16; ROOM], k: u8) -> Card {
+pub fn card_at(numbers: &[Entry; ROOM], k: u8) -> Card {
     Card {
         separator: (number_at(numbers, k, 0) % 256) as u8,
         context: (number_at(numbers, k, 1) % 256) as u8,

@@ -10,9 +10,10 @@ use line::finder::Found;
 use line::finder::line_at;
 use line::finder::line_part;
 use line::finder::next_place;
+use table::rows::Entry;
 
 // What each call gives until one gives the end or a fault, which stay where they are, and for two calls more.
-pub fn run(numbers: &[u16; ROOM], bytes: &[u8; ROOM]) {
+pub fn run(numbers: &[Entry; ROOM], bytes: &[u8; ROOM]) {
     let message = bytes_at(numbers, bytes, 0);
     begin(6);
     let at = walk(message);

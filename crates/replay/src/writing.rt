@@ -16,11 +16,12 @@ use crate::tables::LEAVES;
 use crate::tables::SEGMENTS;
 use crate::tables::card_at;
 use table::Card;
+use table::rows::Entry;
 use write::Written;
 use write::write;
 
 // Writes the table into an output of the length that follows it.
-pub fn run(numbers: &[u16; ROOM], bytes: &[u8; ROOM], output: &mut [u8; TEXT]) {
+pub fn run(numbers: &[Entry; ROOM], bytes: &[u8; ROOM], output: &mut [u8; TEXT]) {
     let size = number_at(numbers, ASKED, 0) as usize;
     put_written(write_into(
         card_at(numbers, 0),
@@ -37,8 +38,8 @@ pub fn run(numbers: &[u16; ROOM], bytes: &[u8; ROOM], output: &mut [u8; TEXT]) {
 // Writes into as much of the output as is asked for.
 fn write_into(
     card: Card,
-    segments: &[u16],
-    leaves: &[u16],
+    segments: &[Entry],
+    leaves: &[Entry],
     text: &[u8],
     output: &mut [u8],
     size: usize,

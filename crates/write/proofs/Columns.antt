@@ -12,6 +12,7 @@ use Rattle.laws.specs.Lists.{same}
 use Rattle.laws.proofs.Parts.{left-cons}
 use Rattle.laws.proofs.Tables.{length-values, getD-values-zero}
 use Rattle.laws.proofs.Tests.{Tested, passed, failed, tested, and-passed, and-fails-first}
+use Rattle.order.specs.Levels.{topLevel}
 use Rattle.order.specs.Owners.{owners}
 use Rattle.order.specs.Owning.{Owned, noRows}
 use Rattle.order.specs.Place.{misplaced}
@@ -82,7 +83,7 @@ pub owning-begins : (lv : ℕ → ℕ) (rows : List ℕ) (n : ℕ) {near : List 
 owning-begins lv rows n e =
     record { within = omega arith; known = subst (RowsKnown lv (kindColumn rows n) 0) (sym e) (rows-begin lv (kindColumn rows n)); so = refl }
 
-module _ {lv : ℕ → ℕ} {rows : List ℕ} {n i : ℕ} {near : List ℕ} (w : Owning lv rows n i near) (few : (j : ℕ) → lv j < 8) (h : i < n)
+module _ {lv : ℕ → ℕ} {rows : List ℕ} {n i : ℕ} {near : List ℕ} (w : Owning lv rows n i near) (few : (j : ℕ) → lv j < topLevel) (h : i < n)
     {after : List ℕ} {row k l o : ℕ} (e : row ≡ i + 1) (f : k ≡ kindIn rows i) (g : l ≡ lv k) (v : Owned near after row k l o) where
   abbrev ks : List ℕ
   ks = kindColumn rows n

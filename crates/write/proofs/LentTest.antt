@@ -2,14 +2,14 @@
 -- Assumes nothing.
 use mathlib.Core.Bool.{true, false}
 use mathlib.Core.List.{List}
-use mathlib.Core.Path.{_≡_, sym, ap, _∙_, subst⁻¹, fun-ext}
+use mathlib.Core.Path.{_≡_, sym, ap, _∙_, subst⁻¹}
 use Prim.Native.Nat.{ℕ, _<_}
 use Rattle.laws.proofs.Tests.{and-passed, and-both, and-fails-first, and-fails-second}
 use Rattle.form.specs.declared.limits.Limits.{Limits}
 use Rattle.form.specs.Limits.{form}
 use Rattle.order.specs.Levels.{levelIn, levelTable}
 use Rattle.order.specs.Owners.{level}
-use Rattle.order.proofs.LevelTable.{level-in-this, level-few}
+use Rattle.order.proofs.LevelTable.{levels-are, levels-below}
 use Rattle.table.specs.Lent.{Lent, withinLimits, withinBuffers, counted}
 use Rattle.table.proofs.Lent.{few-segments, few-leaves, few-bytes}
 use Rattle.table.proofs.Width.{form-fits}
@@ -47,9 +47,9 @@ module _ {L : Limits} {table : List ℕ} (e : L ≡ form) (f : table ≡ levelTa
   pub form-testable : Testable L (levelIn table)
   form-testable =
       subst⁻¹ (λ (M : Limits). Testable M (levelIn table)) e
-      (record { fits = form-fits; low = λ c k. subst⁻¹ (λ (n : ℕ). n < 8) (level-in-this table f c k) (level-few c k) })
+      (record { fits = form-fits; low = levels-below f })
 
   pub form-table : (l : Lent) → isTable L (levelIn table) l ≡ isTable form level l
   form-table l =
       ap (λ (M : Limits). isTable M (levelIn table) l) e
-      ∙ ap (λ (lv : ℕ → ℕ → ℕ). isTable form lv l) (fun-ext (λ c. fun-ext (λ k. level-in-this table f c k)))
+      ∙ ap (λ (lv : ℕ → ℕ → ℕ). isTable form lv l) (levels-are f)

@@ -11,6 +11,7 @@ use Rattle.form.specs.Limits.{Lawful}
 use Rattle.form.specs.Header.{splitting}
 use Rattle.line.specs.Lines.{CR}
 use Rattle.order.specs.Followers.{followers}
+use Rattle.order.specs.Levels.{LevelsBelow}
 use Rattle.table.specs.declared.Card.{Card}
 use Rattle.table.specs.Rows.{Table, segmentRowSize, leafRowSize, FitsRows, segmentIn, fieldIn, startIn, lengthIn}
 use Rattle.write.specs.RowByRow.{Sized}
@@ -23,7 +24,7 @@ use Rattle.write.specs.declared.lines.Going.{Going}
 -- the test of a lent table: numbers that fit the rows, levels that the owners' test knows
 pub record Testable (L : Limits) (levels : ℕ → ℕ → ℕ) : Type 0 where
   pub fits : FitsRows L
-  pub low : (c k : ℕ) → levels c k < 8
+  pub low : LevelsBelow levels
 
 -- the test of the counted entries: they are as many as the card counts, and its counts keep to the limits
 pub record CountedTable (L : Limits) (levels : ℕ → ℕ → ℕ) (t : Table) : Type 0 where
@@ -123,7 +124,7 @@ pub record Orderable (table segments : List ℕ) (many : ℕ) : Type 0 where
 
 pub record Ownable (levels : ℕ → ℕ → ℕ) (segments : List ℕ) (many : ℕ) : Type 0 where
   pub kinds : KindsStated segments many
-  pub low : (c k : ℕ) → levels c k < 8
+  pub low : LevelsBelow levels
 
 pub record KindsAndLeaves (segments : List ℕ) (many : ℕ) (rows text : List ℕ) (count : ℕ) : Type 0 where
   pub kinds : KindsStated segments many
