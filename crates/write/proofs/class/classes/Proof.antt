@@ -1,11 +1,11 @@
 -- `write::class::classes` meets its contract: at byte b the table has 1 at each byte below b, and the marks from there on.
 -- Assumes nothing.
+use borrow.Author.Needs.{needs}
+use native.Mathlib.Omega.{arith}
 use mathlib.Core.Path.{_≡_, ap, _∙_}
 use mathlib.Core.List.{List}
 use Prim.Native.Nat.{ℕ, _≤_, _-_}
-use native.Mathlib.Omega.{arith}
 use lib.ListN.{set}
-use borrow.Author.Needs.{needs}
 use Rattle.form.specs.Header.{splitting}
 use Rattle.laws.specs.Tables.{values}
 use Rattle.write.specs.Tests.{markOf, markTable}
@@ -19,20 +19,8 @@ Inv-loop class₀ b₀ class b = (b ≤ 32) × ((f : ℕ → ℕ) → class₀ �
 abbrev μ-loop : tie.MeasureT-loop
 μ-loop class₀ b₀ class b = 32 - b
 
-marks-requires : tie.Need-marks-requires Inv-loop μ-loop
-marks-requires c κs = search needs
-
 loop-holds : tie.Need-loop-holds Inv-loop μ-loop
 loop-holds c = (omega arith, λ f e. e ∙ low-begins f 256)
-
-array-write-class : tie.Need-array-write-class Inv-loop μ-loop
-array-write-class c = omega arith
-
-add-b : tie.Need-add-b Inv-loop μ-loop
-add-b c = omega arith
-
-loop-less : tie.Need-loop-less Inv-loop μ-loop
-loop-less c = omega arith
 
 loop-again : tie.Need-loop-again Inv-loop μ-loop
 loop-again c =
@@ -53,12 +41,4 @@ pub classes-spec : {M : Type 1} → statement M
 classes-spec =
     tie.close
     (tie.spec
-    Inv-loop
-    μ-loop
-    marks-requires
-    loop-holds
-    array-write-class
-    add-b
-    loop-less
-    loop-again
-    returns)
+    Inv-loop μ-loop (λ c κs. search needs) loop-holds (λ c. omega arith) (λ c. omega arith) (λ c. omega arith) loop-again returns)
