@@ -10,7 +10,7 @@ use table::rows::Entry;
 ghost use mathlib.Core.Bool.{true};
 ghost use mathlib.Core.Path.{_≡_};
 ghost use Prim.Native.Nat.{_+_, _-_, _*_, _≤_, _<_};
-ghost use lib.Dec.{leb, eqb};
+ghost use lib.Dec.{eqb};
 ghost use lib.ListN.{length};
 ghost use Rattle.laws.specs.Lists.{same};
 ghost use Rattle.laws.specs.Sums.{sumOf};
@@ -277,19 +277,4 @@ pub(crate) fn message_bytes(
         i += 1;
     }
     total
-}
-
-// Whether they keep to the limit.
-pub(crate) fn short(
-    limits: Limits,
-    segments: &[Entry],
-    many: usize,
-    rows: &[Entry],
-    text: &[u8],
-    count: usize,
-) -> bool
-    requires { ⌜ Grouped limits (now segments) many (now rows) (now text) count ⌝ }
-    ensures { λ r. ⌜ r ≡ leb (sumOf (writtenBytes limits) (groupsIn (now (rows .entry)) (now (text .entry)) count)) (limits .bytes) ⌝ }
-{
-    message_bytes(limits, segments, many, rows, text, count) <= limits.bytes
 }
