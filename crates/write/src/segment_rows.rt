@@ -17,9 +17,8 @@ ghost use Rattle.laws.specs.Sums.{sumOf};
 ghost use Rattle.order.specs.Levels.{levelIn};
 ghost use Rattle.order.specs.Owners.{owners};
 ghost use Rattle.order.specs.Place.{misplaced};
-ghost use Rattle.table.specs.Rows.{textOf};
+ghost use Rattle.table.specs.Rows.{segmentRowSize, leafRowSize, textOf};
 ghost use Rattle.table.specs.BySegment.{kindAmong, contextAmong, writtenBytes};
-ghost use Rattle.table.specs.Rows.{segmentRowSize, leafRowSize};
 ghost use Rattle.write.specs.Tests.{groupsIn, Decides, leavesBetween, SegmentEnd, FieldLeaf, rowStates, groupsStated, kindColumn, ownerColumn};
 ghost use Rattle.write.specs.Asked.{TextStated, LeafAmong, Following, FieldThere, UpTo, Stretch, SegmentThere, LawfulStretch, Groupable, Grouped, Orderable, Ownable};
 
@@ -92,12 +91,13 @@ fn field_leaf(rows: &[Entry], field: Entry, first: usize, end: usize) -> usize
     end
 }
 
-// Where the text of a leaf lies: from its start up to its end.
+// Where a text lies: from its start up to its end.
 struct Lying {
     start: usize,
     end: usize,
 }
 
+// Where the row of a leaf says that its text lies.
 fn text_of(rows: &[Entry], leaf: usize) -> Lying
     requires { ⌜ (leaf + 1) * leafRowSize ≤ length (now rows) ⌝ }
     ensures { λ r. ⌜ TextStated (now (rows .entry)) leaf (r .start) (r .end) ⌝ }
