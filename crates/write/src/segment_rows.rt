@@ -10,16 +10,15 @@ use table::rows::Entry;
 ghost use mathlib.Core.Bool.{true};
 ghost use mathlib.Core.Path.{_≡_};
 ghost use Prim.Native.Nat.{_+_, _-_, _*_, _≤_, _<_};
-ghost use lib.Dec.{leb, eqb};
+ghost use lib.Dec.{eqb};
 ghost use lib.ListN.{length};
 ghost use Rattle.laws.specs.Lists.{same};
 ghost use Rattle.laws.specs.Sums.{sumOf};
 ghost use Rattle.order.specs.Levels.{levelIn};
 ghost use Rattle.order.specs.Owners.{owners};
 ghost use Rattle.order.specs.Place.{misplaced};
-ghost use Rattle.table.specs.Rows.{textOf};
+ghost use Rattle.table.specs.Rows.{segmentRowSize, leafRowSize, textOf};
 ghost use Rattle.table.specs.BySegment.{kindAmong, contextAmong, writtenBytes};
-ghost use Rattle.table.specs.Rows.{segmentRowSize, leafRowSize};
 ghost use Rattle.write.specs.Tests.{groupsIn, Decides, leavesBetween, SegmentEnd, FieldLeaf, rowStates, groupsStated, kindColumn, ownerColumn};
 ghost use Rattle.write.specs.Asked.{TextStated, LeafAmong, Following, FieldThere, UpTo, Stretch, SegmentThere, LawfulStretch, Groupable, Grouped, Orderable, Ownable};
 
@@ -92,12 +91,13 @@ fn field_leaf(rows: &[Entry], field: Entry, first: usize, end: usize) -> usize
     end
 }
 
-// Where the text of a leaf lies: from its start up to its end.
+// Where a text lies: from its start up to its end.
 struct Lying {
     start: usize,
     end: usize,
 }
 
+// Where the row of a leaf says that its text lies.
 fn text_of(rows: &[Entry], leaf: usize) -> Lying
     requires { ⌜ (leaf + 1) * leafRowSize ≤ length (now rows) ⌝ }
     ensures { λ r. ⌜ TextStated (now (rows .entry)) leaf (r .start) (r .end) ⌝ }
@@ -277,19 +277,4 @@ pub(crate) fn message_bytes(
         i += 1;
     }
     total
-}
-
-// Whether they keep to the limit.
-pub(crate) fn short(
-    limits: Limits,
-    segments: &[Entry],
-    many: usize,
-    rows: &[Entry],
-    text: &[u8],
-    count: usize,
-) -> bool
-    requires { ⌜ Grouped limits (now segments) many (now rows) (now text) count ⌝ }
-    ensures { λ r. ⌜ r ≡ leb (sumOf (writtenBytes limits) (groupsIn (now (rows .entry)) (now (text .entry)) count)) (limits .bytes) ⌝ }
-{
-    message_bytes(limits, segments, many, rows, text, count) <= limits.bytes
 }

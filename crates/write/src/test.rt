@@ -101,7 +101,8 @@ fn reads_back(
     if !in_order(card.context, segments, card.segments, leaves, text, count) {
         return false;
     }
-    segment_rows::short(limits, segments, card.segments, leaves, text, count)
+    segment_rows::message_bytes(limits, segments, card.segments, leaves, text, count)
+        <= limits.bytes
 }
 
 // Whether the header's rows keep the header rule and the leaf rows after them go on soundly.

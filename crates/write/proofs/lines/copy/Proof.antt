@@ -1,7 +1,7 @@
 -- `write::lines::copy` meets its contract: what is left to copy gives the whole.
 -- Assumes nothing.
-use Prim.Native.Nat.{_-_}
 use native.Mathlib.Omega.{arith}
+use Prim.Native.Nat.{_-_}
 use Rattle.write.proofs.TextLeft.{Copying, copying-begins, copying-more, copying-done}
 use Rattle.write.proofs.lines.copy.Statement.{statement}
 use Rattle.write.proofs.lines.copy.Tie as tie
@@ -16,24 +16,6 @@ loop-holds : tie.Need-loop-holds Inv-loop μ-loop
 loop-holds c =
     let at-args = c .args in
     copying-begins (at-args .text .now) (at-args .from) (at-args .count) (at-args .output .now) (at-args .out)
-
-add-output : tie.Need-add-output Inv-loop μ-loop
-add-output c = omega arith
-
-shared-slice-read-output : tie.Need-shared-slice-read-output Inv-loop μ-loop
-shared-slice-read-output c = omega arith
-
-add-output-2 : tie.Need-add-output-2 Inv-loop μ-loop
-add-output-2 c = omega arith
-
-slice-write-output : tie.Need-slice-write-output Inv-loop μ-loop
-slice-write-output c = omega arith
-
-add-i : tie.Need-add-i Inv-loop μ-loop
-add-i c = omega arith
-
-loop-less : tie.Need-loop-less Inv-loop μ-loop
-loop-less c = omega arith
 
 loop-again : tie.Need-loop-again Inv-loop μ-loop
 loop-again c =
@@ -59,15 +41,5 @@ pub copy-spec : {M : Type 1} → statement M
 copy-spec =
     tie.close
     (tie.spec
-    Inv-loop
-    μ-loop
-    loop-holds
-    add-output
-    shared-slice-read-output
-    add-output-2
-    slice-write-output
-    add-i
-    loop-less
-    loop-again
-    same-length
-    returns)
+    Inv-loop μ-loop loop-holds (λ c. omega arith) (λ c. omega arith) (λ c. omega arith) (λ c. omega arith) (λ c. omega arith)
+    (λ c. omega arith) loop-again same-length returns)

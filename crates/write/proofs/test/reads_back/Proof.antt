@@ -2,7 +2,7 @@
 -- Assumes nothing.
 use native.Mathlib.Omega.{arith}
 use mathlib.Core.Bool.{false, true}
-use mathlib.Core.Path.{_≡_}
+use mathlib.Core.Path.{_≡_, ap}
 use borrow.Author.Tests.{not-true, not-false}
 use Rattle.laws.proofs.Tests.{never-both}
 use Rattle.order.specs.Levels.{levelIn}
@@ -14,6 +14,8 @@ use Rattle.write.proofs.Said.{answered-no, answered-yes}
 use Rattle.write.proofs.TableTest.{Passed, passed-laid, laid-in-text, counted-kinds, refused-so, short-decides}
 use Rattle.write.proofs.test.reads_back.Statement.{statement}
 use Rattle.write.proofs.test.reads_back.Tie as tie
+use lib.Dec.{leb}
+use Prim.Native.Nat.{ℕ}
 
 -- the table that is tested, and a test of it that fails
 abbrev table : tie.Start → Table
@@ -107,8 +109,8 @@ in-order-requires c κs =
 returns-6 : tie.Need-returns-6
 returns-6 c = refuses (start-5 (c .before .before)) (λ w. never-both (w .ordered) (answered-no (c .before .in-order .ensures) (c .if6 .taken)))
 
-short-requires : tie.Need-short-requires
-short-requires c κs =
+message-bytes-requires : tie.Need-message-bytes-requires
+message-bytes-requires c κs =
     let grouped = c .before .before .before .before in
     let pre = start-4 grouped .pre in
     record {
@@ -120,12 +122,13 @@ short-requires c κs =
 
 returns-7 : tie.Need-returns-7
 returns-7 c =
-    let ordered = c .before in
+    let ordered = c .before .before in
     let owned = ordered .before .before in
     let grouped = owned .before .before in
     let sound = grouped .before .before in
     let laid = sound .before .before in
-    short-decides (start-6 ordered .pre) (c .short .ensures) (λ h.
+    let start = start-6 ordered in
+    short-decides (start .pre) (ap (λ (n : ℕ). leb n (start .args .limits .bytes)) (c .before .message-bytes .ensures)) (λ h.
     record {
       three = laid .before .before .if1 .left;
       laid = laid-here laid .ended;
@@ -141,4 +144,4 @@ reads-back-spec =
     tie.close
     (tie.spec
     returns laid-requires returns-2 sound-leaves-requires returns-3 grouped-requires returns-4 owned-requires returns-5 in-order-requires
-    returns-6 short-requires returns-7)
+    returns-6 message-bytes-requires returns-7)
