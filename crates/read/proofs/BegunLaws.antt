@@ -14,7 +14,7 @@ use Rattle.order.specs.Levels.{levelIn}
 use Rattle.order.specs.Owning.{noRows, levelPlace, added, owned, knownAfter}
 use Rattle.order.proofs.Coming.{length-owned, owned-last, known-last}
 use Rattle.table.specs.Leaves.{Leaf, kindOfSegment, messageLeaves}
-use Rattle.table.specs.Rows.{segmentRowSize, leafRowSize, segmentRow, segmentRowsFrom, kindsOf, allLeaves}
+use Rattle.table.specs.Rows.{segmentRowSize, leafRowSize, segmentRow, segmentRowsOf, kindsOf, allLeaves}
 use Rattle.table.specs.Flat.{leaf, Without, Pass, step, ended}
 use Rattle.table.specs.OnePass.{passOver}
 use Rattle.table.proofs.Counting.{length-segmentLeaves, length-headerLeaves}
@@ -53,8 +53,8 @@ module _ (lv : ℕ → ℕ) (ps : Separators) where
       ++ segmentRow (kindOfSegment ps s) (ownerBehind done (kindOfSegment ps s)) (1 + length (allLeaves ps done)) (length (leavesBehind ps done s))
   unfolding closedRows allLeaves
   closedRows-last done s =
-      ap (λ (ks : List ℕ). segmentRowsFrom 1 ks (owned lv noRows 1 ks) (messageLeaves ps (done ++ (s ∷ [])))) (kindsOf-last ps done s)
-      ∙ ap₂ (λ (os : List ℕ) (ls : List (List Leaf)). segmentRowsFrom 1 (kindsOf ps done ++ (kindOfSegment ps s ∷ [])) os ls)
+      ap (λ (ks : List ℕ). segmentRowsOf ks (owned lv noRows 1 ks) (messageLeaves ps (done ++ (s ∷ [])))) (kindsOf-last ps done s)
+      ∙ ap₂ (λ (os : List ℕ) (ls : List (List Leaf)). segmentRowsOf (kindsOf ps done ++ (kindOfSegment ps s ∷ [])) os ls)
       (owned-last lv noRows 1 (kindsOf ps done) (kindOfSegment ps s)) (messageLeaves-last ps done s)
       ∙ segmentRows-last 1 (kindsOf ps done) (owned lv noRows 1 (kindsOf ps done)) (messageLeaves ps done)
       (kindOfSegment ps s) (ownerBehind done (kindOfSegment ps s)) (leavesBehind ps done s)

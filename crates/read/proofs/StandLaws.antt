@@ -21,7 +21,7 @@ use Rattle.order.specs.Levels.{levelIn}
 use Rattle.order.specs.Owners.{owners}
 use Rattle.order.proofs.Owner.{owned-owners}
 use Rattle.table.specs.Leaves.{kindOfSegment, messageLeaves}
-use Rattle.table.specs.Rows.{leafRowSize, segmentRowsFrom, leafRowsFrom, textOf, kindsOf, allLeaves, tableOf}
+use Rattle.table.specs.Rows.{leafRowSize, segmentRowsOf, leafRowsFrom, textOf, kindsOf, allLeaves, tableOf}
 use Rattle.read.specs.declared.fill.Filling.{Filling}
 use Rattle.read.specs.declared.fill.Line.{Line}
 use Rattle.read.specs.Scanning.{run}
@@ -200,10 +200,10 @@ module _ {c : Came} {class kinds levels : List ℕ} {context : ℕ} {ps : Separa
     whole = none-left (c .limits) m at (w .left) h
 
     rows-owned : (ss : List (List ℕ)) → closedRows (levelIn levels context) ps ss
-        ≡ segmentRowsFrom 1 (kindsOf ps ss) (owners (levelIn levels context) (kindsOf ps ss)) (messageLeaves ps ss)
+        ≡ segmentRowsOf (kindsOf ps ss) (owners (levelIn levels context) (kindsOf ps ss)) (messageLeaves ps ss)
     unfolding closedRows
     rows-owned ss =
-        ap (λ (os : List ℕ). segmentRowsFrom 1 (kindsOf ps ss) os (messageLeaves ps ss))
+        ap (λ (os : List ℕ). segmentRowsOf (kindsOf ps ss) os (messageLeaves ps ss))
         (owned-owners (levelIn levels context) (w .prepared .below context) (kindsOf ps ss))
 
     pub stands-filled : Filled (tableIn (c .limits) levels ps m) (c .text) (c .segments) (c .leaves) text segments′ leaves′ (f .laying .out)
@@ -217,7 +217,7 @@ module _ {c : Came} {class kinds levels : List ℕ} {context : ℕ} {ps : Separa
               ∙ ap (sets (c .segments) 0)
               (ap (closedRows (levelIn levels context) ps) (sym whole)
               ∙ rows-owned (segmentsIn (c .limits) ps m)
-              ∙ ap (λ (n : ℕ). segmentRowsFrom 1 (kindsOf ps (segmentsIn (c .limits) ps m))
+              ∙ ap (λ (n : ℕ). segmentRowsOf (kindsOf ps (segmentsIn (c .limits) ps m))
               (owners (levelIn levels n) (kindsOf ps (segmentsIn (c .limits) ps m))) (messageLeaves ps (segmentsIn (c .limits) ps m)))
               (w .prepared .given .named));
           leafRows = ends .stored ∙ ap (λ (ss : List (List ℕ)). sets (c .leaves) 0 (leafRowsFrom 0 (allLeaves ps ss))) (sym whole);

@@ -13,7 +13,7 @@ use Rattle.line.specs.Finding.{lowRun}
 use Rattle.order.specs.Levels.{levelIn}
 use Rattle.order.specs.Owning.{noRows, owned, knownAfter, Owned}
 use Rattle.table.specs.Leaves.{messageLeaves}
-use Rattle.table.specs.Rows.{segmentRowSize, leafRowSize, segmentRow, segmentRowsFrom, kindsOf, allLeaves}
+use Rattle.table.specs.Rows.{segmentRowSize, leafRowSize, segmentRow, segmentRowsOf, kindsOf, allLeaves}
 use Rattle.table.specs.Filed.{Filed}
 use Rattle.table.specs.OnePass.{headerPass, passOver}
 use Rattle.read.specs.declared.fill.Filling.{Filling}
@@ -79,7 +79,7 @@ pub record LineFilled
 -- the rows of closed segments, their owners by what is known as they come
 unfoldable pub closedRows : (ℕ → ℕ) → Separators → List (List ℕ) → List ℕ
 closedRows lv ps done =
-    segmentRowsFrom 1 (kindsOf ps done) (owned lv noRows 1 (kindsOf ps done)) (messageLeaves ps done)
+    segmentRowsOf (kindsOf ps done) (owned lv noRows 1 (kindsOf ps done)) (messageLeaves ps done)
 
 -- segments closed, one begun behind them, and what the state and the buffers hold of them over what the buffers held before
 pub record Begun

@@ -9,7 +9,7 @@ use lib.ListN.{length, drop, getD}
 use Rattle.laws.proofs.Parts.{left-cons}
 use Rattle.order.specs.Owners.{owner, owners, ownersAfter}
 use Rattle.table.specs.Leaves.{Leaf}
-use Rattle.table.specs.Rows.{segmentRowSize, segmentRowsFrom, RowIs, kindIn, ownerIn, firstIn, countIn}
+use Rattle.table.specs.Rows.{segmentRowSize, segmentRowsFrom, segmentRowsOf, RowIs, kindIn, ownerIn, firstIn, countIn}
 use Rattle.table.specs.BySegment.{kindAmong}
 use Rattle.table.specs.RowTests.{rowsStated}
 
@@ -23,7 +23,7 @@ rows-stated lv first before (g ∷ gs) =
     (rows-stated lv (first + length g) (kindAmong g ∷ before) gs)
 
 pub owners-stated : (lv : ℕ → ℕ) (groups : List (List Leaf))
-    → segmentRowsFrom 1 (map kindAmong groups) (owners lv (map kindAmong groups)) groups ≡ rowsStated lv 1 [] groups
+    → segmentRowsOf (map kindAmong groups) (owners lv (map kindAmong groups)) groups ≡ rowsStated lv 1 [] groups
 unfolding owners
 owners-stated lv groups = rows-stated lv 1 [] groups
 

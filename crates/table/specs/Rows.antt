@@ -85,6 +85,10 @@ segmentRowsFrom first (k ∷ ks) (o ∷ os) [] = []
 segmentRowsFrom first (k ∷ ks) (o ∷ os) (l ∷ ls) =
     segmentRow k o first (length l) ++ segmentRowsFrom (first + length l) ks os ls
 
+-- all of them: the first leaf has the number 1
+abbrev pub segmentRowsOf : (kinds owners : List ℕ) (leaves : List (List Leaf)) → List ℕ
+segmentRowsOf kinds owners leaves = segmentRowsFrom 1 kinds owners leaves
+
 -- the leaf rows: texts lie end to end in the text area, without separators
 unfoldable pub leafRowsFrom : ℕ → List Leaf → List ℕ
 leafRowsFrom start [] = []
@@ -119,7 +123,7 @@ tableOf levels ps segments =
             text = length (textOf (allLeaves ps segments));
           };
       segmentRows =
-          segmentRowsFrom 1 (kindsOf ps segments) (owners (levels (contextIn ps segments)) (kindsOf ps segments))
+          segmentRowsOf (kindsOf ps segments) (owners (levels (contextIn ps segments)) (kindsOf ps segments))
           (messageLeaves ps segments);
       leafRows = leafRowsFrom 0 (allLeaves ps segments);
       text = textOf (allLeaves ps segments);

@@ -27,7 +27,7 @@ use Rattle.order.specs.Owners.{owners}
 use Rattle.table.specs.Leaves.{Leaf}
 use Rattle.table.specs.Flat.{leaf}
 use Rattle.table.specs.Filed.{headerBytes, Filed}
-use Rattle.table.specs.Rows.{Table, segmentRowSize, leafRowSize, kindsOf, contextIn, segmentRowsFrom, leafRowsFrom, textOf, allLeaves, tableOf}
+use Rattle.table.specs.Rows.{Table, segmentRowSize, leafRowSize, kindsOf, contextIn, segmentRowsOf, leafRowsFrom, textOf, allLeaves, tableOf}
 use Rattle.table.specs.Reading.{Room, short, stated}
 use Rattle.table.specs.Back.{leafAt, leavesOf, separatorsAt, separatorsIn, segmentsOf, linesOf, written}
 use Rattle.table.specs.Sound.{Sound}
@@ -91,8 +91,8 @@ module _ {L : Limits} {levels : ℕ → ℕ → ℕ} {t : Table} (lawful : Lawfu
       leaves-are
       (w .textCount ∙ ap length text-is))
       (w .segmentRows
-      ∙ ap₂ (λ (ks : List ℕ) (c : ℕ). segmentRowsFrom 1 ks (owners (levels c) ks) (groupsOf t)) kinds-are context-is
-      ∙ ap (segmentRowsFrom 1 (kindsOf (separatorsIn t) (segmentsOf t)) (owners (levels (contextIn (separatorsIn t) (segmentsOf t))) (kindsOf (separatorsIn t) (segmentsOf t))))
+      ∙ ap₂ (λ (ks : List ℕ) (c : ℕ). segmentRowsOf ks (owners (levels c) ks) (groupsOf t)) kinds-are context-is
+      ∙ ap (segmentRowsOf (kindsOf (separatorsIn t) (segmentsOf t)) (owners (levels (contextIn (separatorsIn t) (segmentsOf t))) (kindsOf (separatorsIn t) (segmentsOf t))))
       (same-groups t (separatorsIn t) all-allowed (segmentsOf t) local-filed local-leaves))
       (w .leafRows ∙ ap (leafRowsFrom 0) (sym local-leaves))
       text-is
@@ -180,7 +180,7 @@ module _ (L : Limits) (lawful : Lawful L) (levels : ℕ → ℕ → ℕ) (ps : S
                 ordered = ap (misplaced (contextIn ps (h ∷ ss))) kinds ∙ judged .ordered;
               };
           segmentRows =
-              ap₂ (λ (ks : List ℕ) (gs : List (List Leaf)). segmentRowsFrom 1 ks (owners (levels (contextIn ps (h ∷ ss))) ks) gs)
+              ap₂ (λ (ks : List ℕ) (gs : List (List Leaf)). segmentRowsOf ks (owners (levels (contextIn ps (h ∷ ss))) ks) gs)
               (sym kinds) (sym groups);
           segmentCount = sym (same-count table ps allowed (h ∷ ss) filed leaves);
           textCount = refl;

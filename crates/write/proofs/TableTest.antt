@@ -21,7 +21,7 @@ use Rattle.order.specs.Place.{misplaced}
 use Rattle.order.specs.Owners.{owners}
 use Rattle.order.proofs.Owner.{length-owners}
 use Rattle.table.specs.Leaves.{Leaf}
-use Rattle.table.specs.Rows.{Table, segmentRowsFrom, kindIn, FitsRows}
+use Rattle.table.specs.Rows.{Table, segmentRowsOf, kindIn, FitsRows}
 use Rattle.table.specs.Back.{leavesOf}
 use Rattle.table.specs.BySegment.{fieldOf, goesOn, numberOfField, kindAmong, contextAmong, writtenBytes}
 use Rattle.table.specs.RowTests.{endToEnd}
@@ -120,7 +120,7 @@ module _ (L : Limits) (levels : ℕ → ℕ → ℕ) (t : Table) (sized : Sized 
             };
         stated =
             st .rows
-            ∙ ap (λ (os : List ℕ). segmentRowsFrom 1 kinds os groups)
+            ∙ ap (λ (os : List ℕ). segmentRowsOf kinds os groups)
             (same-equal (ownerColumn (t .segmentRows) (t .card .segments)) (owners lv (kindColumn (t .segmentRows) (t .card .segments))) (w .owned)
             ∙ ap (owners lv) (st .kinds))
             ∙ owners-stated lv groups;

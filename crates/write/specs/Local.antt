@@ -16,7 +16,7 @@ use Rattle.order.specs.Place.{misplaced}
 use Rattle.order.specs.Owners.{owners}
 use Rattle.table.specs.Leaves.{Leaf}
 use Rattle.table.specs.Flat.{leaf}
-use Rattle.table.specs.Rows.{Table, segmentRowsFrom, leafRowsFrom, textOf}
+use Rattle.table.specs.Rows.{Table, segmentRowsOf, leafRowsFrom, textOf}
 use Rattle.table.specs.Back.{leafAt, leavesOf, separatorsIn}
 use Rattle.table.specs.Sound.{Sound}
 use Rattle.table.specs.BySegment.{bySegment, kindAmong, contextAmong, writtenBytes}
@@ -67,7 +67,7 @@ pub record Local (L : Limits) (levels : ℕ → ℕ → ℕ) (t : Table) : Type 
   pub kinds : KindRows t
   -- "kind, owner (a row number, or 0), first leaf, leaf count"
   pub segmentRows :
-      t .segmentRows ≡ segmentRowsFrom 1 (kindsAmong t) (owners (levels (t .card .context)) (kindsAmong t)) (groupsOf t)
+      t .segmentRows ≡ segmentRowsOf (kindsAmong t) (owners (levels (t .card .context)) (kindsAmong t)) (groupsOf t)
   -- the card counts segments and text bytes; its count of leaves says how many leaf rows were looked at
   pub segmentCount : t .card .segments ≡ length (groupsOf t)
   pub textCount : t .card .text ≡ length (t .text)
