@@ -29,3 +29,4 @@ pub mod SegmentRows
 pub mod SoundRows
 pub mod Lent
 pub mod Width
+pub mod ShutOut
