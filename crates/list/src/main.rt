@@ -1,18 +1,20 @@
 // Lists the message that comes on standard input: the listing, and nothing else. What matters is in the library; this reads and writes.
+use form::limits::Form;
 use libc::STDIN_FILENO;
 use libc::STDOUT_FILENO;
 use listing::list::SIZE;
 use listing::list::list;
+use table::rows;
 
 // One byte past the longest message, enough to tell that a message is too long.
-const MESSAGE: usize = 16385;
+const MESSAGE: usize = Form::BYTES + 1;
 
 // The sizes of the reader's buffers.
-const TEXT: usize = 16384;
+const TEXT: usize = Form::BYTES;
 
-const SEGMENTS: usize = 1024;
+const SEGMENTS: usize = Form::SEGMENTS * rows::SEGMENT_ROW;
 
-const LEAVES: usize = 14336;
+const LEAVES: usize = Form::LEAVES * rows::LEAF_ROW;
 
 fn main() {
     let mut message = [0; MESSAGE];

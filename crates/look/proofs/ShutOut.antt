@@ -9,6 +9,7 @@ use native.Mathlib.Omega.{arith}
 use Rattle.laws.specs.Lists.{same}
 use Rattle.table.specs.declared.Card.{Card}
 use Rattle.table.specs.Lent.{Lent, countsFit}
+use Rattle.table.specs.Rows.{segmentRow}
 use Rattle.look.specs.declared.leaf.Sought.{Sought}
 use Rattle.look.specs.declared.leaf.Sought.the-variants.{At, Nothing}
 use Rattle.look.specs.declared.leaf.Place.{Place}
@@ -31,7 +32,7 @@ abbrev counts : ℕ → ℕ → Card
 counts leaves text = record { separator = 124; context = 2; segments = 1; leaves = leaves; text = text }
 
 abbrev order : List ℕ
-order = 5 ∷ 0 ∷ 1 ∷ 1 ∷ []
+order = segmentRow 5 0 1 1
 
 -- a leaf row of leaf 9.4.2 of row 1
 abbrev row : ℕ → ℕ → List ℕ → List ℕ

@@ -24,7 +24,7 @@ use Rattle.read.specs.declared.fill.Filling.{Filling}
 use Rattle.read.specs.declared.fill.Line.{Line}
 use Rattle.table.specs.Classes.{classTable}
 use Rattle.read.specs.Laying.{nextSegment, Held}
-use Rattle.read.specs.Segments.{ClosedBy, begunAfter, lineText, LineFilled, closedRows, Begun}
+use Rattle.read.specs.Segments.{rowClosed, ClosedBy, begunAfter, lineText, LineFilled, closedRows, Begun}
 use Rattle.read.proofs.HeldLaws.{Ends, segment-closes, held-segment, held-ended}
 
 -- each segment has a leaf
@@ -38,7 +38,7 @@ module _ (lv : ℕ → ℕ) (ps : Separators) where
   pub length-closedRows : (done : List (List ℕ)) → length (closedRows lv ps done) ≡ length done * segmentRowSize
   unfolding closedRows
   length-closedRows done =
-      length-segmentRows 1 (kindsOf ps done) (owned lv noRows 1 (kindsOf ps done)) (messageLeaves ps done)
+      length-segmentRows (kindsOf ps done) (owned lv noRows 1 (kindsOf ps done)) (messageLeaves ps done)
       (length-owned lv noRows 1 (kindsOf ps done))
       (length-messageLeaves ps done ∙ sym (length-kinds ps done))
       ∙ ap (λ (n : ℕ). n * segmentRowSize) (length-kinds ps done)
@@ -47,19 +47,21 @@ module _ (lv : ℕ → ℕ) (ps : Separators) where
   abbrev ownerBehind : List (List ℕ) → ℕ → ℕ
   ownerBehind done k = getD (knownAfter lv noRows 1 (kindsOf ps done)) (levelPlace k (lv k)) 0
 
-  pub closedRows-last : (done : List (List ℕ)) (s : List ℕ)
-      → closedRows lv ps (done ++ (s ∷ []))
-      ≡ closedRows lv ps done
-      ++ segmentRow (kindOfSegment ps s) (ownerBehind done (kindOfSegment ps s)) (1 + length (allLeaves ps done)) (length (leavesBehind ps done s))
+  -- the row of one segment more
+  abbrev rowBehind : List (List ℕ) → List ℕ → List ℕ
+  rowBehind done s =
+      segmentRow (kindOfSegment ps s) (ownerBehind done (kindOfSegment ps s)) (1 + length (allLeaves ps done)) (length (leavesBehind ps done s))
+
+  pub closedRows-last : (done : List (List ℕ)) (s : List ℕ) → closedRows lv ps (done ++ (s ∷ [])) ≡ closedRows lv ps done ++ rowBehind done s
   unfolding closedRows allLeaves
   closedRows-last done s =
       ap (λ (ks : List ℕ). segmentRowsOf ks (owned lv noRows 1 ks) (messageLeaves ps (done ++ (s ∷ [])))) (kindsOf-last ps done s)
       ∙ ap₂ (λ (os : List ℕ) (ls : List (List Leaf)). segmentRowsOf (kindsOf ps done ++ (kindOfSegment ps s ∷ [])) os ls)
       (owned-last lv noRows 1 (kindsOf ps done) (kindOfSegment ps s)) (messageLeaves-last ps done s)
-      ∙ segmentRows-last 1 (kindsOf ps done) (owned lv noRows 1 (kindsOf ps done)) (messageLeaves ps done)
-      (kindOfSegment ps s) (ownerBehind done (kindOfSegment ps s)) (leavesBehind ps done s)
+      ∙ segmentRows-last (kindsOf ps done) (owned lv noRows 1 (kindsOf ps done)) (messageLeaves ps done)
       (length-owned lv noRows 1 (kindsOf ps done))
       (length-messageLeaves ps done ∙ sym (length-kinds ps done))
+      (kindOfSegment ps s) (ownerBehind done (kindOfSegment ps s)) (leavesBehind ps done s)
 
 module _ {lv : ℕ → ℕ} {ps : Separators} {text₀ segments₀ leaves₀ : List ℕ} {done : List (List ℕ)} {last : List ℕ}
     {f : Filling} {nearest text segments leaves : List ℕ}
@@ -115,20 +117,20 @@ module _ {lv : ℕ → ℕ} {ps : Separators} {text₀ segments₀ leaves₀ : L
     owner-by : w .owner ≡ ownerBehind lv ps done (kindOfSegment ps last)
     owner-by = w .owns .owner ∙ ap₂ (λ (n : List ℕ) (p : ℕ). getD n p 0) (b .known) place-by
 
-    pub closed-rows : segments′ ≡ sets segments₀ 0 (closedRows lv ps so-far)
-    closed-rows =
+    row-closed : rowClosed f kind (w .owner) ≡ rowBehind lv ps done last
+    row-closed =
         let count : f .laying .row / leafRowSize + 2 - f .first ≡ length (leavesBehind ps done last) = omega (arith, begun-own, b .first) in
         let first : f .first ≡ 1 + length (allLeaves ps done) = omega (arith, b .first) in
+        ap₂ (λ (x o : ℕ). segmentRow x o (f .first) (f .laying .row / leafRowSize + 2 - f .first)) is owner-by
+        ∙ ap₂ (λ (n m : ℕ). segmentRow (kindOfSegment ps last) (ownerBehind lv ps done (kindOfSegment ps last)) n m) first count
+
+    pub closed-rows : segments′ ≡ sets segments₀ 0 (closedRows lv ps so-far)
+    closed-rows =
         let place : (f .laying .segment - 1) * segmentRowSize ≡ length (closedRows lv ps done)
         = omega (arith, length-closedRows lv ps done, b .number) in
         w .row
-        ∙ ap₂ (λ (s r : List ℕ). sets s ((f .laying .segment - 1) * segmentRowSize) r) (b .rows)
-        (ap₂ (λ (x o : ℕ). segmentRow x o (f .first) (f .laying .row / leafRowSize + 2 - f .first)) is owner-by
-        ∙ ap₂ (λ (n m : ℕ). segmentRow (kindOfSegment ps last) (ownerBehind lv ps done (kindOfSegment ps last)) n m) first count)
-        ∙ sets-behind segments₀ (closedRows lv ps done)
-        (segmentRow (kindOfSegment ps last) (ownerBehind lv ps done (kindOfSegment ps last)) (1 + length (allLeaves ps done))
-        (length (leavesBehind ps done last)))
-        ((f .laying .segment - 1) * segmentRowSize) place
+        ∙ ap₂ (λ (s r : List ℕ). sets s ((f .laying .segment - 1) * segmentRowSize) r) (b .rows) row-closed
+        ∙ sets-behind segments₀ (closedRows lv ps done) (rowBehind lv ps done last) ((f .laying .segment - 1) * segmentRowSize) place
         ∙ ap (sets segments₀ 0) (sym (closedRows-last lv ps done last))
 
     -- and it is known itself

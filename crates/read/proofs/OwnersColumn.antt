@@ -37,4 +37,4 @@ module _ (L : Limits) (levels : ℕ → ℕ → ℕ) (message : List ℕ) (ps : 
       let few = w .sound .few-segments in
       let inside : i < length segs = omega (arith, segments-count) in
       subst (λ (s : List ℕ). RowOf levels ps segs s i) (sym (w .given .segmentRows))
-      (front-row segments rows i _ _ _ _ (omega (arith, size, room, few)) (omega (arith, size)) (table-rows levels ps segs i inside))
+      (front-row segments rows i (omega (arith, size, room, few)) (omega (arith, size)) (table-rows levels ps segs i inside))

@@ -10,21 +10,21 @@ use Rattle.form.specs.declared.separators.Separators.{Separators}
 use Rattle.line.specs.Finding.{lowRun}
 use Rattle.order.specs.Levels.{levelIn}
 use Rattle.order.specs.Owning.{Owned}
-use Rattle.table.specs.Rows.{segmentRowSize, leafRowSize, segmentRow}
+use Rattle.table.specs.Rows.{segmentRowSize, leafRowSize}
 use Rattle.table.specs.Filed.{headerBytes}
 use Rattle.table.specs.OnePass.{headerPass}
 use Rattle.read.specs.declared.lay.Laying.{Laying}
 use Rattle.read.specs.declared.lay.Laid.{Laid}
 use Rattle.read.specs.declared.fill.Filling.{Filling}
 use Rattle.read.specs.Laying.{leafPlace, rowOf, nextLeaf, nextSegment, PlaceCounted, Held, LaidBy}
-use Rattle.read.specs.Segments.{ClosedBy, begunAfter, HeaderPut, LineFilled}
+use Rattle.read.specs.Segments.{rowClosed, ClosedBy, begunAfter, HeaderPut, LineFilled}
 use Rattle.read.proofs.HeldLaws.{leaf-closes, held-begins, held-copied, held-put}
 
 -- a segment closed, from the level and the owner that were told of its kind
 pub closed-by : {f : Filling} {levels : List ℕ} {context : ℕ} {nearest segments leaves nearest′ segments′ leaves′ : List ℕ} {kind level owner : ℕ}
     → level ≡ levelIn levels context kind → Owned nearest nearest′ (f .laying .segment) kind level owner
     → leaves′ ≡ sets leaves (f .laying .row) (rowOf (f .laying))
-    → segments′ ≡ sets segments ((f .laying .segment - 1) * segmentRowSize) (segmentRow kind owner (f .first) (f .laying .row / leafRowSize + 2 - f .first))
+    → segments′ ≡ sets segments ((f .laying .segment - 1) * segmentRowSize) (rowClosed f kind owner)
     → ClosedBy f kind levels context nearest segments leaves nearest′ segments′ leaves′
 closed-by {f} {nearest = nearest} {nearest′ = nearest′} {kind = kind} {owner = owner} told owns leaf row =
     record {

@@ -26,6 +26,10 @@ use Rattle.read.specs.Filling.{Prepared}
 abbrev pub kindNoted : List ℕ → Filling → ℕ
 kindNoted kinds f = getD kinds (f .laying .segment - 1) 0
 
+-- the row of the segment begun, once its kind and its owner are known
+abbrev pub rowClosed : Filling → (kind owner : ℕ) → List ℕ
+rowClosed f kind owner = segmentRow kind owner (f .first) (f .laying .row / leafRowSize + 2 - f .first)
+
 -- what closing the segment begun asks: its kind noted, and room for the row of its last leaf and for its own row, whose numbers fit a row
 pub record Closable (f : Filling) (kinds segments leaves : List ℕ) : Type 0 where
   pub leaf : RowFits (f .laying) leaves
@@ -40,10 +44,7 @@ pub record ClosedBy (f : Filling) (kind : ℕ) (levels : List ℕ) (context : �
   pub leafRow : leaves′ ≡ sets leaves (f .laying .row) (rowOf (f .laying))
   pub owner : ℕ
   pub owns : Owned nearest nearest′ (f .laying .segment) kind (levelIn levels context kind) owner
-  pub row :
-      segments′
-      ≡ sets segments ((f .laying .segment - 1) * segmentRowSize)
-      (segmentRow kind owner (f .first) (f .laying .row / leafRowSize + 2 - f .first))
+  pub row : segments′ ≡ sets segments ((f .laying .segment - 1) * segmentRowSize) (rowClosed f kind owner)
 
 -- the state after a segment that has been closed
 abbrev pub begunAfter : Filling → Filling

@@ -17,7 +17,7 @@ use Rattle.order.specs.Owners.{owners}
 use Rattle.order.proofs.NoC.{owner-earlier}
 use Rattle.order.proofs.Owner.{length-owners}
 use Rattle.table.specs.Leaves.{Leaf, kindOfSegment, messageLeaves}
-use Rattle.table.specs.Rows.{Table, segmentRowsFrom, kindsOf, contextIn, allLeaves, tableOf}
+use Rattle.table.specs.Rows.{Table, Next, noneBefore, nextAfter, segmentRowsFrom, kindsOf, contextIn, allLeaves, tableOf}
 use Rattle.table.proofs.Accepting.{Judged}
 
 module _ (most : ℕ) where
@@ -36,23 +36,23 @@ module _ (most : ℕ) where
       below i less zero e = omega (arith, e)
       below i less (suc n) e = omega (arith, e, owner-earlier lv ks i n less e .before)
 
-  rows-few : (first : ℕ) (ks os : List ℕ) (ls : List (List Leaf)) → Few ks → Few os → first + length (concat ls) ≤ most
-      → Few (segmentRowsFrom first ks os ls)
+  rows-few : (n : Next) (ks os : List ℕ) (ls : List (List Leaf)) → Few ks → Few os → n .firstLeaf + length (concat ls) ≤ most
+      → Few (segmentRowsFrom n ks os ls)
   unfolding segmentRowsFrom concat
-  rows-few first [] os ls kinds owned fits = none
-  rows-few first (k ∷ ks) [] ls kinds owned fits = none
-  rows-few first (k ∷ ks) (o ∷ os) [] kinds owned fits = none
-  rows-few first (k ∷ ks) (o ∷ os) (l ∷ ls) kinds owned fits =
+  rows-few n [] os ls kinds owned fits = none
+  rows-few n (k ∷ ks) [] ls kinds owned fits = none
+  rows-few n (k ∷ ks) (o ∷ os) [] kinds owned fits = none
+  rows-few n (k ∷ ks) (o ∷ os) (l ∷ ls) kinds owned fits =
       let long = length-append l (concat ls) in
-      let rest = rows-few (first + length l) ks os ls (all-rest kinds) (all-rest owned) (omega (arith, fits, long)) in
-      also (all-first kinds) (also (all-first owned) (also {a = first} (omega (arith, fits)) (also {a = length l} (omega (arith, fits, long)) rest)))
+      let rest = rows-few (nextAfter n l) ks os ls (all-rest kinds) (all-rest owned) (omega (arith, fits, long)) in
+      also (all-first kinds) (also (all-first owned) (also {a = n .firstLeaf} (omega (arith, fits)) (also {a = length l} (omega (arith, fits, long)) rest)))
 
   pub judged-few : {L : Limits} {levels : ℕ → ℕ → ℕ} {ps : Separators} {segments : List (List ℕ)} {t : Table} → 12 ≤ most → L .segments ≤ most
       → L .leaves + 1 ≤ most → Judged L levels ps segments t → Few (t .segmentRows)
   unfolding tableOf kindsOf allLeaves
   judged-few {L} {levels} {ps} {segments} {t} kinds rows leaves w =
       subst⁻¹ (λ (u : Table). Few (u .segmentRows)) (w .table)
-      (rows-few 1 (kindsOf ps segments) (owners (levels (contextIn ps segments)) (kindsOf ps segments)) (messageLeaves ps segments)
+      (rows-few noneBefore (kindsOf ps segments) (owners (levels (contextIn ps segments)) (kindsOf ps segments)) (messageLeaves ps segments)
       (kinds-few kinds ps segments)
       (owners-few (levels (contextIn ps segments)) (kindsOf ps segments)
       (omega (arith, rows, w .few-segments, length-map segments (kindOfSegment ps))))

@@ -10,7 +10,7 @@ use Rattle.laws.proofs.Lists.{map-append}
 use Rattle.laws.proofs.Sums.{concat-append}
 use Rattle.form.specs.declared.separators.Separators.{Separators}
 use Rattle.table.specs.Leaves.{Leaf, kindOfSegment, segmentLeaves, headerLeaves, leavesFrom, messageLeaves}
-use Rattle.table.specs.Rows.{segmentRowSize, segmentRow, segmentRowsFrom, kindsOf, allLeaves}
+use Rattle.table.specs.Rows.{segmentRowSize, segmentRow, Next, noneBefore, nextAfter, rowNext, segmentRowsFrom, segmentRowsOf, kindsOf, allLeaves}
 
 -- the leaves of one segment more: of the H where it is the first
 unfoldable pub leavesBehind : Separators → List (List ℕ) → List ℕ → List Leaf
@@ -59,28 +59,42 @@ module _ (ps : Separators) where
   length-messageLeaves (h ∷ ss) = ap suc (length-leavesFrom 2 ss)
 
 -- columns of the same length make a row each, and one entry more in each makes one row more
-pub length-segmentRows : (first : ℕ) (ks os : List ℕ) (ls : List (List Leaf)) → length os ≡ length ks → length ls ≡ length ks
-    → length (segmentRowsFrom first ks os ls) ≡ length ks * segmentRowSize
+length-from : (n : Next) (ks os : List ℕ) (ls : List (List Leaf)) → length os ≡ length ks → length ls ≡ length ks
+    → length (segmentRowsFrom n ks os ls) ≡ length ks * segmentRowSize
 unfolding segmentRowsFrom
-length-segmentRows first [] os ls e f = refl
-length-segmentRows first (k ∷ ks) [] ls e f = absurd (omega arith)
-length-segmentRows first (k ∷ ks) (o ∷ os) [] e f = absurd (omega arith)
-length-segmentRows first (k ∷ ks) (o ∷ os) (l ∷ ls) e f =
-    omega (arith, length-segmentRows (first + length l) ks os ls (omega arith) (omega arith))
+length-from n [] os ls e f = refl
+length-from n (k ∷ ks) [] ls e f = absurd (omega arith)
+length-from n (k ∷ ks) (o ∷ os) [] e f = absurd (omega arith)
+length-from n (k ∷ ks) (o ∷ os) (l ∷ ls) e f = omega (arith, length-from (nextAfter n l) ks os ls (omega arith) (omega arith))
 
-pub segmentRows-last : (first : ℕ) (ks os : List ℕ) (ls : List (List Leaf)) (k o : ℕ) (l : List Leaf)
+unfoldable afterAll : Next → List (List Leaf) → Next
+afterAll n [] = n
+afterAll n (l ∷ ls) = afterAll (nextAfter n l) ls
+
+from-last : (n : Next) (ks os : List ℕ) (ls : List (List Leaf)) (k o : ℕ) (l : List Leaf)
     → length os ≡ length ks → length ls ≡ length ks
-    → segmentRowsFrom first (ks ++ (k ∷ [])) (os ++ (o ∷ [])) (ls ++ (l ∷ []))
-    ≡ segmentRowsFrom first ks os ls ++ segmentRow k o (first + length (concat ls)) (length l)
-unfolding segmentRowsFrom concat
-segmentRows-last first [] [] [] k o l e f =
-    ap {B = List ℕ} (λ n. segmentRow k o n (length l)) (omega arith)
-segmentRows-last first [] (p ∷ os) ls k o l e f = absurd (omega arith)
-segmentRows-last first [] [] (m ∷ ls) k o l e f = absurd (omega arith)
-segmentRows-last first (j ∷ ks) [] ls k o l e f = absurd (omega arith)
-segmentRows-last first (j ∷ ks) (p ∷ os) [] k o l e f = absurd (omega arith)
-segmentRows-last first (j ∷ ks) (p ∷ os) (m ∷ ls) k o l e f =
-    ap {B = List ℕ} (λ r. segmentRow j p first (length m) ++ r)
-    (segmentRows-last (first + length m) ks os ls k o l (omega arith) (omega arith)
-    ∙ ap {B = List ℕ} (λ n. segmentRowsFrom (first + length m) ks os ls ++ segmentRow k o n (length l))
-    (omega (arith, length-append m (concat ls))))
+    → segmentRowsFrom n (ks ++ (k ∷ [])) (os ++ (o ∷ [])) (ls ++ (l ∷ [])) ≡ segmentRowsFrom n ks os ls ++ rowNext (afterAll n ls) k o l
+unfolding segmentRowsFrom afterAll
+from-last n [] [] [] k o l e f = refl
+from-last n [] (p ∷ os) ls k o l e f = absurd (omega arith)
+from-last n [] [] (m ∷ ls) k o l e f = absurd (omega arith)
+from-last n (j ∷ ks) [] ls k o l e f = absurd (omega arith)
+from-last n (j ∷ ks) (p ∷ os) [] k o l e f = absurd (omega arith)
+from-last n (j ∷ ks) (p ∷ os) (m ∷ ls) k o l e f =
+    ap {B = List ℕ} (λ r. rowNext n j p m ++ r) (from-last (nextAfter n m) ks os ls k o l (omega arith) (omega arith))
+
+first-after : (n : Next) (ls : List (List Leaf)) → afterAll n ls .firstLeaf ≡ n .firstLeaf + length (concat ls)
+unfolding afterAll concat
+first-after n [] = omega arith
+first-after n (l ∷ ls) = first-after (nextAfter n l) ls ∙ omega (arith, length-append l (concat ls))
+
+module _ (ks os : List ℕ) (ls : List (List Leaf)) (owned : length os ≡ length ks) (grouped : length ls ≡ length ks) where
+  pub length-segmentRows : length (segmentRowsOf ks os ls) ≡ length ks * segmentRowSize
+  length-segmentRows = length-from noneBefore ks os ls owned grouped
+
+  pub segmentRows-last : (k o : ℕ) (l : List Leaf)
+      → segmentRowsOf (ks ++ (k ∷ [])) (os ++ (o ∷ [])) (ls ++ (l ∷ []))
+      ≡ segmentRowsOf ks os ls ++ segmentRow k o (1 + length (concat ls)) (length l)
+  segmentRows-last k o l =
+      from-last noneBefore ks os ls k o l owned grouped
+      ∙ ap (λ (first : ℕ). segmentRowsOf ks os ls ++ segmentRow k o first (length l)) (first-after noneBefore ls)

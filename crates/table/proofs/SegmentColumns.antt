@@ -13,7 +13,7 @@ use Rattle.form.specs.declared.separators.Separators.{Separators}
 use Rattle.order.specs.Owners.{owner, owners}
 use Rattle.order.proofs.Owner.{owners-at, length-owners}
 use Rattle.table.specs.Leaves.{Leaf, kindOfSegment, messageLeaves}
-use Rattle.table.specs.Rows.{segmentRowSize, segmentRow, segmentRowsFrom, RowIs, kindsOf, contextIn, tableOf}
+use Rattle.table.specs.Rows.{segmentRowSize, Next, noneBefore, nextAfter, rowNext, segmentRowsFrom, RowIs, kindsOf, contextIn, tableOf}
 use Rattle.table.proofs.RowsGrowing.{length-kinds, length-messageLeaves, length-segmentRows}
 use Rattle.table.proofs.Room.{front-at}
 
@@ -29,16 +29,16 @@ past-row row rows size m n e =
     ap (λ (i : ℕ). getD (row ++ rows) i 0) (let at : m ≡ length row + n = omega arith in at) ∙ getD-append-add row rows n 0
 
 -- the row of the columns at i
-pub rows-at : (first : ℕ) (ks os : List ℕ) (ls : List (List Leaf)) (i : ℕ) → length os ≡ length ks → length ls ≡ length ks → i < length ks
-    → RowIs (segmentRowsFrom first ks os ls) i (getD ks i 0) (getD os i 0) (first + length (concat (take i ls))) (length (getD ls i []))
+pub rows-at : (n : Next) (ks os : List ℕ) (ls : List (List Leaf)) (i : ℕ) → length os ≡ length ks → length ls ≡ length ks → i < length ks
+    → RowIs (segmentRowsFrom n ks os ls) i (getD ks i 0) (getD os i 0) (n .firstLeaf + length (concat (take i ls))) (length (getD ls i []))
 unfolding segmentRowsFrom concat
-rows-at first [] os ls i eo el h = absurd (not-suc-le-zero h)
-rows-at first (k ∷ ks) [] ls i eo el h = absurd (omega arith)
-rows-at first (k ∷ ks) (o ∷ os) [] i eo el h = absurd (omega arith)
-rows-at first (k ∷ ks) (o ∷ os) (l ∷ ls) zero eo el h = record { kind-is = refl; owner-is = refl; first-is = omega arith; count-is = refl }
-rows-at first (k ∷ ks) (o ∷ os) (l ∷ ls) (suc i) eo el h =
-    let w = rows-at (first + length l) ks os ls i (omega arith) (omega arith) (le-of-suc-le-suc h) in
-    let past = past-row (segmentRow k o first (length l)) (segmentRowsFrom (first + length l) ks os ls) refl in
+rows-at n [] os ls i eo el h = absurd (not-suc-le-zero h)
+rows-at n (k ∷ ks) [] ls i eo el h = absurd (omega arith)
+rows-at n (k ∷ ks) (o ∷ os) [] i eo el h = absurd (omega arith)
+rows-at n (k ∷ ks) (o ∷ os) (l ∷ ls) zero eo el h = record { kind-is = refl; owner-is = refl; first-is = omega arith; count-is = refl }
+rows-at n (k ∷ ks) (o ∷ os) (l ∷ ls) (suc i) eo el h =
+    let w = rows-at (nextAfter n l) ks os ls i (omega arith) (omega arith) (le-of-suc-le-suc h) in
+    let past = past-row (rowNext n k o l) (segmentRowsFrom (nextAfter n l) ks os ls) refl in
     record {
       kind-is = past (suc i * segmentRowSize) (i * segmentRowSize) (omega arith) ∙ w .kind-is;
       owner-is = past (suc i * segmentRowSize + 1) (i * segmentRowSize + 1) (omega arith) ∙ w .owner-is;
@@ -80,7 +80,7 @@ module _ (levels : ℕ → ℕ → ℕ) (ps : Separators) (segs : List (List ℕ
   table-rows i h =
       let within : i < length (kindsOf ps segs) = omega (arith, length-kinds ps segs) in
       let lv = levels (contextIn ps segs) in
-      let w = rows-at 1 (kindsOf ps segs) (owners lv (kindsOf ps segs)) (messageLeaves ps segs) i owners-count groups-count within in
+      let w = rows-at noneBefore (kindsOf ps segs) (owners lv (kindsOf ps segs)) (messageLeaves ps segs) i owners-count groups-count within in
       record {
         kind-is = w .kind-is ∙ kind-at i h;
         owner-is = w .owner-is ∙ owners-at lv (kindsOf ps segs) i within ∙ ap (owner lv (reverse (take i (kindsOf ps segs)))) (kind-at i h);
@@ -91,13 +91,13 @@ module _ (levels : ℕ → ℕ → ℕ) (ps : Separators) (segs : List (List ℕ
   pub length-table-rows : length (tableOf levels ps segs .segmentRows) ≡ length segs * segmentRowSize
   unfolding tableOf
   length-table-rows =
-      length-segmentRows 1 (kindsOf ps segs) (owners (levels (contextIn ps segs)) (kindsOf ps segs)) (messageLeaves ps segs) owners-count groups-count
+      length-segmentRows (kindsOf ps segs) (owners (levels (contextIn ps segs)) (kindsOf ps segs)) (messageLeaves ps segs) owners-count groups-count
       ∙ ap (λ (n : ℕ). n * segmentRowSize) (length-kinds ps segs)
 
 -- a row of what is stored at the front of a buffer is a row of the buffer
-pub front-row : (buffer front : List ℕ) (i kind owner first leaves : ℕ) → length front ≤ length buffer → suc i * segmentRowSize ≤ length front
+pub front-row : (buffer front : List ℕ) (i : ℕ) {kind owner first leaves : ℕ} → length front ≤ length buffer → suc i * segmentRowSize ≤ length front
     → RowIs front i kind owner first leaves → RowIs (sets buffer 0 front) i kind owner first leaves
-front-row buffer front i kind owner first leaves fits h w =
+front-row buffer front i fits h w =
     record {
       kind-is = front-at buffer front (i * segmentRowSize) fits (omega arith) ∙ w .kind-is;
       owner-is = front-at buffer front (i * segmentRowSize + 1) fits (omega arith) ∙ w .owner-is;

@@ -1,37 +1,46 @@
 -- Segment rows as a loop tests them: a row states its segment's kind, its owner, its first leaf and its leaf count.
 -- Assumes nothing.
-use mathlib.Core.List.{List, [], _∷_, map, head-eq-of-cons-eq, tail-eq-of-cons-eq}
+use mathlib.Core.List.{List, [], _∷_, _++_, map, head-eq-of-cons-eq, tail-eq-of-cons-eq}
 use mathlib.Core.Logic.{_↔_}
 use mathlib.Core.Path.{_≡_, refl, sym, ap, ap₂, _∙_}
 use Prim.Native.Nat.{ℕ, suc, _+_, _*_, _≤_}
 use native.Mathlib.Omega.{arith}
-use lib.ListN.{length, drop, getD}
+use lib.ListN.{length, drop, getD, length-map}
 use Rattle.laws.proofs.Parts.{left-cons}
 use Rattle.order.specs.Owners.{owner, owners, ownersAfter}
+use Rattle.order.proofs.Owner.{length-owners}
 use Rattle.table.specs.Leaves.{Leaf}
-use Rattle.table.specs.Rows.{segmentRowSize, segmentRowsFrom, segmentRowsOf, RowIs, kindIn, ownerIn, firstIn, countIn}
+use Rattle.table.specs.Rows.{segmentRowSize, segmentRow, Next, noneBefore, nextAfter, rowNext, segmentRowsFrom, segmentRowsOf, RowIs, kindIn, ownerIn, firstIn, countIn}
 use Rattle.table.specs.BySegment.{kindAmong}
-use Rattle.table.specs.RowTests.{rowsStated}
+use Rattle.table.specs.RowTests.{rowsStated, statedRows}
+use Rattle.table.proofs.RowsGrowing.{length-segmentRows}
 
 -- the rows of kinds, owners and leaves are those that the leaves state
-pub rows-stated : (lv : ℕ → ℕ) (first : ℕ) (before : List ℕ) (groups : List (List Leaf))
-    → segmentRowsFrom first (map kindAmong groups) (ownersAfter lv before (map kindAmong groups)) groups ≡ rowsStated lv first before groups
+pub rows-stated : (lv : ℕ → ℕ) (n : Next) (before : List ℕ) (groups : List (List Leaf))
+    → segmentRowsFrom n (map kindAmong groups) (ownersAfter lv before (map kindAmong groups)) groups ≡ rowsStated lv n before groups
 unfolding segmentRowsFrom ownersAfter rowsStated
-rows-stated lv first before [] = refl
-rows-stated lv first before (g ∷ gs) =
-    ap (λ (r : List ℕ). kindAmong g ∷ owner lv before (kindAmong g) ∷ first ∷ length g ∷ r)
-    (rows-stated lv (first + length g) (kindAmong g ∷ before) gs)
+rows-stated lv n before [] = refl
+rows-stated lv n before (g ∷ gs) =
+    ap (λ (r : List ℕ). rowNext n (kindAmong g) (owner lv before (kindAmong g)) g ++ r)
+    (rows-stated lv (nextAfter n g) (kindAmong g ∷ before) gs)
 
 pub owners-stated : (lv : ℕ → ℕ) (groups : List (List Leaf))
-    → segmentRowsOf (map kindAmong groups) (owners lv (map kindAmong groups)) groups ≡ rowsStated lv 1 [] groups
+    → segmentRowsOf (map kindAmong groups) (owners lv (map kindAmong groups)) groups ≡ statedRows lv groups
 unfolding owners
-owners-stated lv groups = rows-stated lv 1 [] groups
+owners-stated lv groups = rows-stated lv noneBefore [] groups
+
+-- as many rows as segments
+pub length-stated : (lv : ℕ → ℕ) (groups : List (List Leaf)) → length (statedRows lv groups) ≡ length groups * segmentRowSize
+length-stated lv groups =
+    ap length (sym (owners-stated lv groups))
+    ∙ length-segmentRows (map kindAmong groups) (owners lv (map kindAmong groups)) groups
+    (length-owners lv (map kindAmong groups)) (sym (length-map groups kindAmong))
+    ∙ ap (λ (n : ℕ). n * segmentRowSize) (length-map groups kindAmong)
 
 module _ (rows : List ℕ) (j : ℕ) (long : suc j * segmentRowSize ≤ length rows) where
   -- a row and the rows after it
   row-cons : drop (j * segmentRowSize) rows
-      ≡ kindIn rows j ∷ ownerIn rows j ∷ firstIn rows j
-      ∷ countIn rows j ∷ drop (suc j * segmentRowSize) rows
+      ≡ segmentRow (kindIn rows j) (ownerIn rows j) (firstIn rows j) (countIn rows j) ++ drop (suc j * segmentRowSize) rows
   row-cons =
       left-cons rows (j * segmentRowSize) 0 (omega arith)
       ∙ ap (λ (r : List ℕ). kindIn rows j ∷ r)
@@ -53,11 +62,11 @@ module _ (rows : List ℕ) (j : ℕ) (long : suc j * segmentRowSize ≤ length r
 
   -- what is left of the rows begins with given numbers exactly where row j has them
   pub row-states : (kind owner first count : ℕ) (more : List ℕ)
-      → (drop (j * segmentRowSize) rows ≡ kind ∷ owner ∷ first ∷ count ∷ more)
+      → (drop (j * segmentRowSize) rows ≡ segmentRow kind owner first count ++ more)
       ↔ (RowIs rows j kind owner first count × (drop (suc j * segmentRowSize) rows ≡ more))
   row-states kind owner first count more = (forth, back)
     where
-      forth : drop (j * segmentRowSize) rows ≡ kind ∷ owner ∷ first ∷ count ∷ more
+      forth : drop (j * segmentRowSize) rows ≡ segmentRow kind owner first count ++ more
           → RowIs rows j kind owner first count × (drop (suc j * segmentRowSize) rows ≡ more)
       forth e =
           let one = sym row-cons ∙ e in
@@ -74,7 +83,7 @@ module _ (rows : List ℕ) (j : ℕ) (long : suc j * segmentRowSize ≤ length r
           )
 
       back : RowIs rows j kind owner first count × (drop (suc j * segmentRowSize) rows ≡ more)
-          → drop (j * segmentRowSize) rows ≡ kind ∷ owner ∷ first ∷ count ∷ more
+          → drop (j * segmentRowSize) rows ≡ segmentRow kind owner first count ++ more
       back w =
           row-cons
           ∙ ap₂ (λ (a : ℕ) (r : List ℕ). a ∷ r) (w .0 .kind-is)

@@ -5,12 +5,11 @@ use mathlib.Core.Bool.{Bool, true, false, not, _&&_}
 use mathlib.Core.List.{List, [], _∷_, _++_}
 use Prim.Native.Nat.{ℕ, zero, suc, _+_}
 use lib.Dec.{leb, eqb}
-use lib.ListN.{length}
 use Rattle.laws.specs.Lists.{same, among}
 use Rattle.line.specs.Lines.{space}
 use Rattle.order.specs.Owners.{owner}
 use Rattle.table.specs.Leaves.{Leaf}
-use Rattle.table.specs.Rows.{segmentRow, startIn, lengthIn}
+use Rattle.table.specs.Rows.{Next, noneBefore, nextAfter, rowNext, startIn, lengthIn}
 use Rattle.table.specs.Flat.{ones}
 use Rattle.table.specs.BySegment.{kindAmong}
 
@@ -41,9 +40,12 @@ unfoldable pub goOnFrom : List ℕ → List ℕ → List Leaf → Bool
 goOnFrom ps place [] = false
 goOnFrom ps place (l ∷ ls) = same (l .place) place && leafText ps (l .text) && goOn ps (l .place) ls
 
--- the segment rows that the leaves of some segments state: `first` is the number of the first leaf, `before` the kinds of the segments
--- before them, the nearest first
-unfoldable pub rowsStated : (ℕ → ℕ) → ℕ → List ℕ → List (List Leaf) → List ℕ
-rowsStated lv first before [] = []
-rowsStated lv first before (g ∷ gs) =
-    segmentRow (kindAmong g) (owner lv before (kindAmong g)) first (length g) ++ rowsStated lv (first + length g) (kindAmong g ∷ before) gs
+-- the segment rows that the leaves of some segments state; `before` are the kinds of the segments before them, the nearest first
+unfoldable pub rowsStated : (ℕ → ℕ) → Next → List ℕ → List (List Leaf) → List ℕ
+rowsStated lv n before [] = []
+rowsStated lv n before (g ∷ gs) =
+    rowNext n (kindAmong g) (owner lv before (kindAmong g)) g ++ rowsStated lv (nextAfter n g) (kindAmong g ∷ before) gs
+
+-- all of them: no segment is before them
+abbrev pub statedRows : (ℕ → ℕ) → List (List Leaf) → List ℕ
+statedRows lv groups = rowsStated lv noneBefore [] groups

@@ -77,17 +77,31 @@ pub record Table : Type 0 where
   pub leafRows : List ℕ
   pub text : List ℕ
 
--- the segment rows, from the columns of kinds, owners and each segment's leaves, the next leaf being the number `first`
-unfoldable pub segmentRowsFrom : ℕ → List ℕ → List ℕ → List (List Leaf) → List ℕ
-segmentRowsFrom first [] os ls = []
-segmentRowsFrom first (k ∷ ks) [] ls = []
-segmentRowsFrom first (k ∷ ks) (o ∷ os) [] = []
-segmentRowsFrom first (k ∷ ks) (o ∷ os) (l ∷ ls) =
-    segmentRow k o first (length l) ++ segmentRowsFrom (first + length l) ks os ls
+-- what a segment's row takes from the segments before it, the number of its first leaf: of the first segment, and after one with these leaves
+pub record Next : Type 0 where
+  pub firstLeaf : ℕ
 
--- all of them: the first leaf has the number 1
+abbrev pub noneBefore : Next
+noneBefore = record { firstLeaf = 1 }
+
+abbrev pub nextAfter : Next → List Leaf → Next
+nextAfter n l = record { firstLeaf = n .firstLeaf + length l }
+
+-- the row that comes next, of a segment's kind, owner and leaves
+abbrev pub rowNext : Next → (kind owner : ℕ) → List Leaf → List ℕ
+rowNext n kind owner l = segmentRow kind owner (n .firstLeaf) (length l)
+
+-- the segment rows, from the columns of kinds, owners and each segment's leaves
+unfoldable pub segmentRowsFrom : Next → List ℕ → List ℕ → List (List Leaf) → List ℕ
+segmentRowsFrom n [] os ls = []
+segmentRowsFrom n (k ∷ ks) [] ls = []
+segmentRowsFrom n (k ∷ ks) (o ∷ os) [] = []
+segmentRowsFrom n (k ∷ ks) (o ∷ os) (l ∷ ls) =
+    rowNext n k o l ++ segmentRowsFrom (nextAfter n l) ks os ls
+
+-- all of them
 abbrev pub segmentRowsOf : (kinds owners : List ℕ) (leaves : List (List Leaf)) → List ℕ
-segmentRowsOf kinds owners leaves = segmentRowsFrom 1 kinds owners leaves
+segmentRowsOf kinds owners leaves = segmentRowsFrom noneBefore kinds owners leaves
 
 -- the leaf rows: texts lie end to end in the text area, without separators
 unfoldable pub leafRowsFrom : ℕ → List Leaf → List ℕ

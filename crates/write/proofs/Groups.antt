@@ -15,17 +15,17 @@ use Rattle.laws.specs.Tables.{values}
 use Rattle.laws.proofs.Cases.{less-or-not}
 use Rattle.laws.proofs.Every.{all-of}
 use Rattle.laws.proofs.Tables.{length-values, getD-values}
-use Rattle.laws.proofs.Tests.{Tested, passed, failed, tested, never-both, and-first, and-second, and-passed, and-fails-first, and-fails-second}
+use Rattle.laws.proofs.Tests.{Tested, passed, failed, tested, never-both, and-first, and-passed, and-fails-first}
 use Rattle.form.specs.Names.{numberAmong, contextNames}
 use Rattle.table.specs.Leaves.{Leaf}
-use Rattle.table.specs.Rows.{kindIn, firstIn, countIn, segmentIn, fieldIn}
+use Rattle.table.specs.Rows.{countIn, segmentIn, fieldIn}
 use Rattle.table.specs.Flat.{leaf}
 use Rattle.table.specs.Back.{leafAt}
 use Rattle.table.specs.BySegment.{segmentOf, withLeaf, bySegment, kindAmong, numberOfField, contextAmong}
 use Rattle.table.proofs.BySegment.{InSegment, Ended, group-first}
 use Rattle.write.specs.Tests.{groupsIn, leavesBetween, SegmentEnd, FieldLeaf, rowStates, groupsStated}
 use Rattle.write.proofs.Said.{answered-no, answered-yes}
-use Rattle.write.proofs.SegmentTests.{row-segment, leaves-cons, leaves-none, SomeEnd, segment-ends}
+use Rattle.write.proofs.SegmentTests.{row-segment, leaves-cons, leaves-none, SomeEnd, segment-ends, states-all, states-another}
 
 -- all the leaves
 pub leaves-all : (rows text : List ℕ) (count : ℕ) → leavesBetween rows text 0 count ≡ values (leafAt rows text) 0 count
@@ -189,18 +189,13 @@ module _ {segments : List ℕ} {many : ℕ} {rows text : List ℕ} {count i firs
 pub grouping-otherwise : {segments : List ℕ} {many : ℕ} {rows text : List ℕ} {count i first : ℕ} → Grouping segments many rows text count i first → i < many
     → {stated : ℕ} → stated ≡ countIn segments i → (SegmentEnd rows count first (first + stated) → ⊥)
     → false ≡ groupsStated segments 0 many 1 (groupsIn rows text count)
-unfolding rowStates
 grouping-otherwise {segments} {many} {rows} {text} {count} {i} {first} w h {stated} is n = go (less-or-not first count)
   where
     refuted : SomeEnd rows count first → false ≡ groupsStated segments 0 many 1 (groupsIn rows text count)
     refuted v =
         grouping-fails w h (v .ends)
-        (and-fails-second
-        (not (eqb (kindAmong (leavesBetween rows text first (v .end))) 0)
-        && eqb (kindIn segments i) (kindAmong (leavesBetween rows text first (v .end)))
-        && eqb (firstIn segments i) (first + 1))
-        (ne-eqb (countIn segments i) (v .end - first)
-        (λ e. n (subst (SegmentEnd rows count first) (let q : v .end ≡ first + stated = omega (arith, v .ends .from, is, e) in q) (v .ends)))))
+        (states-another segments i (kindAmong (leavesBetween rows text first (v .end))) (first + 1) (v .end - first)
+        (λ e. n (subst (SegmentEnd rows count first) (let q : v .end ≡ first + stated = omega (arith, v .ends .from, is, e) in q) (v .ends))))
 
     go : (first < count) ⊎ (count ≤ first) → false ≡ groupsStated segments 0 many 1 (groupsIn rows text count)
     go (inl l) = refuted (segment-ends rows count first l)
@@ -214,7 +209,6 @@ pub record StatedEnd (segments : List ℕ) (many : ℕ) (rows text : List ℕ) (
 pub grouping-ends : {segments : List ℕ} {many : ℕ} {rows text : List ℕ} {count i first : ℕ} → Grouping segments many rows text count i first → i < many
     → groupsStated segments 0 many 1 (groupsIn rows text count) ≡ true
     → {stated : ℕ} → stated ≡ countIn segments i → StatedEnd segments many rows text count i first (first + stated)
-unfolding rowStates
 grouping-ends {segments} {many} {rows} {text} {count} {i} {first} w h all {stated} is = go (less-or-not first count)
   where
     found : SomeEnd rows count first → StatedEnd segments many rows text count i first (first + stated)
@@ -223,12 +217,7 @@ grouping-ends {segments} {many} {rows} {text} {count} {i} {first} w h all {state
         let later = groupsStated segments (i + 1) (many - (i + 1)) (v .end + 1) (bySegment (leavesBetween rows text (v .end) count)) in
         let so : states ≡ true = and-first states later (grouping-turn w h (v .ends) ∙ all) in
         let counts : countIn segments i ≡ v .end - first =
-        eqb-true (countIn segments i) (v .end - first)
-        (and-second
-        (not (eqb (kindAmong (leavesBetween rows text first (v .end))) 0)
-        && eqb (kindIn segments i) (kindAmong (leavesBetween rows text first (v .end)))
-        && eqb (firstIn segments i) (first + 1))
-        (eqb (countIn segments i) (v .end - first)) so) in
+        states-all segments i (kindAmong (leavesBetween rows text first (v .end))) (first + 1) (v .end - first) so .same-count in
         subst (StatedEnd segments many rows text count i first) (let q : v .end ≡ first + stated = omega (arith, v .ends .from, is, counts) in q)
         (record { ends = v .ends; on = grouping-on w h (v .ends) so })
 

@@ -1,14 +1,13 @@
 -- The tests that the code makes are passed exactly where the table is sound row by row.
 -- Assumes nothing.
-use mathlib.Core.Bool.{true, not, _&&_}
+use mathlib.Core.Bool.{true}
 use mathlib.Core.List.{List, [], _∷_, map}
 use mathlib.Core.Logic.{_⊎_, inl, inr}
 use mathlib.Core.Path.{_≡_, refl, sym, ap, ap₂, _∙_}
 use Prim.Native.Nat.{ℕ, zero, suc, _+_, _-_, _*_, _≤_, _<_}
 use native.Mathlib.Omega.{arith}
-use lib.Dec.{eqb}
 use lib.ListN.{length, drop, drop-of-length-le}
-use borrow.Author.Tests.{eqb-true, eqb-false, eq-eqb, ne-eqb, not-true}
+use borrow.Author.Tests.{eq-eqb}
 use Rattle.laws.specs.Every.{All, none, also}
 use Rattle.laws.specs.Tables.{values}
 use Rattle.laws.proofs.Cases.{less-or-not}
@@ -17,7 +16,7 @@ use Rattle.form.specs.declared.separators.Separators.{Separators}
 use Rattle.form.specs.Header.{splitting}
 use Rattle.table.specs.Leaves.{Leaf}
 use Rattle.table.specs.Flat.{leaf}
-use Rattle.table.specs.Rows.{Table, segmentRowSize, segmentRowsFrom, kindIn, ownerIn, firstIn, countIn}
+use Rattle.table.specs.Rows.{Table, segmentRowSize, segmentRowsFrom, kindIn, ownerIn}
 use Rattle.table.specs.Back.{leafAt, leavesOf, separatorsAt, separatorsIn}
 use Rattle.table.specs.BySegment.{kindAmong}
 use Rattle.table.specs.RowTests.{goOnFrom}
@@ -25,6 +24,7 @@ use Rattle.table.proofs.SegmentRows.{row-states}
 use Rattle.write.specs.Local.{HeaderRows, thirdPlace}
 use Rattle.write.proofs.HeaderTest.{header-leaves, leaves-header}
 use Rattle.write.proofs.GoingOn.{sound-parts}
+use Rattle.write.proofs.SegmentTests.{states-all, all-stated}
 use Rattle.write.specs.Tests.{leavesBetween, rowStates, groupsStated, soundLeaves}
 
 -- segment rows against their columns
@@ -32,37 +32,26 @@ module _ (segs : List ℕ) where
   pub record Stated (i n first : ℕ) (groups : List (List Leaf)) : Type 0 where
     pub kinds : values (kindIn segs) i n ≡ map kindAmong groups
     pub known : All (λ (k : ℕ). k ≡ 0 → ⊥) (map kindAmong groups)
-    pub rows : drop (i * segmentRowSize) segs ≡ segmentRowsFrom first (map kindAmong groups) (values (ownerIn segs) i n) groups
+    pub rows : drop (i * segmentRowSize) segs ≡ segmentRowsFrom (record { firstLeaf = first }) (map kindAmong groups) (values (ownerIn segs) i n) groups
 
   pub stated-rows : (i n first : ℕ) (groups : List (List Leaf)) → length segs ≡ (i + n) * segmentRowSize → groupsStated segs i n first groups ≡ true
       → Stated i n first groups
-  unfolding groupsStated values segmentRowsFrom rowStates
+  unfolding groupsStated values segmentRowsFrom
   stated-rows i zero first [] long h = record { kinds = refl; known = none; rows = drop-of-length-le segs {i = i * segmentRowSize} (omega arith) }
   stated-rows i zero first (g ∷ gs) long h = absurd (never-both h refl)
   stated-rows i (suc n) first [] long h = absurd (never-both h refl)
   stated-rows i (suc n) first (g ∷ gs) long h =
-      let a = not (eqb (kindAmong g) 0) in
-      let b = eqb (kindIn segs i) (kindAmong g) in
-      let d = eqb (firstIn segs i) first in
-      let e = eqb (countIn segs i) (length g) in
+      let here = rowStates segs i (kindAmong g) first (length g) in
       let later = groupsStated segs (suc i) n (first + length g) gs in
-      let r = and-first (a && b && d && e) later h in
-      let abd = and-first (a && b && d) e r in
-      let ab = and-first (a && b) d abd in
-      let ih = stated-rows (suc i) n (first + length g) gs (omega arith) (and-second (a && b && d && e) later h) in
-      let k = eqb-true (kindIn segs i) (kindAmong g) (and-second a b ab) in
+      let w = states-all segs i (kindAmong g) first (length g) (and-first here later h) in
+      let ih = stated-rows (suc i) n (first + length g) gs (omega arith) (and-second here later h) in
       record {
-        kinds = ap₂ (λ (x : ℕ) (s : List ℕ). x ∷ s) k (ih .kinds);
-        known = also (eqb-false (kindAmong g) 0 (not-true (eqb (kindAmong g) 0) (and-first a b ab))) (ih .known);
+        kinds = ap₂ (λ (x : ℕ) (s : List ℕ). x ∷ s) (w .same-kind) (ih .kinds);
+        known = also (w .unlike-none) (ih .known);
         rows =
             row-states segs i (omega arith) (kindAmong g) (ownerIn segs i) first (length g)
-            (segmentRowsFrom (first + length g) (map kindAmong gs) (values (ownerIn segs) (suc i) n) gs) .1 (
-              record {
-                kind-is = k;
-                owner-is = refl;
-                first-is = eqb-true (firstIn segs i) first (and-second (a && b) d abd);
-                count-is = eqb-true (countIn segs i) (length g) (and-second (a && b && d) e r);
-              },
+            (segmentRowsFrom (record { firstLeaf = first + length g }) (map kindAmong gs) (values (ownerIn segs) (suc i) n) gs) .1 (
+              record { kind-is = w .same-kind; owner-is = refl; first-is = w .same-first; count-is = w .same-count },
               ih .rows,
             );
       }
@@ -74,23 +63,21 @@ module _ (segs : List ℕ) where
 
   pub rows-again : (i n first : ℕ) (groups : List (List Leaf)) (os : List ℕ) → length segs ≡ (i + n) * segmentRowSize → length groups ≡ n
       → All (λ (k : ℕ). k ≡ 0 → ⊥) (map kindAmong groups) → length os ≡ n
-      → drop (i * segmentRowSize) segs ≡ segmentRowsFrom first (map kindAmong groups) os groups → Again i n first groups os
-  unfolding groupsStated values segmentRowsFrom rowStates
+      → drop (i * segmentRowSize) segs ≡ segmentRowsFrom (record { firstLeaf = first }) (map kindAmong groups) os groups → Again i n first groups os
+  unfolding groupsStated values segmentRowsFrom
   rows-again i zero first [] [] long same-many known fit e = record { stated = refl; owners-are = refl; kinds-are = refl }
   rows-again i zero first [] (o ∷ os) long same-many known fit e = absurd (omega arith)
   rows-again i zero first (g ∷ gs) os long same-many known fit e = absurd (omega arith)
   rows-again i (suc n) first [] os long same-many known fit e = absurd (omega arith)
   rows-again i (suc n) first (g ∷ gs) [] long same-many known fit e = absurd (omega arith)
   rows-again i (suc n) first (g ∷ gs) (o ∷ os) long same-many (also k ks) fit e =
-      let w = row-states segs i (omega arith) (kindAmong g) o first (length g) (segmentRowsFrom (first + length g) (map kindAmong gs) os gs) .0 e in
+      let w = row-states segs i (omega arith) (kindAmong g) o first (length g) (segmentRowsFrom (record { firstLeaf = first + length g }) (map kindAmong gs) os gs) .0 e in
       let ih = rows-again (suc i) n (first + length g) gs os (omega arith) (omega arith) ks (omega arith) (w .1) in
       record {
         stated =
             and-both
-            (and-both
-            (and-both (and-both (ap not (ne-eqb (kindAmong g) 0 k)) (eq-eqb (kindIn segs i) (kindAmong g) (w .0 .kind-is)))
-            (eq-eqb (firstIn segs i) first (w .0 .first-is)))
-            (eq-eqb (countIn segs i) (length g) (w .0 .count-is)))
+            (all-stated segs i (kindAmong g) first (length g)
+            (record { unlike-none = k; same-kind = w .0 .kind-is; same-first = w .0 .first-is; same-count = w .0 .count-is }))
             (ih .stated);
         owners-are = ap₂ (λ (x : ℕ) (s : List ℕ). x ∷ s) (w .0 .owner-is) (ih .owners-are);
         kinds-are = ap₂ (λ (x : ℕ) (s : List ℕ). x ∷ s) (w .0 .kind-is) (ih .kinds-are);

@@ -2,10 +2,10 @@
 -- counts.
 -- Assumes nothing.
 use mathlib.Core.Bool.{true}
-use mathlib.Core.List.{List, [], _∷_}
+use mathlib.Core.List.{List, _∷_}
 use mathlib.Core.Logic.{_↔_}
 use mathlib.Core.Path.{_≡_, refl, sym, ap, _∙_, subst}
-use Prim.Native.Nat.{ℕ, _+_, _*_}
+use Prim.Native.Nat.{ℕ, _*_}
 use native.Mathlib.Omega.{arith}
 use lib.ListN.{length, drop}
 use Rattle.laws.specs.Every.{All}
@@ -18,28 +18,20 @@ use Rattle.form.proofs.HeaderRule.{AllAllowed, all-allowed-facts, different-fac
 use Rattle.line.specs.Lines.{CR}
 use Rattle.table.specs.Leaves.{Leaf}
 use Rattle.table.specs.Filed.{headerBytes}
-use Rattle.table.specs.Rows.{Table, segmentRowSize, leafRowSize, leafRowsFrom, textOf}
+use Rattle.table.specs.Rows.{Table, leafRowSize, leafRowsFrom, textOf}
 use Rattle.table.specs.Back.{leafAt, leavesOf, separatorsIn, segmentsOf}
-use Rattle.table.specs.BySegment.{kindAmong}
-use Rattle.table.specs.RowTests.{endToEnd, goOnFrom, rowsStated}
+use Rattle.table.specs.RowTests.{endToEnd, goOnFrom}
 use Rattle.table.specs.Sound.{Sound}
 use Rattle.table.proofs.EndToEnd.{end-to-end}
 use Rattle.table.proofs.LeafTexts.{AllText, headed-text}
 use Rattle.table.proofs.LeafRows.{Placed, all-placed, length-leafRows}
-use Rattle.table.proofs.SegmentRows.{owners-stated}
+use Rattle.table.proofs.SegmentRows.{owners-stated, length-stated}
 use Rattle.table.proofs.SoundRows.{coarsest-different, begin-sound}
 use Rattle.write.specs.Local.{HeaderRows, groupsOf, kindsAmong, thirdPlace, Local}
 use Rattle.write.specs.RowByRow.{Sized, RowByRow}
 use Rattle.write.specs.Writing.{readsBack}
 use Rattle.write.proofs.TableLeaves.{headed-leaves}
 use Rattle.write.proofs.LocalTables.{local-leaves, reads-back-local}
-
--- as many segment rows as segments
-length-stated : (lv : ℕ → ℕ) (first : ℕ) (before : List ℕ) (groups : List (List Leaf))
-    → length (rowsStated lv first before groups) ≡ length groups * segmentRowSize
-unfolding rowsStated
-length-stated lv first before [] = refl
-length-stated lv first before (g ∷ gs) = omega (arith, length-stated lv (first + length g) (kindAmong g ∷ before) gs)
 
 -- the header's bytes are text, and so are a table's where those of the leaves after it are
 module _ (t : Table) (header : HeaderRows t) (others : Sound (CR ∷ splitting (separatorsIn t)) thirdPlace (drop 2 (leavesOf t))) where
@@ -92,7 +84,7 @@ module _ {L : Limits} {levels : ℕ → ℕ → ℕ} {t : Table} where
         kinds = w .kinds;
         segmentRows = w .stated ∙ sym (owners-stated (levels (t .card .context)) (groupsOf t));
         segmentCount =
-            omega (arith, sized .segmentRows, ap length (w .stated), length-stated (levels (t .card .context)) 1 [] (groupsOf t));
+            omega (arith, sized .segmentRows, ap length (w .stated), length-stated (levels (t .card .context)) (groupsOf t));
         textCount = sym (sized .text);
         few = w .few;
       }
@@ -119,7 +111,7 @@ module _ {L : Limits} {levels : ℕ → ℕ → ℕ} {t : Table} where
               arith,
               w .segmentCount,
               ap length (w .segmentRows ∙ owners-stated (levels (t .card .context)) (groupsOf t)),
-              length-stated (levels (t .card .context)) 1 [] (groupsOf t),
+              length-stated (levels (t .card .context)) (groupsOf t),
             );
         leafRows =
             ap length (w .leafRows)

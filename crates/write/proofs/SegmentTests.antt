@@ -1,6 +1,6 @@
 -- The tests of segments as loops make them over leaf rows: where a segment ends, where one of its fields stands, what its texts count.
 -- Assumes nothing.
-use mathlib.Core.Bool.{Bool, false, not, _&&_, cond}
+use mathlib.Core.Bool.{Bool, true, false, not, _&&_, cond}
 use mathlib.Core.List.{List, [], _∷_}
 use mathlib.Core.Logic.{_⊎_, inl, inr}
 use mathlib.Core.Path.{_≡_, refl, sym, ap, ap₂, _∙_}
@@ -10,10 +10,10 @@ use native.Mathlib.Numerals.{add-one}
 use lib.Dec.{eqb}
 use lib.ListN.{length, take, drop, getD, length-drop}
 use lib.Seq.{getD-drop, length-take-le, getD-take}
-use borrow.Author.Tests.{eq-eqb, ne-eqb, lt-ltb, le-ltb}
+use borrow.Author.Tests.{eqb-true, eqb-false, eq-eqb, ne-eqb, lt-ltb, le-ltb, not-true}
 use Rattle.laws.specs.Tables.{values}
 use Rattle.laws.proofs.Cases.{less-or-not, equal-or-not}
-use Rattle.laws.proofs.Tests.{and-passed, and-both, and-fails-first, and-fails-second}
+use Rattle.laws.proofs.Tests.{and-first, and-second, and-passed, and-both, and-fails-first, and-fails-second}
 use Rattle.form.specs.Names.{numberAmong}
 use Rattle.table.specs.Rows.{leafRowSize, kindIn, firstIn, countIn, segmentIn, fieldIn, startIn, lengthIn}
 use Rattle.table.specs.Back.{leafAt}
@@ -202,6 +202,37 @@ module _ (rows : List ℕ) (i kind first count : ℕ) where
 
   abbrev count-is : Bool
   count-is = eqb (countIn rows i) count
+
+  -- what such a row states
+  pub record RowStated : Type 0 where
+    pub unlike-none : kind ≡ 0 → ⊥
+    pub same-kind : kindIn rows i ≡ kind
+    pub same-first : firstIn rows i ≡ first
+    pub same-count : countIn rows i ≡ count
+
+  pub states-all : rowStates rows i kind first count ≡ true → RowStated
+  unfolding rowStates
+  states-all e =
+      let three = and-first (known && kind-is && first-is) count-is e in
+      let two = and-first (known && kind-is) first-is three in
+      record {
+        unlike-none = eqb-false kind 0 (not-true (eqb kind 0) (and-first known kind-is two));
+        same-kind = eqb-true (kindIn rows i) kind (and-second known kind-is two);
+        same-first = eqb-true (firstIn rows i) first (and-second (known && kind-is) first-is three);
+        same-count = eqb-true (countIn rows i) count (and-second (known && kind-is && first-is) count-is e);
+      }
+
+  pub all-stated : RowStated → rowStates rows i kind first count ≡ true
+  unfolding rowStates
+  all-stated w =
+      and-both
+      (and-both (and-both (ap not (ne-eqb kind 0 (w .unlike-none))) (eq-eqb (kindIn rows i) kind (w .same-kind))) (eq-eqb (firstIn rows i) first (w .same-first)))
+      (eq-eqb (countIn rows i) count (w .same-count))
+
+  -- a row that states another count
+  pub states-another : (countIn rows i ≡ count → ⊥) → rowStates rows i kind first count ≡ false
+  unfolding rowStates
+  states-another n = and-fails-second (known && kind-is && first-is) (ne-eqb (countIn rows i) count n)
 
   pub states-unknown : kind ≡ 0 → false ≡ rowStates rows i kind first count
   unfolding rowStates

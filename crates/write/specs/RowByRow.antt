@@ -2,7 +2,6 @@
 -- segment row against the leaves of its segment.
 -- Assumes nothing.
 use mathlib.Core.Bool.{true}
-use mathlib.Core.List.{[]}
 use mathlib.Core.Path.{_≡_}
 use Prim.Native.Nat.{ℕ, _*_}
 use lib.ListN.{length, drop}
@@ -10,7 +9,7 @@ use Rattle.form.specs.declared.limits.Limits.{Limits}
 use Rattle.form.specs.Header.{splitting}
 use Rattle.table.specs.Rows.{Table, segmentRowSize, leafRowSize}
 use Rattle.table.specs.Back.{leavesOf, separatorsIn}
-use Rattle.table.specs.RowTests.{endToEnd, goOnFrom, rowsStated}
+use Rattle.table.specs.RowTests.{endToEnd, goOnFrom, statedRows}
 use Rattle.write.specs.Local.{HeaderRows, KindRows, FewRows, groupsOf, thirdPlace}
 
 -- a table whose lists have the entries that its card counts, as those of a lent table within its buffers do
@@ -27,5 +26,5 @@ pub record RowByRow (L : Limits) (levels : ℕ → ℕ → ℕ) (t : Table) : Ty
   pub laid : endToEnd (t .leafRows) (t .card .text) 0 (t .card .leaves) 0 ≡ true
   pub kinds : KindRows t
   -- each segment row states the leaves of its segment, and there is no other row
-  pub stated : t .segmentRows ≡ rowsStated (levels (t .card .context)) 1 [] (groupsOf t)
+  pub stated : t .segmentRows ≡ statedRows (levels (t .card .context)) (groupsOf t)
   pub few : FewRows L t
