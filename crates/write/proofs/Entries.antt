@@ -9,8 +9,7 @@ use Rattle.form.specs.declared.limits.Limits.{Limits}
 use Rattle.form.specs.Numbers.{shortOutput, noTable}
 use Rattle.table.specs.Rows.{Table}
 use Rattle.table.specs.Back.{linesOf, written}
-use Rattle.table.specs.Lent.{Lent, withinLimits, counted, SameCounted}
-use Rattle.table.proofs.Lent.{same-within}
+use Rattle.table.specs.Lent.{Lent, withinLimits, withinBuffers, counted}
 use Rattle.write.specs.Writing.{Writing, refuses, writes, readsBack, isTable, writing}
 
 module _ (L : Limits) (levels : ℕ → ℕ → ℕ) where
@@ -25,10 +24,12 @@ module _ (L : Limits) (levels : ℕ → ℕ → ℕ) where
         | false ↦ elim b [ true ↦ writes (written L t) (length (linesOf L t)) | false ↦ refuses noTable ]
       ]
 
-  pub uncounted-test : (l k : Lent) → SameCounted l k → isTable L levels l ≡ isTable L levels k
-  unfolding isTable counted test
-  uncounted-test l k w = ap₂ test (same-within l k w) (w .entries)
+  -- of two lent tables with the same counted entries, both within their buffers or neither, however long these are
+  module _ (l k : Lent) (within : withinBuffers l ≡ withinBuffers k) (entries : counted l ≡ counted k) where
+    pub uncounted-test : isTable L levels l ≡ isTable L levels k
+    unfolding isTable counted test
+    uncounted-test = ap₂ test within entries
 
-  pub uncounted-writing : (l k : Lent) (output : ℕ) → SameCounted l k → writing L levels l output ≡ writing L levels k output
-  unfolding writing wrote
-  uncounted-writing l k output w = ap₂ (λ (b : Bool) (t : Table). wrote b t output) (uncounted-test l k w) (w .entries)
+    pub uncounted-writing : (output : ℕ) → writing L levels l output ≡ writing L levels k output
+    unfolding writing wrote
+    uncounted-writing output = ap₂ (λ (b : Bool) (t : Table). wrote b t output) uncounted-test entries
