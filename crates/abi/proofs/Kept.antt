@@ -13,7 +13,7 @@ use Rattle.laws.proofs.Cases.{less-or-not}
 use Rattle.laws.proofs.Tests.{and-passed, never-both}
 use Rattle.line.specs.declared.finder.Found.{Found}
 use Rattle.order.specs.declared.watcher.Watcher.{Watcher}
-use Rattle.order.specs.Watcher.{tellOf}
+use Rattle.order.specs.inner.Telling.{tellOf}
 use Rattle.order.proofs.Watched.{stays}
 use Rattle.table.specs.Lent.{Lent}
 use Rattle.table.specs.Reading.{Outcome, refused, accepted}

@@ -9,7 +9,7 @@ use native.Mathlib.Omega.{arith}
 use lib.Dec.{lit≤}
 use lib.ListN.{getD}
 use Rattle.order.specs.Contexts.{isContext}
-use Rattle.order.specs.Watcher.{allows, allowsNext, tellBy, tellOf}
+use Rattle.order.specs.inner.Telling.{allows, allowsNext, tellBy, tellOf}
 use Rattle.abi.specs.Putting.{putAll}
 use Rattle.abi.specs.Reading.{ReadInto}
 use Rattle.abi.specs.Watching.{watcherBytes, watcherOf, Watched}

@@ -8,7 +8,7 @@ use borrow.Author.Tests.{le-leb, lt-leb}
 use lib.ListN.{length, getD, set}
 use Rattle.laws.proofs.Tests.{and-passed, and-fails-first}
 use Rattle.order.specs.declared.watcher.Told.{Told}
-use Rattle.order.specs.Watcher.{tellOf}
+use Rattle.order.specs.inner.Telling.{tellOf}
 use Rattle.abi.specs.Watching.{watcherBytes, watcherOf, saysYes, Watched}
 use Rattle.abi.proofs.Puts.{put-short, put-whole}
 

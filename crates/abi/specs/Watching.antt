@@ -7,7 +7,7 @@ use Prim.Native.Nat.{ℕ}
 use lib.Dec.{leb}
 use lib.ListN.{length, getD}
 use Rattle.order.specs.declared.watcher.Watcher.{Watcher}
-use Rattle.order.specs.Watcher.{tellOf}
+use Rattle.order.specs.inner.Telling.{tellOf}
 use Rattle.abi.specs.Putting.{putAll}
 
 -- the two bytes of a watcher

@@ -19,7 +19,8 @@ use Rattle.form.specs.Numbers.{noTable}
 use Rattle.line.specs.Lines.{walk, texts}
 use Rattle.order.specs.Grammar.{Tree, word, Derives, Begins}
 use Rattle.order.specs.Contexts.{grammar}
-use Rattle.order.specs.Watcher.{begun, watched, said, tellOf}
+use Rattle.order.specs.Watcher.{begun, watched, said}
+use Rattle.order.specs.inner.Telling.{tellOf}
 use Rattle.order.proofs.OneTree.{one-derivation}
 use Rattle.order.proofs.Watched.{yes-exactly}
 use Rattle.table.specs.Lent.{Lent, withinBuffers, counted}
@@ -28,7 +29,7 @@ use Rattle.table.specs.Reading.{Room, Outcome, accepted, reading, stated}
 use Rattle.table.specs.Back.{linesOf, written}
 use Rattle.read.specs.declared.Answer.{Answer}
 use Rattle.read.specs.Answering.{ReadAs, noCard, roomOf}
-use Rattle.read.specs.Filling.{segmentsIn}
+use Rattle.read.specs.Sound.{segmentsIn}
 use Rattle.read.specs.Sound.{SoundLines, SoundMessage}
 use Rattle.read.proofs.OnlyOne.{only-one, refused-unchanged}
 use Rattle.read.proofs.Acceptance.{accepted-exactly, Read, accepted-read}

@@ -11,14 +11,15 @@ use lib.Dec.{leb, eqb}
 use lib.ListN.{length, getD, take}
 use borrow.Author.Tests.{leb-true, leb-false, eqb-true, eqb-false, le-leb, lt-leb}
 use Rattle.laws.specs.Lists.{same, firstFrom}
-use Rattle.laws.specs.Tables.{everyFrom}
+use Rattle.laws.specs.inner.Tests.{everyFrom}
 use Rattle.laws.specs.Texts.{bytes}
 use Rattle.laws.proofs.Lists.{every, every-element, same-self, same-equal, different-same, Found, first-none, first-some, first-found}
 use Rattle.laws.proofs.Tables.{every-at}
 use Rattle.laws.proofs.Tests.{either}
 use Rattle.form.specs.Header.{within}
 use Rattle.form.proofs.HeaderRule.{within-bounds}
-use Rattle.form.specs.Names.{kindNames, contextNames, numberAmong, kindOf, contextOf, spelledAmong}
+use Rattle.form.specs.Names.{kindNames, contextNames, numberAmong, kindOf, contextOf}
+use Rattle.form.specs.inner.Spelling.{spelledAmong}
 
 -- whether a text has at most three letters, and whether it has capital letters alone
 unfoldable pub short : List ℕ → Bool

@@ -15,7 +15,8 @@ use Rattle.laws.specs.Texts.{bytes}
 use Rattle.laws.proofs.Bytes.{Bytes}
 use Rattle.laws.proofs.Lists.{every, same-self, same-equal, Absent, Absent.past}
 use Rattle.laws.proofs.Tests.{either, never-both, and-first, and-second}
-use Rattle.form.specs.Names.{kindNames, contextNames, numberAmong, packedOnto, packed, packedAmong, tooMany}
+use Rattle.form.specs.Names.{kindNames, contextNames, numberAmong}
+use Rattle.form.specs.inner.Spelling.{packedOnto, packed, packedAmong, tooMany}
 use Rattle.form.proofs.Names.{short, spelled-letters, spelled-long, kinds-short, contexts-short}
 
 -- the numbers of names

@@ -13,7 +13,8 @@ use borrow.Author.Tests.{eqb-true, eqb-false, eq-eqb, leb-true, leb-false}
 use Rattle.laws.specs.Lists.{same, among}
 use Rattle.laws.proofs.Lists.{every, every-element, same-self, Absent, Absent.nowhere, Absent.past, absent-among, among-first, among-later}
 use Rattle.laws.proofs.Tests.{either, never-both, and-both}
-use Rattle.form.specs.Names.{numberAmong, spelledAmong}
+use Rattle.form.specs.Names.{numberAmong}
+use Rattle.form.specs.inner.Spelling.{spelledAmong}
 use Rattle.form.proofs.Names.{unknown, spelled-short, spelled-long}
 
 -- whether a name has so many letters and begins so

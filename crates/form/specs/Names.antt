@@ -1,10 +1,7 @@
 -- Kinds and contexts by name and number (document 01, "Segments, leaves and the table" and "The seven contexts").
 -- Assumes nothing.
-use mathlib.Core.Bool.{true, false}
 use mathlib.Core.List.{List, [], _∷_, map}
-use Prim.Native.Nat.{ℕ, _+_, _*_}
-use lib.Dec.{leb, eqb}
-use lib.ListN.{take}
+use Prim.Native.Nat.{ℕ}
 use Rattle.laws.specs.Lists.{same, firstFrom}
 use Rattle.laws.specs.Texts.{bytes}
 
@@ -26,23 +23,3 @@ kindOf t = numberAmong kindNames t
 
 unfoldable pub contextOf : List ℕ → ℕ
 contextOf t = numberAmong contextNames t
-
--- the same of a text known by its length and first letters alone: no name has more than three letters
-unfoldable pub spelledAmong : List (List ℕ) → ℕ → ℕ → ℕ → ℕ → ℕ
-spelledAmong names n a b c = elim (leb n 3) [ true ↦ numberAmong names (take n (a ∷ b ∷ c ∷ [])) | false ↦ 0 ]
-
--- a text as one number: 1 and then its letters, as digits to base 256, so that texts of other lengths have other numbers
-unfoldable pub packedOnto : ℕ → List ℕ → ℕ
-packedOnto n [] = n
-packedOnto n (a ∷ t) = packedOnto (n * 256 + a) t
-
-abbrev pub packed : List ℕ → ℕ
-packed t = packedOnto 1 t
-
--- the number among names of a text known by that number alone
-unfoldable pub packedAmong : List (List ℕ) → ℕ → ℕ
-packedAmong names n = firstFrom (λ (t : List ℕ). eqb n (packed t)) 1 names
-
--- and the number that stands for every longer text: 2 and then three digits
-abbrev pub tooMany : ℕ
-tooMany = 33554432

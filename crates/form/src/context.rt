@@ -1,7 +1,8 @@
 // The seven contexts: their numbers, and the number of a name.
 ghost use mathlib.Core.Path.{_≡_};
 ghost use mathlib.Core.List.{[], _∷_};
-ghost use Rattle.form.specs.Names.{contextNames, contextOf, spelledAmong, packedAmong};
+ghost use Rattle.form.specs.Names.{contextNames, contextOf};
+ghost use Rattle.form.specs.inner.Spelling.{spelledAmong, packedAmong};
 use crate::letters;
 
 // A context is its number, from 1 to 7; 0 is no context.

@@ -1,7 +1,8 @@
 // The twelve kinds of segment: their numbers, and the number of a name.
 ghost use mathlib.Core.Path.{_≡_};
 ghost use mathlib.Core.List.{[], _∷_};
-ghost use Rattle.form.specs.Names.{kindNames, kindOf, spelledAmong, packedAmong};
+ghost use Rattle.form.specs.Names.{kindNames, kindOf};
+ghost use Rattle.form.specs.inner.Spelling.{spelledAmong, packedAmong};
 use crate::letters;
 
 // A kind is its number, from 1 to 12; 0 is no kind.

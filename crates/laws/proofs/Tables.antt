@@ -10,7 +10,8 @@ use native.Mathlib.Omega.{arith}
 use borrow.Author.Tests.{eq-eqb, ne-eqb}
 use lib.Dec.{eqb}
 use lib.ListN.{length, getD, set, replicate}
-use Rattle.laws.specs.Tables.{values, everyFrom, below}
+use Rattle.laws.specs.Tables.{values}
+use Rattle.laws.specs.inner.Tests.{everyFrom, below}
 use Rattle.laws.proofs.Cases.{equal-or-not}
 use Rattle.laws.proofs.Tests.{Tested, passed, failed, tested, never-both}
 

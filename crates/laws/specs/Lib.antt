@@ -1,5 +1,5 @@
 pub mod Lists
 pub mod Every
-pub mod Sums
 pub mod Texts
 pub mod Tables
+pub mod inner

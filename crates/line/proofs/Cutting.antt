@@ -10,7 +10,7 @@ use lib.Dec.{lit≤}
 use lib.ListN.{length, take, drop, length-append, length-take, length-drop, take-append-drop}
 use Rattle.laws.specs.Lists.{concat}
 use Rattle.laws.specs.Every.{All, none, also}
-use Rattle.laws.specs.Sums.{sumOf}
+use Rattle.laws.specs.inner.Sums.{sumOf}
 use Rattle.laws.proofs.Every.{all-append, all-take, all-drop, all-both, all-map, all-from}
 use Rattle.laws.proofs.Sums.{sumOf-cons, length-concat}
 use Rattle.form.specs.declared.limits.Limits.{Limits}
@@ -19,7 +19,7 @@ use Rattle.form.proofs.RoundedUp.{roundedUp-holds, roundedUp-tight, roundedUp-z
 use Rattle.line.specs.Lines.{CR, space}
 use Rattle.line.specs.Joining.{letterA, addendum, carried, joined}
 use Rattle.line.specs.Cutting.{pieces, addenda, cut, cuts, unlines}
-use Rattle.line.specs.Sound.{Text, SoundLine}
+use Rattle.line.specs.inner.Sound.{Text, SoundLine}
 use Rattle.line.proofs.Joining.{addendum-take, carried-segment, joined-segment, carried-addenda, joined-addenda}
 
 -- pieces

@@ -9,7 +9,7 @@ use native.Mathlib.Nat.{suc-mul}
 use native.Mathlib.Omega.{arith}
 use lib.ListN.{length, drop, length-append, length-drop}
 use Rattle.laws.specs.Every.{All, also}
-use Rattle.laws.specs.Sums.{sumOf}
+use Rattle.laws.specs.inner.Sums.{sumOf}
 use Rattle.laws.proofs.Every.{all-from}
 use Rattle.laws.proofs.Tests.{either}
 use Rattle.form.specs.declared.limits.Limits.{Limits}
@@ -18,7 +18,7 @@ use Rattle.form.proofs.RoundedUp.{roundedUp-least, some-more, lineCount-addenda
 use Rattle.line.specs.Joining.{addendum, carried, joined}
 use Rattle.line.specs.Lines.{Lines, CR, inside, between, walkFrom, walk, texts}
 use Rattle.line.specs.Cutting.{cuts, unlines}
-use Rattle.line.specs.Sound.{SoundLine}
+use Rattle.line.specs.inner.Sound.{SoundLine}
 use Rattle.line.proofs.Joining.{addendum-long, carried-addendum, carried-segment, joined-addendum, joined-segment}
 use Rattle.line.proofs.Cutting.{length-unlines, length-cuts, length-unlines-cuts}
 use Rattle.line.proofs.Steps.{inside-nil, between-nil, walkFrom-nil, inside-both, between-both, walkFrom-both}

@@ -15,7 +15,8 @@ use Rattle.laws.proofs.Tests.{and-fails-second}
 use Rattle.laws.proofs.Parts.{left-cons}
 use Rattle.form.specs.Numbers.{controlByte, longLine, openLine}
 use Rattle.line.specs.Lines.{CR, space}
-use Rattle.line.specs.Finding.{textRun, lowRun, textEnded, endedLine, foundFrom, partFound, nextOf}
+use Rattle.line.specs.Finding.{textRun, lowRun, textEnded, foundFrom, partFound, nextOf}
+use Rattle.line.specs.inner.Ending.{endedLine}
 use Rattle.line.specs.declared.finder.Found.{Found}
 use Rattle.line.specs.declared.finder.Found.the-variants.{Line, End, Fault}
 use Rattle.line.proofs.Runs.{textRun-nil, textRun-more, textRun-length, textRun-inside, textRun-after}

@@ -8,7 +8,7 @@ use lib.ListN.{length}
 use Rattle.laws.specs.Every.{also}
 use Rattle.form.specs.declared.limits.Limits.{Limits}
 use Rattle.line.specs.Lines.{Lines, line, inside, between, walk, texts, faultNumber}
-use Rattle.line.specs.Sound.{Text}
+use Rattle.line.specs.inner.Sound.{Text}
 use Rattle.line.proofs.Steps.{inside-nil, inside-both, walkFrom-text}
 use Rattle.line.proofs.Walking.{inside-run}
 

@@ -11,7 +11,8 @@ use denote.Ref.{RefT, now}
 use Rattle.form.specs.declared.limits.Limits.{Limits}
 use Rattle.form.specs.Limits.{form}
 use Rattle.line.specs.Lines.{Lines, end, fault, line, walkFrom, walk}
-use Rattle.line.specs.Finding.{foundAt, handedOut, partFound, nextOf}
+use Rattle.line.specs.Finding.{foundAt, partFound, nextOf}
+use Rattle.line.specs.inner.Ending.{handedOut}
 use Rattle.line.specs.Going.{walkAfter, placeAfter, after}
 use Rattle.line.specs.declared.finder.Found.{Found}
 use Rattle.line.specs.declared.finder.Found.the-variants.{Line, End, Fault}

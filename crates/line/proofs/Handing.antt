@@ -11,7 +11,8 @@ use Rattle.laws.proofs.Cases.{less-or-not}
 use Rattle.form.specs.declared.limits.Limits.{Limits}
 use Rattle.form.specs.Numbers.{longLine}
 use Rattle.line.specs.Lines.{fault, line, CR, space, inside, between, walkFrom}
-use Rattle.line.specs.Finding.{textRun, lowRun, foundAt, handedOut}
+use Rattle.line.specs.Finding.{textRun, lowRun, foundAt}
+use Rattle.line.specs.inner.Ending.{handedOut}
 use Rattle.line.specs.declared.finder.Found.{Found}
 use Rattle.line.specs.declared.finder.Found.the-variants.{Line, End, Fault}
 use Rattle.line.proofs.Steps.{inside-nil, inside-cr, inside-control, inside-long, inside-more, between-nil, between-low, between-text, walkFrom-nil, walkFrom-low, walkFrom-text}

@@ -9,7 +9,7 @@ use lib.ListN.{length, drop, length-append, drop-of-length-le}
 use Rattle.form.specs.declared.limits.Limits.{Limits}
 use Rattle.line.specs.Lines.{Lines, end, line, walkFrom, walk, texts, faultNumber, faultPlace}
 use Rattle.line.specs.Joining.{addendum, carried, joined}
-use Rattle.line.specs.Left.{SameFault, Left, LeftAt}
+use Rattle.line.specs.inner.Left.{SameFault, Left, LeftAt}
 use Rattle.line.proofs.Steps.{walkFrom-nil}
 use Rattle.line.proofs.Joining.{carried-addendum, carried-segment, joined-addendum, joined-segment}
 

@@ -16,7 +16,8 @@ use Rattle.laws.proofs.Cases.{less-or-not}
 use Rattle.form.specs.declared.limits.Limits.{Limits}
 use Rattle.line.specs.Lines.{line, CR, space, walkFrom, faultNumber}
 use Rattle.line.specs.Joining.{letterA, addendum}
-use Rattle.line.specs.Finding.{textRun, lowRun, foundAt, handedOut}
+use Rattle.line.specs.Finding.{textRun, lowRun, foundAt}
+use Rattle.line.specs.inner.Ending.{handedOut}
 use Rattle.line.specs.declared.finder.Found.{Found}
 use Rattle.line.specs.declared.finder.Found.the-variants.{Line}
 use Rattle.line.proofs.Runs.{textRun-nil, textRun-more, textRun-stop}

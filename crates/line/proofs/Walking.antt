@@ -14,7 +14,7 @@ use Rattle.form.specs.declared.limits.Limits.{Limits}
 use Rattle.form.specs.Numbers.{openLine}
 use Rattle.line.specs.Lines.{Lines, end, fault, line, CR, space, inside, between, walkFrom, walk, texts, faultNumber, faultPlace}
 use Rattle.line.specs.Cutting.{unlines}
-use Rattle.line.specs.Sound.{Text, SoundLine, givenLines, shifted}
+use Rattle.line.specs.inner.Sound.{Text, SoundLine, givenLines, shifted}
 use Rattle.line.proofs.Steps.{inside-nil, inside-cr, inside-more, between-nil, between-low, between-text, walkFrom-nil, walkFrom-low, walkFrom-text, inside-both, between-both, walkFrom-both}
 
 -- what was written

@@ -16,7 +16,7 @@ use Rattle.form.specs.Limits.{Lawful}
 use Rattle.line.specs.Lines.{space, walk, texts, faultNumber}
 use Rattle.line.specs.Joining.{addendum, carried, joined}
 use Rattle.line.specs.Cutting.{cuts, unlines}
-use Rattle.line.specs.Sound.{Text, SoundLine, givenLines}
+use Rattle.line.specs.inner.Sound.{Text, SoundLine, givenLines}
 use Rattle.line.proofs.Joining.{carried-addendum, carried-segment, joined-addendum, joined-segment}
 use Rattle.line.proofs.Cutting.{cuts-sound, joined-cuts}
 use Rattle.line.proofs.Walking.{walk-unlines, texts-given, no-fault-given}

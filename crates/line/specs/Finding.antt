@@ -1,13 +1,13 @@
 -- Finding the line that begins at a place of a message (document 01, "Line walk" under "Looking and watching").
 -- Assumes nothing.
-use mathlib.Core.Bool.{true, false, _&&_}
+use mathlib.Core.Bool.{true, false}
 use mathlib.Core.List.{List, [], _∷_}
 use Prim.Native.Nat.{ℕ, suc, _+_, _-_}
 use lib.Dec.{leb, ltb, eqb}
-use lib.ListN.{length, getD, take, drop}
+use lib.ListN.{take, drop}
 use Rattle.form.specs.declared.limits.Limits.{Limits}
 use Rattle.form.specs.Numbers.{controlByte, longLine, openLine}
-use Rattle.line.specs.Lines.{Lines, end, fault, line, CR, space, walkFrom}
+use Rattle.line.specs.Lines.{CR, space}
 use Rattle.line.specs.declared.finder.Found.{Found}
 use Rattle.line.specs.declared.finder.Found.the-variants.{Line, End, Fault}
 
@@ -39,31 +39,9 @@ foundFrom most at (b ∷ s) =
           ]
     ]
 
--- what a line is that begins at `at` and whose text goes up to `stop`, by what stands there
-unfoldable pub endedLine : List ℕ → ℕ → ℕ → Found
-endedLine message at stop =
-    elim (leb (length message) stop) [
-      | true ↦ Fault openLine stop
-      | false ↦
-          elim (leb space (getD message stop 0)) [
-            | true ↦ Fault longLine stop
-            | false ↦
-                elim (eqb (getD message stop 0) CR && ltb at stop) [
-                  | true ↦ Line stop (stop + 1 + lowRun (drop (stop + 1) message))
-                  | false ↦ Fault controlByte stop
-                ]
-          ]
-    ]
-
 -- what stands at a place of a message: "the line without CR, the end, or 4, 5 or 6 with its place"
 abbrev pub foundAt : Limits → List ℕ → ℕ → Found
 foundAt L message at = foundFrom (L .line) at (drop at message)
-
--- the walk from the place `at` on, by what was found there: a line is the bytes up to its CR, and the walk goes on at the next place
-unfoldable pub handedOut : Limits → List ℕ → ℕ → Found → Lines
-handedOut L message at (Line e n) = line (take (e - at) (drop at message)) (walkFrom L n (drop n message))
-handedOut L message at End = end
-handedOut L message at (Fault n p) = fault n p
 
 -- the part of the message that a line found at `at` is: none at the end or a fault
 unfoldable pub partFound : List ℕ → ℕ → Found → List ℕ

@@ -5,7 +5,8 @@ ghost use mathlib.Core.Path.{_≡_};
 ghost use Prim.Native.Nat.{_+_, _-_, _≤_, min};
 ghost use lib.ListN.{length, drop};
 ghost use Rattle.form.specs.Limits.{form};
-ghost use Rattle.line.specs.Finding.{textRun, lowRun, endedLine, foundFrom, foundAt, nextOf, partFound};
+ghost use Rattle.line.specs.Finding.{textRun, lowRun, foundFrom, foundAt, nextOf, partFound};
+ghost use Rattle.line.specs.inner.Ending.{endedLine};
 
 // CR ends a line.
 const CR: u8 = 13;

@@ -11,7 +11,7 @@ use lib.ListN.{length, length-append}
 use borrow.Author.Tests.{lt-ltb, le-ltb}
 use Rattle.laws.proofs.Cases.{less-or-not}
 use Rattle.listing.specs.Decimal.{digitsWithin, decimal}
-use Rattle.listing.specs.Putting.{sixDigits}
+use Rattle.listing.specs.inner.Putting.{sixDigits}
 
 -- a digit is its own text; a number from 10 on is that of a tenth and its last digit
 one-digit : (more n : ℕ) → n < 10 → digitsWithin more n ≡ (48 + n) ∷ []

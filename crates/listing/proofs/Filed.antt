@@ -24,7 +24,7 @@ use Rattle.table.proofs.Accepting.{Accepted, accepting}
 use Rattle.table.proofs.RowNumbers.{judged-few}
 use Rattle.read.specs.Answering.{roomOf}
 use Rattle.table.proofs.Room.{front-at, roomy-text, roomy-segments, roomy-leaves}
-use Rattle.write.specs.RowByRow.{Sized}
+use Rattle.write.specs.inner.RowByRow.{Sized}
 use Rattle.write.specs.Writing.{ReadTo, isTable, writing}
 use Rattle.write.specs.Answer.{answer, writtenSize}
 use Rattle.write.proofs.SameTables.{same-parts}

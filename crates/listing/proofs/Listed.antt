@@ -23,7 +23,7 @@ use Rattle.read.proofs.Acceptance.{number-accepted}
 use Rattle.table.specs.Lent.{lent}
 use Rattle.write.specs.Answer.{writtenSize}
 use Rattle.listing.specs.Listing.{listing, listingSize, listingFor, shown, Lists, ListedAs, answerLines, countLines, rowLines}
-use Rattle.listing.specs.Putting.{Put, PutWithin, sixDigits, RowsReady}
+use Rattle.listing.specs.inner.Putting.{Put, PutWithin, sixDigits, RowsReady}
 use Rattle.listing.proofs.Putting.{put-as, put-then, put-length}
 use Rattle.listing.proofs.Filed.{filed, few-segments, filed-within, filed-size, filed-numbers, filed-rows}
 

@@ -10,14 +10,14 @@ use lib.Dec.{ltb, eqb}
 use lib.ListN.{length, take, drop, getD, length-take, List·getD-eq-default}
 use borrow.Author.Tests.{lt-ltb, le-ltb, eq-eqb, ne-eqb}
 use Rattle.laws.specs.Lists.{same}
-use Rattle.laws.specs.Tables.{everyFrom}
+use Rattle.laws.specs.inner.Tests.{everyFrom}
 use Rattle.laws.specs.Texts.{bytes}
 use Rattle.laws.proofs.Tables.{every-at}
 use Rattle.laws.proofs.Lists.{same-equal}
 use Rattle.laws.proofs.Cases.{less-or-not, equal-or-not}
 use Rattle.laws.proofs.Parts.{part-cons, part-none, part-taken}
 use Rattle.form.specs.Names.{kindNames, contextNames}
-use Rattle.listing.specs.Names.{upToSpace, nameIn}
+use Rattle.listing.specs.inner.Names.{upToSpace, nameIn}
 use Rattle.listing.specs.Listing.{nameOf}
 
 -- its first byte is a space, or another byte

@@ -9,7 +9,7 @@ use lib.ListN.{length, drop, getD, set, length-append, length-set, drop-of-lengt
 use lib.Seq.{sets, length-sets}
 use Rattle.laws.proofs.Parts.{left-cons}
 use Rattle.laws.proofs.Stores.{sets-first, sets-append}
-use Rattle.listing.specs.Putting.{Put, PutWithin}
+use Rattle.listing.specs.inner.Putting.{Put, PutWithin}
 
 -- the same piece by another name
 pub put-as : {output piece same output′ : List ℕ} {at next : ℕ} → piece ≡ same → Put output at piece output′ next → Put output at same output′ next

@@ -10,7 +10,7 @@ use Rattle.laws.specs.Tables.{values}
 use Rattle.laws.proofs.Sums.{concat-append}
 use Rattle.laws.proofs.Tables.{values-append}
 use Rattle.listing.specs.Listing.{rowLine, rowLines}
-use Rattle.listing.specs.Putting.{Put, PutWithin}
+use Rattle.listing.specs.inner.Putting.{Put, PutWithin}
 use Rattle.listing.proofs.Putting.{put-as, put-nothing, put-then, put-length}
 
 none-yet : (rows : List ℕ) → [] ≡ rowLines rows 0

@@ -1,4 +1,3 @@
 pub mod Decimal
-pub mod Names
-pub mod Putting
 pub mod Listing
+pub mod inner

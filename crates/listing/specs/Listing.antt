@@ -15,7 +15,7 @@ use Rattle.form.specs.declared.limits.Limits.{Limits}
 use Rattle.form.specs.Names.{kindNames, contextNames}
 use Rattle.form.specs.Numbers.{shortBuffer}
 use Rattle.table.specs.declared.Card.{Card}
-use Rattle.table.specs.Rows.{Table, kindIn, ownerIn, firstIn, countIn}
+use Rattle.table.specs.Rows.{kindIn, ownerIn, firstIn, countIn}
 use Rattle.table.specs.Reading.{Outcome, refused, accepted, reading}
 use Rattle.table.specs.Back.{written}
 use Rattle.read.specs.Answering.{roomOf, textPut, segmentsPut, leavesPut}

@@ -11,7 +11,7 @@ ghost use Prim.Native.Nat.{_+_, _*_, _≤_};
 ghost use lib.ListN.{length};
 ghost use Rattle.listing.specs.Decimal.{decimal};
 ghost use Rattle.listing.specs.Listing.{andNumber, columns, rowLine, rowLines, answerLines, contextLine, countLines, entryOf};
-ghost use Rattle.listing.specs.Putting.{PutWithin, NumberReady, RowReady, RowsReady};
+ghost use Rattle.listing.specs.inner.Putting.{PutWithin, NumberReady, RowReady, RowsReady};
 
 const LF: u8 = b'\n';
 

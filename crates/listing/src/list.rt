@@ -13,7 +13,7 @@ ghost use Rattle.order.specs.Owners.{level};
 ghost use Rattle.table.specs.Lent.{lent};
 ghost use Rattle.write.specs.Answer.{writtenSize};
 ghost use Rattle.listing.specs.Listing.{ListedAs, countLines, rowLines};
-ghost use Rattle.listing.specs.Putting.{PutWithin, RowsReady};
+ghost use Rattle.listing.specs.inner.Putting.{PutWithin, RowsReady};
 
 // The bytes that every listing has room in: 256 for the first lines and 32 for each of 256 segments.
 pub const SIZE: usize = 8448;

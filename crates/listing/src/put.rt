@@ -8,8 +8,8 @@ ghost use Rattle.form.specs.Names.{kindNames, contextNames};
 ghost use Rattle.table.specs.Rows.{width};
 ghost use Rattle.listing.specs.Decimal.{decimal};
 ghost use Rattle.listing.specs.Listing.{nameOf};
-ghost use Rattle.listing.specs.Names.{upToSpace, nameIn};
-ghost use Rattle.listing.specs.Putting.{Put, PutWithin};
+ghost use Rattle.listing.specs.inner.Names.{upToSpace, nameIn};
+ghost use Rattle.listing.specs.inner.Putting.{Put, PutWithin};
 
 // Letters of the longest names of kinds and contexts.
 const LETTERS: usize = 3;

@@ -37,7 +37,7 @@ use Rattle.look.specs.Looking.{
   sameTexts,
   sameOrder,
 }
-use Rattle.look.specs.Ordering.{orderText}
+use Rattle.look.specs.inner.Ordering.{orderText}
 use Rattle.look.proofs.Seeking.{foundAt, sought-first, Within, sought-counted, sought-uncounted, sought-in-card}
 use Rattle.look.proofs.RowSearch.{row-first}
 use Rattle.look.proofs.Orders.{order-text, no-order, same-order-texts}

@@ -1,2 +1,2 @@
 pub mod Looking
-pub mod Ordering
+pub mod inner

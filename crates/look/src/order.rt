@@ -10,7 +10,7 @@ ghost use mathlib.Core.Path.{_≡_};
 ghost use Rattle.laws.specs.Lists.{same};
 ghost use Rattle.table.specs.Lent.{lent};
 ghost use Rattle.look.specs.Looking.{isOrder, sameOrder};
-ghost use Rattle.look.specs.Ordering.{orderText};
+ghost use Rattle.look.specs.inner.Ordering.{orderText};
 
 // Whether a row of one table and a row of another are the same order: both are OBR, leaf 9.4.2 is there in both, and the two
 // texts have the same bytes. Row 0 and a row past the count are no orders.

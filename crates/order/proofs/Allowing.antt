@@ -6,7 +6,7 @@ use Prim.Native.Nat.{ℕ, _≤_, _<_}
 use lib.Dec.{leb, ltb, eqb}
 use borrow.Author.Tests.{le-leb, lt-leb, eq-eqb, ne-eqb}
 use Rattle.order.specs.Contexts.{isContext}
-use Rattle.order.specs.Watcher.{InTable, allowsC, allowsNext, allows, tookKind, tellBy}
+use Rattle.order.specs.inner.Telling.{InTable, allowsC, allowsNext, allows, tookKind, tellBy}
 use Rattle.order.specs.declared.watcher.Watcher.{Watcher}
 
 -- C

@@ -10,7 +10,7 @@ use Prim.Native.Nat.{ℕ}
 use lib.Dec.{eqb}
 use Rattle.laws.proofs.Tests.{and-first, and-second, and-both, or-first, or-second, or-cases}
 use Rattle.order.specs.Grammar.{Shape, never, only, _▸_, any, plus, maybe, Tree, word, each, present, Derives, Begins}
-use Rattle.order.specs.Place.{empties, told, rowTold, rowsTold, rowEmpties, rowsEmpty, rowsAfter, someLeft, start}
+use Rattle.order.specs.inner.Place.{empties, told, rowTold, rowsTold, rowEmpties, rowsEmpty, rowsAfter, someLeft, start}
 use Rattle.order.proofs.Rows.{RowTree, rowWord, RowDerives, OneDerives, rows-derivative, writes-nothing}
 
 -- the empty order

@@ -11,13 +11,14 @@ use borrow.Author.Tests.{eq-eqb, ne-eqb}
 use lib.Dec.{eqb}
 use lib.ListN.{length, drop, getD, drop-of-length-le}
 use lib.Seq.{drop-cons}
-use Rattle.laws.specs.Tables.{below, everyFrom}
+use Rattle.laws.specs.inner.Tests.{below, everyFrom}
 use Rattle.laws.proofs.Tests.{where-holds, equal-tests}
 use Rattle.order.specs.Grammar.{Shape}
 use Rattle.order.specs.Contexts.{isContext}
-use Rattle.order.specs.Place.{rowsTold, rowEmpties, rowsEmpty, someLeft, placeFrom, misplaced}
-use Rattle.order.specs.Followers.{leftAt, follows}
-use Rattle.order.specs.Watcher.{begun, tellOf}
+use Rattle.order.specs.inner.Place.{rowsTold, rowEmpties, rowsEmpty, someLeft, placeFrom, misplaced}
+use Rattle.order.specs.inner.Followers.{leftAt, follows}
+use Rattle.order.specs.Watcher.{begun}
+use Rattle.order.specs.inner.Telling.{tellOf}
 use Rattle.order.specs.declared.watcher.Watcher.{Watcher}
 use Rattle.order.specs.declared.watcher.Told.{Told}
 use Rattle.order.proofs.Seven.{all-seven₂, states}

@@ -5,7 +5,7 @@ use mathlib.Core.Path.{_≡_, refl, ap, _∙_}
 use Prim.Native.Nat.{ℕ, suc, _+_}
 use native.Mathlib.Omega.{arith}
 use lib.ListN.{length, getD}
-use Rattle.order.specs.Owning.{levelPlace, added, owned, knownAfter}
+use Rattle.order.specs.inner.Owning.{levelPlace, added, owned, knownAfter}
 
 module _ (lv : ℕ → ℕ) where
   pub length-owned : (near : List ℕ) (row : ℕ) (ks : List ℕ) → length (owned lv near row ks) ≡ length ks

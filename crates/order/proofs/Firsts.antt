@@ -13,7 +13,7 @@ use Rattle.laws.proofs.Tests.{never-both, and-first, and-second, and-both}
 use Rattle.laws.proofs.Lists.{among-first}
 use Rattle.laws.proofs.Members.{among-cases, among-left, among-right, among-where}
 use Rattle.order.specs.Grammar.{Shape, never, only, _▸_, any, plus, maybe, Tree, word, each, present}
-use Rattle.order.specs.Place.{empties}
+use Rattle.order.specs.inner.Place.{empties}
 
 -- the kinds that a shape begins with; those of a shape and of what follows it
 unfoldable pub firsts : Shape → List ℕ

@@ -12,8 +12,8 @@ use Rattle.laws.specs.Lists.{among}
 use Rattle.laws.proofs.Tables.{getD-values-zero}
 use Rattle.order.specs.Grammar.{Shape, Derives, Begins}
 use Rattle.order.specs.Contexts.{grammar, isContext}
-use Rattle.order.specs.Place.{rowsTold, rowsAfter, someLeft, start}
-use Rattle.order.specs.Followers.{Follows, ways, before, leftAt, follows, asEntry, follower, followers}
+use Rattle.order.specs.inner.Place.{rowsTold, rowsAfter, someLeft, start}
+use Rattle.order.specs.inner.Followers.{Follows, ways, before, leftAt, follows, asEntry, follower, followers}
 use Rattle.order.proofs.Begun.{rowsAfter-append, begins-left}
 use Rattle.order.proofs.Seven.{grammar-alive, context-within}
 use Rattle.order.proofs.States.{lastOf, lastOf-append, lastOf-Cs, lastAfter-other, state-after, none-left}

@@ -11,12 +11,12 @@ use native.Mathlib.Omega.{arith}
 use borrow.Author.Tests.{leb-true, ltb-true, le-leb, lt-leb}
 use lib.Dec.{leb, ltb}
 use lib.ListN.{length, getD, List·getD-eq-default}
-use Rattle.laws.specs.Tables.{below, everyFrom}
+use Rattle.laws.specs.inner.Tests.{below, everyFrom}
 use Rattle.laws.proofs.Cases.{less-or-not}
 use Rattle.laws.proofs.Tables.{at, getD-values-zero}
 use Rattle.order.specs.Contexts.{isContext}
 use Rattle.order.specs.Owners.{levelBy, levels, level}
-use Rattle.order.specs.Levels.{levelIn, levelTableOf, levelTable, topLevel, LevelsBelow}
+use Rattle.order.specs.inner.Levels.{levelIn, levelTableOf, levelTable, topLevel, LevelsBelow}
 use Rattle.order.proofs.Seven.{context-within}
 use Rattle.order.proofs.Allowing.{no-context-below, no-context-above}
 

@@ -13,7 +13,7 @@ use Rattle.laws.proofs.Cases.{less-or-not}
 use Rattle.laws.proofs.Tests.{either, never-both}
 use Rattle.order.specs.Grammar.{Shape, never, Derives, Begins}
 use Rattle.order.specs.Contexts.{grammar, isContext}
-use Rattle.order.specs.Place.{empties, told, rowTold, rowsTold, rowEmpties, rowsEmpty, rowsAfter, someLeft, start, placeFrom, misplaced}
+use Rattle.order.specs.inner.Place.{empties, told, rowTold, rowsTold, rowEmpties, rowsEmpty, rowsAfter, someLeft, start, placeFrom, misplaced}
 use Rattle.order.specs.Misplaced.{FirstMisplaced}
 use Rattle.order.proofs.Rows.{OneDerives, rows-derivative}
 use Rattle.order.proofs.Begun.{rows-empty, derived-after, derived-by-start, begins-left}

@@ -10,7 +10,7 @@ use borrow.Author.Tests.{eq-eqb, ne-eqb, lt-ltb, le-ltb}
 use lib.ListN.{length, getD, set, replicate, length-set}
 use lib.Seq.{sets, length-sets, getD-set-same, getD-set-other}
 use Rattle.order.specs.Owners.{isC}
-use Rattle.order.specs.Owning.{levelPlace, added}
+use Rattle.order.specs.inner.Owning.{levelPlace, added}
 
 -- the cases of a kind's place
 module _ (k l : ℕ) where

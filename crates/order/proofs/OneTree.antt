@@ -7,11 +7,11 @@ use mathlib.Core.Option.{Option, none, some}
 use mathlib.Core.Path.{_≡_, refl, sym, ap, ap₂, subst⁻¹}
 use Prim.Native.Nat.{ℕ}
 use Rattle.laws.specs.Lists.{among}
-use Rattle.laws.specs.Tables.{everyFrom}
+use Rattle.laws.specs.inner.Tests.{everyFrom}
 use Rattle.laws.proofs.Tests.{and-first, and-second}
 use Rattle.order.specs.Grammar.{Shape, never, only, _▸_, any, plus, maybe, Tree, word, each, present}
 use Rattle.order.specs.Contexts.{grammar}
-use Rattle.order.specs.Place.{empties}
+use Rattle.order.specs.inner.Place.{empties}
 use Rattle.order.proofs.Firsts.{firsts, firstsThen, apart, seen, clear, After, after-word, after-each, told-apart}
 use Rattle.order.proofs.Seven.{all-seven, context-or-never, grammars}
 

@@ -4,10 +4,11 @@ use mathlib.Core.List.{List}
 use mathlib.Core.Path.{_≡_}
 use Prim.Native.Nat.{ℕ}
 use Rattle.laws.proofs.Equality.{only-one}
-use Rattle.order.specs.Followers.{followers}
-use Rattle.order.specs.Levels.{levelTable, levelIn}
-use Rattle.order.specs.Owning.{noRows, Owned}
-use Rattle.order.specs.Watcher.{begun, followsBy, tellBy, tellOf}
+use Rattle.order.specs.inner.Followers.{followers}
+use Rattle.order.specs.inner.Levels.{levelTable, levelIn}
+use Rattle.order.specs.inner.Owning.{noRows, Owned}
+use Rattle.order.specs.Watcher.{begun}
+use Rattle.order.specs.inner.Telling.{followsBy, tellBy, tellOf}
 use Rattle.order.specs.declared.watcher.Watcher.{Watcher}
 use Rattle.order.specs.declared.watcher.Told.{Told}
 

@@ -12,8 +12,8 @@ use lib.Dec.{ltb, eqb}
 use lib.ListN.{length, getD, take, getD-replicate, length-reverse}
 use lib.Seq.{length-take-le, take-suc}
 use Rattle.order.specs.Owners.{nearest, isC, owner, ownersAfter, owners}
-use Rattle.order.specs.Levels.{topLevel}
-use Rattle.order.specs.Owning.{noRows, levelPlace, added, Owned, owned}
+use Rattle.order.specs.inner.Levels.{topLevel}
+use Rattle.order.specs.inner.Owning.{noRows, levelPlace, added, Owned, owned}
 use Rattle.order.proofs.Nearest.{place-C, place-level, length-added, added-below, added-above}
 
 -- the nearest row that passes a test

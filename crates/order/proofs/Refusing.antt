@@ -12,8 +12,9 @@ use borrow.Author.Tests.{ne-eqb}
 use Rattle.laws.specs.Lists.{firstOf}
 use Rattle.laws.proofs.Lists.{firstOf-earlier}
 use Rattle.laws.proofs.Tests.{Tested, passed, failed, tested}
-use Rattle.order.specs.Watcher.{tellOf, watched}
-use Rattle.order.specs.Refusing.{firstNo}
+use Rattle.order.specs.Watcher.{watched}
+use Rattle.order.specs.inner.Telling.{tellOf}
+use Rattle.order.specs.inner.Refusing.{firstNo}
 use Rattle.order.specs.declared.watcher.Watcher.{Watcher}
 use Rattle.order.proofs.Checking.{placeBy, place-yes, place-no}
 

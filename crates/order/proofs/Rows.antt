@@ -11,7 +11,7 @@ use borrow.Author.Tests.{eqb-true, eq-eqb}
 use lib.Dec.{eqb}
 use Rattle.laws.proofs.Tests.{and-first, and-second, and-both}
 use Rattle.order.specs.Grammar.{Shape, never, only, _▸_, any, plus, maybe, Tree, word, each, present}
-use Rattle.order.specs.Place.{empties, told, rowTold, rowsTold}
+use Rattle.order.specs.inner.Place.{empties, told, rowTold, rowsTold}
 
 -- the derivations of a row: one of each of its shapes
 abbrev pub RowTree : List Shape → Type 0

@@ -10,14 +10,14 @@ use borrow.Author.Tests.{leb-true, le-leb}
 use lib.Dec.{leb}
 use lib.ListN.{List·getD-eq-default}
 use Rattle.laws.specs.Lists.{among}
-use Rattle.laws.specs.Tables.{below, everyFrom}
+use Rattle.laws.specs.inner.Tests.{below, everyFrom}
 use Rattle.laws.proofs.Cases.{less-or-not}
 use Rattle.laws.proofs.Tests.{and-first, and-second, and-both}
 use Rattle.laws.proofs.Tables.{at}
 use Rattle.order.specs.Grammar.{never}
 use Rattle.order.specs.Contexts.{segment, H, P, AP, AC, OBR, OBX, FAC, REG, ACT, ERR, L, orders, cover, invoices, bodies, messageShape, grammar, isContext}
-use Rattle.order.specs.Place.{empties, told, rowTold, rowsTold, rowsAfter, someLeft}
-use Rattle.order.specs.Followers.{ways, before, leftAt}
+use Rattle.order.specs.inner.Place.{empties, told, rowTold, rowsTold, rowsAfter, someLeft}
+use Rattle.order.specs.inner.Followers.{ways, before, leftAt}
 use Rattle.order.proofs.Begun.{alive}
 
 -- whoever opens this opens the grammars, down to their shapes

@@ -8,12 +8,13 @@ use Prim.Native.Nat.{ℕ, suc, _≤_}
 use native.Mathlib.Omega.{arith}
 use lib.Dec.{leb, eqb}
 use borrow.Author.Tests.{eqb-true, eqb-false, ne-eqb, not-true}
-use Rattle.laws.specs.Tables.{below, everyFrom}
+use Rattle.laws.specs.inner.Tests.{below, everyFrom}
 use Rattle.laws.proofs.Cases.{less-or-not}
 use Rattle.laws.proofs.Tests.{never-holds}
 use Rattle.order.specs.Contexts.{isContext}
-use Rattle.order.specs.Followers.{follows}
-use Rattle.order.specs.Watcher.{begun, allowsC, allowsNext, allows, tellBy, tellOf}
+use Rattle.order.specs.inner.Followers.{follows}
+use Rattle.order.specs.Watcher.{begun}
+use Rattle.order.specs.inner.Telling.{allowsC, allowsNext, allows, tellBy, tellOf}
 use Rattle.order.specs.declared.watcher.Watcher.{Watcher}
 use Rattle.order.specs.declared.watcher.Told.{Told}
 use Rattle.order.proofs.Seven.{all-seven₂, states}

@@ -11,14 +11,14 @@ use native.Mathlib.Omega.{arith}
 use borrow.Author.Tests.{leb-true, ne-eqb}
 use lib.Dec.{leb, eqb}
 use lib.ListN.{replicate}
-use Rattle.laws.specs.Tables.{below, everyFrom}
+use Rattle.laws.specs.inner.Tests.{below, everyFrom}
 use Rattle.laws.proofs.Cases.{less-or-not, equal-or-not}
 use Rattle.laws.proofs.Tests.{and-first, and-second}
 use Rattle.laws.proofs.Members.{sameBy, sameBy-equal}
 use Rattle.order.specs.Grammar.{Shape, never, only, _▸_, any, plus, maybe, Shape-discrete}
 use Rattle.order.specs.Contexts.{isContext}
-use Rattle.order.specs.Place.{empties, told, rowTold, rowsTold, rowsAfter, someLeft}
-use Rattle.order.specs.Followers.{leftAt}
+use Rattle.order.specs.inner.Place.{empties, told, rowTold, rowsTold, rowsAfter, someLeft}
+use Rattle.order.specs.inner.Followers.{leftAt}
 use Rattle.order.proofs.Begun.{rowsAfter-none}
 use Rattle.order.proofs.Seven.{all-seven₂, all-seven₃, states}
 

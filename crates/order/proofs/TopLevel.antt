@@ -11,13 +11,13 @@ use borrow.Author.Tests.{leb-true, le-ltb, eqb-true}
 use lib.Dec.{leb, ltb, eqb}
 use lib.ListN.{length, getD, take}
 use Rattle.laws.specs.Every.{All, none, also}
-use Rattle.laws.specs.Tables.{below, everyFrom}
+use Rattle.laws.specs.inner.Tests.{below, everyFrom}
 use Rattle.laws.proofs.Every.{all-take, all-reverse}
 use Rattle.laws.proofs.Tests.{or-cases, where-holds}
 use Rattle.order.specs.Grammar.{Shape, Begins}
 use Rattle.order.specs.Contexts.{grammar, isContext}
-use Rattle.order.specs.Place.{rowsTold, rowsAfter, someLeft}
-use Rattle.order.specs.Followers.{leftAt, follows}
+use Rattle.order.specs.inner.Place.{rowsTold, rowsAfter, someLeft}
+use Rattle.order.specs.inner.Followers.{leftAt, follows}
 use Rattle.order.specs.Owners.{levels, level, nearest, isC, owner, owners}
 use Rattle.order.proofs.Seven.{all-seven, all-seven₃, states}
 use Rattle.order.proofs.States.{lastAfter, some-told, next-state, next-last, kind-left}

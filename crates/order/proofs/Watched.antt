@@ -11,9 +11,10 @@ use borrow.Author.Tests.{eqb-true, eqb-false}
 use Rattle.laws.proofs.Tests.{never-both}
 use Rattle.order.specs.Grammar.{Shape, never, Begins}
 use Rattle.order.specs.Contexts.{grammar, isContext}
-use Rattle.order.specs.Place.{rowsAfter, someLeft}
-use Rattle.order.specs.Followers.{leftAt, follows}
-use Rattle.order.specs.Watcher.{begun, allows, tookKind, tellBy, tellOf, watched, said}
+use Rattle.order.specs.inner.Place.{rowsAfter, someLeft}
+use Rattle.order.specs.inner.Followers.{leftAt, follows}
+use Rattle.order.specs.Watcher.{begun, watched, said}
+use Rattle.order.specs.inner.Telling.{allows, tookKind, tellBy, tellOf}
 use Rattle.order.specs.declared.watcher.Watcher.{Watcher}
 use Rattle.order.specs.declared.watcher.Told.{Told}
 use Rattle.order.proofs.Begun.{begins-left}

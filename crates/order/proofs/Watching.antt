@@ -9,13 +9,13 @@ use Prim.Native.Nat.{ℕ, zero, suc, _+_, _*_, _-_, _≤_, _<_}
 use native.Mathlib.Omega.{arith}
 use borrow.Author.Tests.{leb-true, eqb-true, ne-eqb, eqb-false}
 use lib.Dec.{leb, eqb}
-use Rattle.laws.specs.Tables.{below, everyFrom}
+use Rattle.laws.specs.inner.Tests.{below, everyFrom}
 use Rattle.laws.proofs.Cases.{less-or-not}
 use Rattle.laws.proofs.Tests.{and-where, where-holds, never-holds, equal-tests}
 use Rattle.order.specs.Contexts.{isContext}
-use Rattle.order.specs.Place.{someLeft}
-use Rattle.order.specs.Followers.{leftAt, follows, asEntry, followers}
-use Rattle.order.specs.Watcher.{InTable, followsBy, allowsC, allowsNext, allows, tookKind, tellBy, tellOf}
+use Rattle.order.specs.inner.Place.{someLeft}
+use Rattle.order.specs.inner.Followers.{leftAt, follows, asEntry, followers}
+use Rattle.order.specs.inner.Telling.{InTable, followsBy, allowsC, allowsNext, allows, tookKind, tellBy, tellOf}
 use Rattle.order.specs.declared.watcher.Watcher.{Watcher}
 use Rattle.order.specs.declared.watcher.Told.{Told}
 use Rattle.order.proofs.Seven.{all-seven₃, context-from, context-to, states}

@@ -1,10 +1,6 @@
 pub mod Grammar
 pub mod Contexts
-pub mod Place
 pub mod Misplaced
-pub mod Followers
 pub mod Watcher
 pub mod Owners
-pub mod Levels
-pub mod Owning
-pub mod Refusing
+pub mod inner

@@ -1,6 +1,6 @@
 // The follower table: "A follower table of 7 contexts by 11 kinds by 11 kinds (847 entries) says which kind may come next."
 ghost use mathlib.Core.Path.{_≡_};
-ghost use Rattle.order.specs.Followers.{followers};
+ghost use Rattle.order.specs.inner.Followers.{followers};
 
 // How many entries a kind that stands has, and a context.
 pub const PER_KIND: usize = 11;

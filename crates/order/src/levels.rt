@@ -4,7 +4,7 @@ use crate::level_table::PER_CONTEXT;
 use form::context::Context;
 use form::kind::Kind;
 ghost use mathlib.Core.Path.{_≡_};
-ghost use Rattle.order.specs.Levels.{levelTable, levelIn};
+ghost use Rattle.order.specs.inner.Levels.{levelTable, levelIn};
 
 // The table, to be bound once and lent to each `level_of`.
 pub fn table() -> [u8; 84]

@@ -3,7 +3,7 @@
 use form::kind::Kind;
 ghost use mathlib.Core.Path.{_≡_};
 ghost use Prim.Native.Nat.{_≤_};
-ghost use Rattle.order.specs.Owning.{levelPlace, noRows, Owned};
+ghost use Rattle.order.specs.inner.Owning.{levelPlace, noRows, Owned};
 
 // The number of a row, or 0: one number of a table's rows, which takes its width from here.
 pub type Row = u16;

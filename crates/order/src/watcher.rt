@@ -4,7 +4,8 @@ use form::context::Context;
 use form::kind::Kind;
 ghost use mathlib.Core.Path.{_≡_};
 ghost use Prim.Native.Nat.{_≤_};
-ghost use Rattle.order.specs.Watcher.{begun, InTable, followsBy, allowsC, allowsNext, allows, tookKind, tellBy, tellOf};
+ghost use Rattle.order.specs.Watcher.{begun};
+ghost use Rattle.order.specs.inner.Telling.{InTable, followsBy, allowsC, allowsNext, allows, tookKind, tellBy, tellOf};
 use crate::followers::PER_CONTEXT;
 use crate::followers::PER_KIND;
 

@@ -12,7 +12,7 @@ use lib.Dec.{leb}
 use lib.ListN.{length}
 use borrow.Author.Tests.{le-ltb, leb-true}
 use Rattle.laws.specs.Every.{All, none as nothing, also}
-use Rattle.laws.specs.Tables.{everyFrom}
+use Rattle.laws.specs.inner.Tests.{everyFrom}
 use Rattle.laws.proofs.Tests.{and-first, and-second}
 use Rattle.form.specs.declared.limits.Limits.{Limits}
 use Rattle.form.specs.declared.separators.Separators.{Separators}
@@ -30,7 +30,7 @@ use Rattle.table.specs.Reading.{Room, Outcome, refused, accepted, refuseIf, sho
 use Rattle.table.proofs.Accepting.{Known, Judged, judged-accepted, Accepted, accepting, refuse-passed}
 use Rattle.read.specs.declared.Answer.{Answer}
 use Rattle.read.specs.Answering.{answerOf, roomOf, Gives, ReadAs}
-use Rattle.read.specs.Filling.{segmentsIn}
+use Rattle.read.specs.Sound.{segmentsIn}
 use Rattle.read.specs.Sound.{SoundLines, SoundMessage}
 use Rattle.read.proofs.Deciding.{message-judged}
 use Rattle.read.proofs.OnlyOne.{Numbered, reading-numbered}

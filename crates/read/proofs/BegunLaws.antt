@@ -10,21 +10,21 @@ use Rattle.laws.proofs.Stores.{sets-behind}
 use Rattle.form.specs.declared.separators.Separators.{Separators}
 use Rattle.form.specs.Header.{splitting}
 use Rattle.line.specs.Lines.{CR}
-use Rattle.order.specs.Levels.{levelIn}
-use Rattle.order.specs.Owning.{noRows, levelPlace, added, owned, knownAfter}
+use Rattle.order.specs.inner.Levels.{levelIn}
+use Rattle.order.specs.inner.Owning.{noRows, levelPlace, added, owned, knownAfter}
 use Rattle.order.proofs.Coming.{length-owned, owned-last, known-last}
 use Rattle.table.specs.Leaves.{Leaf, kindOfSegment, messageLeaves}
 use Rattle.table.specs.Rows.{segmentRowSize, leafRowSize, segmentRow, segmentRowsOf, kindsOf, allLeaves}
-use Rattle.table.specs.Flat.{leaf, Without, Pass, step, ended}
-use Rattle.table.specs.OnePass.{passOver}
+use Rattle.table.specs.inner.Flat.{leaf, Without, Pass, step, ended}
+use Rattle.table.specs.inner.OnePass.{passOver}
 use Rattle.table.proofs.Counting.{length-segmentLeaves, length-headerLeaves}
 use Rattle.table.proofs.Growing.{filed-joined, filed-next, pass-joined, pass-next, pass-ended}
 use Rattle.table.proofs.RowsGrowing.{leavesBehind, messageLeaves-last, allLeaves-last, kindsOf-last, length-kinds, length-messageLeaves, length-segmentRows, segmentRows-last}
 use Rattle.read.specs.declared.fill.Filling.{Filling}
 use Rattle.read.specs.declared.fill.Line.{Line}
-use Rattle.table.specs.Classes.{classTable}
-use Rattle.read.specs.Laying.{nextSegment, Held}
-use Rattle.read.specs.Segments.{rowClosed, ClosedBy, begunAfter, lineText, LineFilled, closedRows, Begun}
+use Rattle.table.specs.inner.Classes.{classTable}
+use Rattle.read.specs.inner.Laying.{nextSegment, Held}
+use Rattle.read.specs.inner.Segments.{rowClosed, ClosedBy, begunAfter, lineText, LineFilled, closedRows, Begun}
 use Rattle.read.proofs.HeldLaws.{Ends, segment-closes, held-segment, held-ended}
 
 -- each segment has a leaf

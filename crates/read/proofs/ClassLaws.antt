@@ -16,14 +16,14 @@ use Rattle.laws.proofs.Lists.{first-within}
 use Rattle.form.specs.declared.separators.Separators.{Separators}
 use Rattle.form.specs.Header.{splitting}
 use Rattle.line.specs.Lines.{CR}
-use Rattle.table.specs.Classes.{sortOf, classTable}
-use Rattle.table.specs.Flat.{ones, raised}
+use Rattle.table.specs.inner.Classes.{sortOf, classTable}
+use Rattle.table.specs.inner.Flat.{ones, raised}
 use Rattle.table.proofs.Classes.{class-text, class-sort, class-no-CR}
 use Rattle.table.proofs.Flat.{raised-later}
 use Rattle.table.proofs.Places.{raisedAt, raised-first}
 use Rattle.read.specs.declared.lay.Laying.{Laying}
-use Rattle.read.specs.Scanning.{plainRun}
-use Rattle.read.specs.Laying.{leafPlace, nextLeaf}
+use Rattle.read.specs.inner.Scanning.{plainRun}
+use Rattle.read.specs.inner.Laying.{leafPlace, nextLeaf}
 use Rattle.read.proofs.PlainLaws.{plain-text, plain-none}
 
 -- a separator of a sort raises that number of the place, and the finer ones are 1

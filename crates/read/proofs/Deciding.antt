@@ -14,15 +14,16 @@ use Rattle.form.specs.declared.separators.Header.the-variants.{Sound, Broken}
 use Rattle.form.specs.Header.{headerOf}
 use Rattle.form.specs.Numbers.{shortBuffer, longMessage, brokenHeader, manySegments, unknownKind, noContext, misplacedKind, manyLeaves}
 use Rattle.line.specs.Lines.{walk, faultNumber, faultPlace}
-use Rattle.table.specs.Rows.{segmentRowSize, leafRowSize, FitsRows, Table, tableOf}
+use Rattle.table.specs.Rows.{segmentRowSize, leafRowSize, Table, tableOf}
+use Rattle.table.specs.inner.Fitting.{FitsRows}
 use Rattle.table.specs.Reading.{Room, Outcome, refused, accepted, refuseIf, refuseAt, short, judged, ofMessage, reading}
 use Rattle.read.specs.declared.decide.Decision.{Decision}
 use Rattle.read.specs.declared.survey.Survey.{Survey}
-use Rattle.table.specs.Classes.{classTable}
-use Rattle.read.specs.Filling.{segmentsIn}
-use Rattle.read.specs.Deciding.{refusedAt, acceptedBy, decideIf, decideAt, decisionOf, decided, Accepts, DecidesAs}
-use Rattle.read.specs.Noting.{Noted}
-use Rattle.read.specs.Surveying.{SegmentsKnown, placeSeen}
+use Rattle.table.specs.inner.Classes.{classTable}
+use Rattle.read.specs.Sound.{segmentsIn}
+use Rattle.read.specs.inner.Deciding.{refusedAt, acceptedBy, decideIf, decideAt, decisionOf, decided, Accepts, DecidesAs}
+use Rattle.read.specs.inner.Noting.{Noted}
+use Rattle.read.specs.inner.Surveying.{SegmentsKnown, placeSeen}
 
 -- the place of refusal 10 by what was seen
 module _ (s : Survey) where

@@ -14,21 +14,21 @@ use Rattle.form.proofs.HeaderRule.{SoundHeader, sound-header}
 use Rattle.laws.proofs.Bytes.{Bytes}
 use Rattle.line.specs.Joining.{addendum}
 use Rattle.line.specs.Finding.{textRun}
-use Rattle.line.specs.Left.{LeftAt}
+use Rattle.line.specs.inner.Left.{LeftAt}
 use Rattle.line.proofs.Runs.{textRun-take}
-use Rattle.order.specs.Levels.{levelIn}
-use Rattle.order.specs.Owning.{noRows, knownAfter}
+use Rattle.order.specs.inner.Levels.{levelIn}
+use Rattle.order.specs.inner.Owning.{noRows, knownAfter}
 use Rattle.table.specs.Leaves.{messageLeaves}
 use Rattle.table.specs.Rows.{leafRowSize, segmentRowsFrom, kindsOf, allLeaves}
-use Rattle.table.specs.Flat.{gluedTo, glued, steps}
-use Rattle.table.specs.Filed.{headerBytes, Filed}
-use Rattle.table.specs.OnePass.{passOver}
+use Rattle.table.specs.inner.Flat.{gluedTo, glued, steps}
+use Rattle.table.specs.inner.Filed.{headerBytes, Filed}
+use Rattle.table.specs.inner.OnePass.{passOver}
 use Rattle.table.proofs.HeaderBytes.{header-bytes, header-clear}
 use Rattle.table.proofs.Growing.{count-leaves}
 use Rattle.read.specs.declared.fill.Filling.{Filling}
-use Rattle.read.specs.Scanning.{run}
-use Rattle.read.specs.Filling.{Prepared}
-use Rattle.read.specs.Segments.{HeaderPut, lineText, lineAfter, closedRows, Begun, AtLine}
+use Rattle.read.specs.inner.Scanning.{run}
+use Rattle.read.specs.inner.Filling.{Prepared}
+use Rattle.read.specs.inner.Segments.{HeaderPut, lineText, lineAfter, closedRows, Begun, AtLine}
 use Rattle.read.proofs.LeftLaws.{no-addendum, line-fits, first-line, left-begins, leaves-line}
 use Rattle.read.proofs.Starting.{header-seven}
 use Rattle.read.proofs.StandLaws.{readable}

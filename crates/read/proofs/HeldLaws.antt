@@ -20,14 +20,14 @@ use Rattle.form.specs.declared.separators.Separators.{Separators}
 use Rattle.form.specs.Header.{splitting}
 use Rattle.line.specs.Lines.{CR}
 use Rattle.table.specs.Leaves.{Leaf}
-use Rattle.table.specs.Flat.{Pass, leaf, ones, raised, step, steps, ended}
+use Rattle.table.specs.inner.Flat.{Pass, leaf, ones, raised, step, steps, ended}
 use Rattle.table.specs.Rows.{leafRowSize, leafRowsFrom, textOf}
 use Rattle.table.proofs.Flat.{raised-here}
 use Rattle.table.proofs.Passes.{step-separator}
 use Rattle.table.proofs.Closing.{withText, steps-text, text-last, leafRow, rows-last, length-rows}
 use Rattle.read.specs.declared.lay.Laying.{Laying}
-use Rattle.table.specs.Classes.{classTable}
-use Rattle.read.specs.Laying.{leafPlace, rowOf, closedTo, nextLeaf, nextSegment, PlaceCounted, Held}
+use Rattle.table.specs.inner.Classes.{classTable}
+use Rattle.read.specs.inner.Laying.{leafPlace, rowOf, closedTo, nextLeaf, nextSegment, PlaceCounted, Held}
 use Rattle.table.proofs.Classes.{class-separator}
 use Rattle.read.proofs.ClassLaws.{class-raised}
 

@@ -24,22 +24,22 @@ use Rattle.laws.proofs.Bytes.{Bytes}
 use Rattle.line.specs.Lines.{line, CR, space, walkFrom, walk, texts, faultNumber}
 use Rattle.line.specs.Joining.{letterA, addendum, carried, joined}
 use Rattle.line.specs.Finding.{textRun}
-use Rattle.line.specs.Left.{Left, LeftAt}
-use Rattle.line.specs.Sound.{SoundLine}
+use Rattle.line.specs.inner.Left.{Left, LeftAt}
+use Rattle.line.specs.inner.Sound.{SoundLine}
 use Rattle.line.proofs.Runs.{textRun-nil, textRun-more, textRun-stop, textRun-length}
 use Rattle.line.proofs.Joining.{carried-addendum, carried-segment, joined-addendum, joined-segment}
 use Rattle.line.proofs.Walking.{texts-sound}
 use Rattle.line.proofs.Left.{left-addendum, left-segment, left-first}
 use Rattle.line.proofs.Standing.{textRun-later, nextPlace, LineHere, line-here, addendum-run, addendum-text}
 use Rattle.table.specs.Rows.{allLeaves}
-use Rattle.table.specs.Flat.{Without}
-use Rattle.table.specs.Filed.{Filed}
+use Rattle.table.specs.inner.Flat.{Without}
+use Rattle.table.specs.inner.Filed.{Filed}
 use Rattle.table.proofs.Filing.{text-clear}
 use Rattle.table.proofs.Growing.{filed-grows, leaves-grow}
-use Rattle.table.specs.Classes.{classTable}
-use Rattle.read.specs.Scanning.{run, marks}
-use Rattle.read.specs.Filling.{segmentsIn}
-use Rattle.read.specs.Segments.{lineText, lineAfter}
+use Rattle.table.specs.inner.Classes.{classTable}
+use Rattle.read.specs.inner.Scanning.{run, marks}
+use Rattle.read.specs.Sound.{segmentsIn}
+use Rattle.read.specs.inner.Segments.{lineText, lineAfter}
 use Rattle.read.proofs.Scanning.{run-text, marks-separators}
 
 -- the text that a list begins with has no CR

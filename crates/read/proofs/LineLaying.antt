@@ -13,12 +13,12 @@ use Rattle.laws.proofs.Every.{all-at, all-drop}
 use Rattle.form.specs.Header.{splitting}
 use Rattle.laws.proofs.Bytes.{Bytes}
 use Rattle.line.specs.Lines.{CR}
-use Rattle.table.specs.Flat.{step, steps}
+use Rattle.table.specs.inner.Flat.{step, steps}
 use Rattle.table.proofs.Passes.{steps-append}
 use Rattle.read.specs.declared.lay.Laying.{Laying}
 use Rattle.read.specs.declared.lay.Laid.{Laid}
-use Rattle.read.specs.Scanning.{run, plainRun}
-use Rattle.read.specs.Laying.{rowOf, nextLeaf, RowFits, Held, Lays, LaidBy}
+use Rattle.read.specs.inner.Scanning.{run, plainRun}
+use Rattle.read.specs.inner.Laying.{rowOf, nextLeaf, RowFits, Held, Lays, LaidBy}
 use Rattle.read.proofs.PlainLaws.{plainText, lineFrom, run-split, marks-split, line-split, length-text, no-text, run-turn, run-stop, marks-turn, marks-stop, line-turn}
 use Rattle.read.proofs.ClassLaws.{plain-passes}
 use Rattle.read.proofs.HeldLaws.{outTo, leaf-closes, leaf-segment, held-text, held-separator}

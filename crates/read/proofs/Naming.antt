@@ -12,13 +12,14 @@ use Rattle.laws.specs.Every.{none, also}
 use Rattle.laws.proofs.Cases.{equal-or-not, less-or-not}
 use Rattle.laws.proofs.Every.{all-drop}
 use Rattle.laws.proofs.Parts.{part-cons, part-none}
-use Rattle.form.specs.Names.{kindNames, contextNames, numberAmong, kindOf, contextOf, packedOnto, packedAmong, tooMany}
+use Rattle.form.specs.Names.{kindNames, contextNames, numberAmong, kindOf, contextOf}
+use Rattle.form.specs.inner.Spelling.{packedOnto, packedAmong, tooMany}
 use Rattle.laws.proofs.Bytes.{Bytes}
 use Rattle.form.proofs.Packing.{Packable, packed-number, long-unknown, kinds-packable, contexts-packable}
 use Rattle.form.specs.declared.separators.Separators.{Separators}
 use Rattle.table.specs.Leaves.{split, kindOfSegment, contextOfHeader}
 use Rattle.read.specs.declared.name.Name.{Name}
-use Rattle.read.specs.Naming.{fresh, withLetter, withByte, withBytes}
+use Rattle.read.specs.inner.Naming.{fresh, withLetter, withByte, withBytes}
 use Rattle.read.proofs.FieldLaws.{no-fields, first-cut, later-cut, first-more, later-same, field-bytes}
 
 -- one more letter, and one too many

@@ -13,7 +13,8 @@ use Rattle.laws.proofs.Cases.{equal-or-not}
 use Rattle.form.specs.declared.limits.Limits.{Limits}
 use Rattle.form.specs.declared.separators.Separators.{Separators}
 use Rattle.line.specs.Lines.{Lines, walkFrom, texts}
-use Rattle.line.specs.Finding.{foundAt, handedOut}
+use Rattle.line.specs.Finding.{foundAt}
+use Rattle.line.specs.inner.Ending.{handedOut}
 use Rattle.line.specs.Joining.{addendum, carried, joined}
 use Rattle.line.specs.declared.finder.Found.{Found}
 use Rattle.line.specs.declared.finder.Found.the-variants.{Line, End, Fault}
@@ -22,11 +23,11 @@ use Rattle.line.proofs.Handing.{walkFrom-found}
 use Rattle.table.specs.Leaves.{kindOfSegment}
 use Rattle.table.specs.Rows.{kindsOf}
 use Rattle.read.specs.declared.survey.Survey.{Survey}
-use Rattle.read.specs.Filling.{segmentsIn}
-use Rattle.read.specs.Noting.{Noted}
-use Rattle.read.specs.Seeing.{nothingSeen, kindSeen}
-use Rattle.read.specs.Starting.{textFrom}
-use Rattle.read.specs.Underway.{Underway, LineBegun}
+use Rattle.read.specs.Sound.{segmentsIn}
+use Rattle.read.specs.inner.Noting.{Noted}
+use Rattle.read.specs.inner.Seeing.{nothingSeen, kindSeen}
+use Rattle.read.specs.inner.Starting.{textFrom}
+use Rattle.read.specs.inner.Underway.{Underway, LineBegun}
 use Rattle.read.proofs.Starting.{begins-segment}
 use Rattle.read.proofs.Seeing.{kind-seen}
 

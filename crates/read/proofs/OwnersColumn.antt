@@ -15,7 +15,7 @@ use Rattle.table.proofs.Room.{roomy-segments}
 use Rattle.table.proofs.SegmentColumns.{RowOf, table-rows, length-table-rows, front-row}
 use Rattle.read.specs.declared.Answer.{Answer}
 use Rattle.read.specs.Answering.{answerOf, segmentsPut, roomOf, ReadAs}
-use Rattle.read.specs.Filling.{segmentsIn}
+use Rattle.read.specs.Sound.{segmentsIn}
 use Rattle.read.proofs.Acceptance.{accepted-read}
 
 -- an accepted call leaves the row of each segment at its place

@@ -10,7 +10,7 @@ use lib.ListN.{length, take, drop, getD, length-drop}
 use lib.Seq.{drop-cons, drop-drop, getD-drop, take-add, length-take-le}
 use borrow.Author.Tests.{eqb-true, eqb-false, eq-eqb, ne-eqb}
 use Rattle.laws.proofs.Tests.{Tested, passed, failed, tested}
-use Rattle.read.specs.Scanning.{run, marks, plainRun}
+use Rattle.read.specs.inner.Scanning.{run, marks, plainRun}
 
 -- the text, and the line, from the byte i on
 abbrev pub plainText : List ℕ → List ℕ → ℕ → List ℕ

@@ -18,9 +18,9 @@ use Rattle.form.specs.Header.{splitting}
 use Rattle.laws.proofs.Bytes.{Bytes}
 use Rattle.line.specs.Finding.{textRun}
 use Rattle.line.proofs.Runs.{textRun-nil, textRun-more, textRun-stop}
-use Rattle.table.specs.Classes.{classTable}
+use Rattle.table.specs.inner.Classes.{classTable}
 use Rattle.table.proofs.Classes.{class-at, class-low, class-high, sort-within, sort-none, sort-some}
-use Rattle.read.specs.Scanning.{run, marks}
+use Rattle.read.specs.inner.Scanning.{run, marks}
 use Rattle.read.proofs.PlainLaws.{run-more, run-ended, marks-text, marks-more, marks-ended}
 
 -- of no bytes

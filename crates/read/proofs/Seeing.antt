@@ -13,7 +13,7 @@ use lib.Seq.{drop-append-le}
 use borrow.Author.Tests.{eq-eqb, ne-eqb}
 use Rattle.laws.specs.Lists.{same, among, count, firstFrom, firstOf}
 use Rattle.laws.specs.Texts.{bytes}
-use Rattle.laws.specs.Sums.{sumOf}
+use Rattle.laws.specs.inner.Sums.{sumOf}
 use Rattle.laws.specs.Every.{All, none}
 use Rattle.laws.proofs.Cases.{equal-or-not}
 use Rattle.laws.proofs.Every.{all-append}
@@ -22,10 +22,11 @@ use Rattle.laws.proofs.Sums.{sumOf-nil, sumOf-cons, sumOf-append}
 use Rattle.form.specs.declared.separators.Separators.{Separators}
 use Rattle.form.specs.Header.{splitting}
 use Rattle.form.specs.Names.{contextNames, kindNames, numberAmong, contextOf}
-use Rattle.order.specs.Followers.{followers}
-use Rattle.order.specs.Watcher.{begun, followsBy, tellBy, tellOf, watched}
-use Rattle.order.specs.Refusing.{firstNo}
-use Rattle.order.specs.Place.{misplaced}
+use Rattle.order.specs.inner.Followers.{followers}
+use Rattle.order.specs.Watcher.{begun, watched}
+use Rattle.order.specs.inner.Telling.{followsBy, tellBy, tellOf}
+use Rattle.order.specs.inner.Refusing.{firstNo}
+use Rattle.order.specs.inner.Place.{misplaced}
 use Rattle.order.specs.declared.watcher.Watcher.{Watcher}
 use Rattle.order.specs.declared.watcher.Told.{Told}
 use Rattle.order.proofs.Watching.{by-this-table}
@@ -33,16 +34,16 @@ use Rattle.order.proofs.Watched.{same-context}
 use Rattle.order.proofs.Checking.{place-by-watcher}
 use Rattle.order.proofs.Refusing.{watched-append, no-append, placeTold, place-told}
 use Rattle.table.specs.Leaves.{split, kindOfSegment, contextOfHeader}
-use Rattle.table.specs.Filed.{headerBytes}
+use Rattle.table.specs.inner.Filed.{headerBytes}
 use Rattle.table.specs.Rows.{kindsOf, contextIn, allLeaves}
 use Rattle.table.specs.Reading.{firstUnknown}
 use Rattle.table.proofs.Counting.{length-allSegments}
 use Rattle.read.specs.declared.name.Name.{Name}
 use Rattle.read.specs.declared.survey.Survey.{Survey}
-use Rattle.read.specs.Naming.{fresh, withBytes}
-use Rattle.read.specs.Seeing.{nothingSeen, contextWith, textJoined, kindSeen, contextSeen, watching, toldNow, segmentShut, segmentBegun}
-use Rattle.read.specs.Surveying.{placeSeen, SegmentsKnown}
-use Rattle.read.specs.Underway.{Seen}
+use Rattle.read.specs.inner.Naming.{fresh, withBytes}
+use Rattle.read.specs.inner.Seeing.{nothingSeen, contextWith, textJoined, kindSeen, contextSeen, watching, toldNow, segmentShut, segmentBegun}
+use Rattle.read.specs.inner.Surveying.{placeSeen, SegmentsKnown}
+use Rattle.read.specs.inner.Underway.{Seen}
 use Rattle.read.proofs.Naming.{numberPacked, letter-kept, byte-separator, byte-letter, bytes-none, bytes-more, bytes-settled, bytes-append, segment-kind, header-context}
 
 -- the context's letters, and the watcher: only the first segment matters

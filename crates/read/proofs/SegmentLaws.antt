@@ -8,16 +8,16 @@ use lib.ListN.{drop}
 use lib.Seq.{sets}
 use Rattle.form.specs.declared.separators.Separators.{Separators}
 use Rattle.line.specs.Finding.{lowRun}
-use Rattle.order.specs.Levels.{levelIn}
-use Rattle.order.specs.Owning.{Owned}
+use Rattle.order.specs.inner.Levels.{levelIn}
+use Rattle.order.specs.inner.Owning.{Owned}
 use Rattle.table.specs.Rows.{segmentRowSize, leafRowSize}
-use Rattle.table.specs.Filed.{headerBytes}
-use Rattle.table.specs.OnePass.{headerPass}
+use Rattle.table.specs.inner.Filed.{headerBytes}
+use Rattle.table.specs.inner.OnePass.{headerPass}
 use Rattle.read.specs.declared.lay.Laying.{Laying}
 use Rattle.read.specs.declared.lay.Laid.{Laid}
 use Rattle.read.specs.declared.fill.Filling.{Filling}
-use Rattle.read.specs.Laying.{leafPlace, rowOf, nextLeaf, nextSegment, PlaceCounted, Held, LaidBy}
-use Rattle.read.specs.Segments.{rowClosed, ClosedBy, begunAfter, HeaderPut, LineFilled}
+use Rattle.read.specs.inner.Laying.{leafPlace, rowOf, nextLeaf, nextSegment, PlaceCounted, Held, LaidBy}
+use Rattle.read.specs.inner.Segments.{rowClosed, ClosedBy, begunAfter, HeaderPut, LineFilled}
 use Rattle.read.proofs.HeldLaws.{leaf-closes, held-begins, held-copied, held-put}
 
 -- a segment closed, from the level and the owner that were told of its kind

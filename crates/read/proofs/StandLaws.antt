@@ -15,20 +15,21 @@ use Rattle.form.specs.declared.separators.Separators.{Separators}
 use Rattle.form.proofs.HeaderRule.{sound-header}
 use Rattle.laws.proofs.Bytes.{Bytes}
 use Rattle.line.specs.Joining.{addendum}
-use Rattle.line.specs.Left.{LeftAt}
+use Rattle.line.specs.inner.Left.{LeftAt}
 use Rattle.line.proofs.Left.{none-left, segments-left}
-use Rattle.order.specs.Levels.{levelIn}
+use Rattle.order.specs.inner.Levels.{levelIn}
 use Rattle.order.specs.Owners.{owners}
 use Rattle.order.proofs.Owner.{owned-owners}
 use Rattle.table.specs.Leaves.{kindOfSegment, messageLeaves}
 use Rattle.table.specs.Rows.{leafRowSize, segmentRowsOf, leafRowsFrom, textOf, kindsOf, allLeaves, tableOf}
 use Rattle.read.specs.declared.fill.Filling.{Filling}
 use Rattle.read.specs.declared.fill.Line.{Line}
-use Rattle.read.specs.Scanning.{run}
-use Rattle.read.specs.Starting.{textFrom}
-use Rattle.read.specs.Laying.{nextSegment, NextFits, Lays}
-use Rattle.read.specs.Filling.{segmentsIn, tableIn, Fillable, Filled}
-use Rattle.read.specs.Segments.{kindNoted, Closable, ClosedBy, begunAfter, lineText, lineAfter, LineFilled, closedRows, Begun, Came, Stands, AtLine}
+use Rattle.read.specs.inner.Scanning.{run}
+use Rattle.read.specs.inner.Starting.{textFrom}
+use Rattle.read.specs.inner.Laying.{nextSegment, NextFits, Lays}
+use Rattle.read.specs.inner.Filling.{tableIn, Fillable, Filled}
+use Rattle.read.specs.Sound.{segmentsIn}
+use Rattle.read.specs.inner.Segments.{kindNoted, Closable, ClosedBy, begunAfter, lineText, lineAfter, LineFilled, closedRows, Begun, Came, Stands, AtLine}
 use Rattle.read.proofs.Noting.{kind-found}
 use Rattle.read.proofs.BegunLaws.{leaves-some, begun-leaves, begun-own, begun-joined, closed-rows, begun-next, begun-ends}
 use Rattle.read.proofs.Starting.{begins-segment, carries-on, carried-from, from-past}

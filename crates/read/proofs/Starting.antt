@@ -16,8 +16,8 @@ use Rattle.form.proofs.HeaderRule.{SoundHeader}
 use Rattle.line.specs.Joining.{letterA, addendum}
 use Rattle.line.specs.Finding.{textRun}
 use Rattle.line.proofs.Runs.{textRun-nil, textRun-more}
-use Rattle.table.specs.Filed.{headerBytes}
-use Rattle.read.specs.Starting.{textFrom}
+use Rattle.table.specs.inner.Filed.{headerBytes}
+use Rattle.read.specs.inner.Starting.{textFrom}
 
 -- a list that begins with another byte than `A` is no addendum, nor is one of a single byte, nor one whose second byte is no separator
 module _ (f : ℕ) where

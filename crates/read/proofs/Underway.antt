@@ -15,28 +15,29 @@ use Rattle.form.specs.declared.separators.Separators.{Separators}
 use Rattle.form.specs.Header.{splitting}
 use Rattle.laws.proofs.Bytes.{Bytes}
 use Rattle.form.proofs.HeaderRule.{SoundHeader}
-use Rattle.order.specs.Followers.{followers}
-use Rattle.order.specs.Watcher.{followsBy}
+use Rattle.order.specs.inner.Followers.{followers}
+use Rattle.order.specs.inner.Telling.{followsBy}
 use Rattle.line.specs.Lines.{fault, line, walkFrom, walk, texts, faultNumber, faultPlace}
-use Rattle.line.specs.Finding.{textRun, foundAt, handedOut, endedLine}
+use Rattle.line.specs.Finding.{textRun, foundAt}
+use Rattle.line.specs.inner.Ending.{handedOut, endedLine}
 use Rattle.line.specs.Joining.{letterA, addendum, joined}
 use Rattle.line.specs.declared.finder.Found.the-variants.{Line, Fault}
-use Rattle.line.specs.Left.{Left}
+use Rattle.line.specs.inner.Left.{Left}
 use Rattle.line.proofs.Joining.{addendum-line, addendum-front}
 use Rattle.line.proofs.Left.{left-addendum, left-segment, left-first, none-faulty, none-left}
 use Rattle.line.proofs.Runs.{textRun-more, textRun-take, textRun-past, textRun-length}
 use Rattle.line.proofs.Finding.{found-ended, EndedAt, ended-at}
 use Rattle.line.proofs.Handing.{walkFrom-found, line-within}
-use Rattle.table.specs.Filed.{headerBytes}
+use Rattle.table.specs.inner.Filed.{headerBytes}
 use Rattle.table.proofs.HeaderBytes.{header-bytes}
 use Rattle.read.specs.declared.survey.Survey.{Survey}
 use Rattle.read.specs.declared.survey.Step.the-variants.{On}
-use Rattle.table.specs.Classes.{classTable}
-use Rattle.read.specs.Scanning.{run, marks}
-use Rattle.read.specs.Starting.{textFrom}
-use Rattle.read.specs.Seeing.{nothingSeen, textJoined, segmentShut, segmentBegun}
-use Rattle.read.specs.Surveying.{SegmentsKnown}
-use Rattle.read.specs.Underway.{Seen, Underway, LineBegun, StepOf}
+use Rattle.table.specs.inner.Classes.{classTable}
+use Rattle.read.specs.inner.Scanning.{run, marks}
+use Rattle.read.specs.inner.Starting.{textFrom}
+use Rattle.read.specs.inner.Seeing.{nothingSeen, textJoined, segmentShut, segmentBegun}
+use Rattle.read.specs.inner.Surveying.{SegmentsKnown}
+use Rattle.read.specs.inner.Underway.{Seen, Underway, LineBegun, StepOf}
 use Rattle.read.proofs.Scanning.{run-text, marks-separators}
 use Rattle.read.proofs.Starting.{addendum-other, addendum-view, begins-segment, carries-on, carried-from, header-seven}
 use Rattle.read.proofs.Seeing.{seen-begins, seen-text, seen-next, seen-closed}

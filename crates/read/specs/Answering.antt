@@ -8,7 +8,6 @@ use lib.ListN.{length}
 use lib.Seq.{sets}
 use Rattle.form.specs.declared.limits.Limits.{Limits}
 use Rattle.table.specs.declared.Card.{Card}
-use Rattle.table.specs.Rows.{Table}
 use Rattle.table.specs.Reading.{Room, Outcome, refused, accepted, reading}
 use Rattle.read.specs.declared.Answer.{Answer}
 

@@ -1,13 +1,3 @@
-pub mod Naming
-pub mod Scanning
-pub mod Laying
-pub mod Starting
-pub mod Noting
-pub mod Surveying
-pub mod Seeing
-pub mod Underway
-pub mod Filling
-pub mod Segments
 pub mod Answering
-pub mod Deciding
 pub mod Sound
+pub mod inner

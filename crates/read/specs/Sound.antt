@@ -10,10 +10,14 @@ use Rattle.form.specs.declared.limits.Limits.{Limits}
 use Rattle.form.specs.declared.separators.Separators.{Separators}
 use Rattle.form.specs.declared.separators.Header.the-variants.{Sound}
 use Rattle.form.specs.Header.{headerOf}
-use Rattle.line.specs.Lines.{walk, faultNumber}
+use Rattle.line.specs.Lines.{walk, texts, faultNumber}
+use Rattle.line.specs.Joining.{joined}
 use Rattle.table.specs.Rows.{allLeaves}
 use Rattle.table.specs.Reading.{Room, short}
-use Rattle.read.specs.Filling.{segmentsIn}
+
+-- the joined segments of a message
+abbrev pub segmentsIn : Limits → Separators → List ℕ → List (List ℕ)
+segmentsIn L ps message = joined (ps .field) (texts (walk L message))
 
 -- a message within the limit of bytes "whose header and lines pass their rules": its header names the separators ps, and no line has a fault
 pub record SoundLines (L : Limits) (message : List ℕ) (ps : Separators) : Type 0 where

@@ -10,9 +10,9 @@ use form::separators::Separators;
 use table::class::set_classes;
 use table::rows;
 ghost use mathlib.Core.Path.{_≡_};
-ghost use Rattle.table.specs.Rows.{FitsRows};
+ghost use Rattle.table.specs.inner.Fitting.{FitsRows};
 ghost use Rattle.table.specs.Reading.{ofMessage, reading};
-ghost use Rattle.read.specs.Deciding.{refusedAt, decisionOf, DecidesAs, Decidable, HeaderPassed};
+ghost use Rattle.read.specs.inner.Deciding.{refusedAt, decisionOf, DecidesAs, Decidable, HeaderPassed};
 
 // What deciding comes to: the number and the place of a refusal, all else zero; or 0 and 0, and what the message has.
 pub struct Decision {

@@ -17,9 +17,9 @@ ghost use Prim.Native.Nat.{_+_, _*_, _≤_};
 ghost use lib.ListN.{length};
 ghost use lib.Seq.{sets};
 ghost use Rattle.table.specs.Rows.{segmentRowSize, leafRowSize, segmentRow};
-ghost use Rattle.read.specs.Laying.{NextFits, Lays};
-ghost use Rattle.read.specs.Filling.{tableIn, Prepared, Filled};
-ghost use Rattle.read.specs.Segments.{kindNoted, Closable, ClosedBy, begunAfter, HeaderPut, LineFilled};
+ghost use Rattle.read.specs.inner.Laying.{NextFits, Lays};
+ghost use Rattle.read.specs.inner.Filling.{tableIn, Prepared, Filled};
+ghost use Rattle.read.specs.inner.Segments.{kindNoted, Closable, ClosedBy, begunAfter, HeaderPut, LineFilled};
 
 // How far the second pass has come: its leaves, and the number of the open segment's first leaf.
 pub struct Filling {

@@ -6,8 +6,8 @@ ghost use mathlib.Core.Path.{_≡_};
 ghost use Prim.Native.Nat.{_+_, _≤_, _<_};
 ghost use lib.ListN.{length, take, drop};
 ghost use lib.Seq.{sets};
-ghost use Rattle.read.specs.Scanning.{plainRun};
-ghost use Rattle.read.specs.Laying.{rowOf, nextLeaf, nextSegment, NextFits, RowFits, Lays, LaidBy};
+ghost use Rattle.read.specs.inner.Scanning.{plainRun};
+ghost use Rattle.read.specs.inner.Laying.{rowOf, nextLeaf, nextSegment, NextFits, RowFits, Lays, LaidBy};
 
 // How far the pass has come: where the row of the leaf begun goes, behind a row for each leaf closed, the place of that leaf, and where
 // its text begins and ends so far.

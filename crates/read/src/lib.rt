@@ -9,11 +9,11 @@ use table::Card;
 use table::rows::Entry;
 ghost use mathlib.Core.Path.{_≡_};
 ghost use Rattle.form.specs.Limits.{form};
-ghost use Rattle.order.specs.Levels.{levelIn};
+ghost use Rattle.order.specs.inner.Levels.{levelIn};
 ghost use Rattle.order.specs.Owners.{level};
 ghost use Rattle.table.specs.Reading.{refused};
 ghost use Rattle.read.specs.Answering.{ReadAs, answerOf};
-ghost use Rattle.read.specs.Deciding.{ReadsWithin};
+ghost use Rattle.read.specs.inner.Deciding.{ReadsWithin};
 
 mod decide;
 mod fill;

@@ -2,7 +2,7 @@
 ghost use mathlib.Core.Path.{_≡_};
 ghost use Prim.Native.Nat.{_≤_, _-_};
 ghost use lib.ListN.{length, take, drop};
-ghost use Rattle.read.specs.Naming.{fresh, withLetter, withByte, withBytes};
+ghost use Rattle.read.specs.inner.Naming.{fresh, withLetter, withByte, withBytes};
 
 // No number of more than three letters is kept: this one stands for them all.
 const TOO_MANY: u32 = 33554432;

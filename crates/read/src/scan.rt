@@ -3,7 +3,7 @@ use table::class::index;
 ghost use mathlib.Core.Path.{_≡_};
 ghost use Prim.Native.Nat.{_+_, _-_, _≤_};
 ghost use lib.ListN.{length, take, drop};
-ghost use Rattle.read.specs.Scanning.{run, marks};
+ghost use Rattle.read.specs.inner.Scanning.{run, marks};
 
 pub struct Scanned {
     pub end: usize,

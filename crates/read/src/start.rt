@@ -2,7 +2,7 @@
 ghost use mathlib.Core.Bool.{true, false};
 ghost use mathlib.Core.Path.{_≡_};
 ghost use lib.ListN.{drop};
-ghost use Rattle.read.specs.Starting.{textFrom};
+ghost use Rattle.read.specs.inner.Starting.{textFrom};
 
 // Past A and the field separator on an addendum; else where the line begins, which begins a segment.
 pub(crate) fn text_from(message: &[u8], at: usize, field: u8) -> usize

@@ -16,10 +16,10 @@ ghost use mathlib.Core.Path.{_≡_};
 ghost use Prim.Native.Nat.{_+_, _-_, _≤_, _<_};
 ghost use lib.ListN.{length, set, take, drop};
 ghost use Rattle.laws.specs.Lists.{firstOf};
-ghost use Rattle.order.specs.Watcher.{followsBy};
-ghost use Rattle.read.specs.Seeing.{nothingSeen, textJoined, kindSeen, watching, segmentShut, segmentBegun};
-ghost use Rattle.read.specs.Underway.{Seeable, StepOf};
-ghost use Rattle.read.specs.Surveying.{Ready, SurveyOf};
+ghost use Rattle.order.specs.inner.Telling.{followsBy};
+ghost use Rattle.read.specs.inner.Seeing.{nothingSeen, textJoined, kindSeen, watching, segmentShut, segmentBegun};
+ghost use Rattle.read.specs.inner.Underway.{Seeable, StepOf};
+ghost use Rattle.read.specs.inner.Surveying.{Ready, SurveyOf};
 
 // What is known once some lines have been seen. The last segment begun is open: lines may still carry it on.
 pub struct Survey {

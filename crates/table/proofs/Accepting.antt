@@ -21,7 +21,7 @@ use Rattle.form.specs.Header.{headerOf}
 use Rattle.form.specs.Numbers.{shortBuffer, longMessage, brokenHeader, manySegments, unknownKind, noContext, misplacedKind, manyLeaves}
 use Rattle.line.specs.Lines.{walk, texts, faultNumber, faultPlace}
 use Rattle.line.specs.Joining.{joined}
-use Rattle.order.specs.Place.{misplaced}
+use Rattle.order.specs.inner.Place.{misplaced}
 use Rattle.table.specs.Rows.{Table, kindsOf, contextIn, allLeaves, tableOf}
 use Rattle.table.specs.Reading.{Room, Outcome, refused, accepted, refuseIf, refuseAt, short, firstUnknown, judged, ofMessage, reading}
 

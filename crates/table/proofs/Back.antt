@@ -15,8 +15,8 @@ use Rattle.line.specs.Lines.{CR}
 use Rattle.table.specs.Leaves.{Leaf, split}
 use Rattle.table.specs.Rows.{Table, allLeaves, tableOf}
 use Rattle.table.specs.Back.{leafAt, leavesOf, separatorsAt, separatorsIn, between, unsplitFrom, unsplit, segmentsOf}
-use Rattle.table.specs.Flat.{leaf, raised, flat, Without, gluedTo, glued}
-use Rattle.table.specs.Filed.{headerBytes, Filed}
+use Rattle.table.specs.inner.Flat.{leaf, raised, flat, Without, gluedTo, glued}
+use Rattle.table.specs.inner.Filed.{headerBytes, Filed}
 use Rattle.table.proofs.Splitting.{split-gluedTo}
 use Rattle.table.proofs.Flat.{flat-separator, flat-text, headLeaf, separatorsLeaf, message-flat}
 use Rattle.table.proofs.Places.{length-raised, between-raised}

@@ -14,8 +14,8 @@ use Rattle.form.specs.declared.separators.Separators.{Separators}
 use Rattle.form.specs.Header.{splitting}
 use Rattle.table.specs.Leaves.{Leaf, segmentLeaves, headerLeaves, leavesFrom, messageLeaves}
 use Rattle.table.specs.Rows.{allLeaves}
-use Rattle.table.specs.Flat.{flat, under}
-use Rattle.table.specs.BySegment.{segmentOf, withLeaf, bySegment}
+use Rattle.table.specs.inner.Flat.{flat, under}
+use Rattle.table.specs.inner.BySegment.{segmentOf, withLeaf, bySegment}
 use Rattle.table.proofs.Flat.{segment-flat, header-flat}
 use Rattle.table.proofs.Counting.{length-segmentLeaves}
 

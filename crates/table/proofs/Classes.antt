@@ -20,7 +20,7 @@ use Rattle.laws.proofs.Tables.{changed, set-values, replicate-values, getD-valu
 use Rattle.form.specs.declared.separators.Separators.{Separators}
 use Rattle.form.specs.Header.{splitting}
 use Rattle.line.specs.Lines.{CR}
-use Rattle.table.specs.Classes.{sortOf, classOf, classTable, classesOver}
+use Rattle.table.specs.inner.Classes.{sortOf, classOf, classTable, classesOver}
 
 -- four stores into an empty table give the sorts: the coarsest, stored last, counts where two are the same byte
 sorts-stored : (ps : Separators) (n : ℕ)

@@ -10,7 +10,7 @@ use lib.ListN.{length, length-append}
 use Rattle.laws.specs.Lists.{among}
 use Rattle.laws.specs.Every.{All, none, also}
 use Rattle.table.specs.Leaves.{Leaf}
-use Rattle.table.specs.Flat.{Pass, steps}
+use Rattle.table.specs.inner.Flat.{Pass, steps}
 use Rattle.table.specs.Rows.{leafRowSize, leafRowsFrom, textOf}
 use Rattle.table.proofs.LeafRows.{Placed}
 use Rattle.table.proofs.Passes.{step-text}

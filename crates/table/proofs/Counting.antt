@@ -6,7 +6,7 @@ use Prim.Native.Nat.{ℕ, suc, _+_, _≤_}
 use native.Mathlib.Omega.{arith}
 use lib.ListN.{length, drop, length-map, length-append}
 use Rattle.laws.specs.Lists.{among, count, concat}
-use Rattle.laws.specs.Sums.{sumOf}
+use Rattle.laws.specs.inner.Sums.{sumOf}
 use Rattle.laws.specs.Every.{All}
 use Rattle.laws.proofs.Tests.{Tested, passed, failed, tested}
 use Rattle.laws.proofs.Lists.{count-pass, count-fail}
@@ -15,7 +15,7 @@ use Rattle.form.specs.Header.{splitting}
 use Rattle.line.specs.Lines.{CR}
 use Rattle.table.specs.Leaves.{Leaf, leaves, segmentLeaves, headerLeaves, leavesFrom, messageLeaves}
 use Rattle.table.specs.Rows.{textOf, allLeaves}
-use Rattle.table.specs.Flat.{leaf, ones, raised, flat, under, Without, glued}
+use Rattle.table.specs.inner.Flat.{leaf, ones, raised, flat, under, Without, glued}
 use Rattle.table.proofs.Flat.{flat-separator, flat-text, leaves-flat, header-flat, message-flat}
 
 pub length-flat : (ps place text s : List ℕ) → length (flat ps place text s) ≡ suc (count (among ps) s)

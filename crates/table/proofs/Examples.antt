@@ -12,7 +12,7 @@ use Rattle.line.specs.Lines.{inside, walkFrom, walk, texts, faultNumber, faultP
 use Rattle.line.specs.Joining.{addendum, carried, joined}
 use Rattle.line.specs.Cutting.{pieces, addenda, cut, cuts, unlines}
 use Rattle.order.specs.Contexts.{segment, H, P, AP, AC, OBR, OBX, FAC, REG, ACT, ERR, L, orders, cover, invoices, bodies, messageShape, grammar}
-use Rattle.order.specs.Place.{empties, told, rowTold, rowsTold, rowEmpties, rowsEmpty, placeFrom, misplaced}
+use Rattle.order.specs.inner.Place.{empties, told, rowTold, rowsTold, rowEmpties, rowsEmpty, placeFrom, misplaced}
 use Rattle.order.specs.Owners.{levels, level, nearest, isC, owner, ownersAfter, owners}
 use Rattle.table.specs.Leaves.{onto, split, leaves, segmentLeaves, headerLeaves, leavesFrom, messageLeaves, kindOfSegment, contextOfHeader}
 use Rattle.table.specs.Rows.{segmentRowsFrom, leafRowsFrom, textOf, kindsOf, contextIn, allLeaves, tableOf}

@@ -23,10 +23,10 @@ use Rattle.form.proofs.HeaderRule.{AllAllowed}
 use Rattle.form.proofs.Names.{capitals, capital-at, known-passes, kinds-capitals, contexts-capitals}
 use Rattle.table.specs.Leaves.{Leaf, split, onto, leaves, segmentLeaves, headerLeaves, leavesFrom, messageLeaves, kindOfSegment, contextOfHeader}
 use Rattle.table.specs.Rows.{kindsOf, contextIn}
-use Rattle.table.specs.Flat.{leaf, ones, flat, under}
-use Rattle.table.specs.Filed.{headerBytes, Filed}
-use Rattle.table.specs.Sound.{Plain, plain}
-use Rattle.table.specs.BySegment.{fieldOf, goesOn, numberOfField, kindAmong, contextAmong}
+use Rattle.table.specs.inner.Flat.{leaf, ones, flat, under}
+use Rattle.table.specs.inner.Filed.{headerBytes, Filed}
+use Rattle.table.specs.inner.Sound.{Plain, plain}
+use Rattle.table.specs.inner.BySegment.{fieldOf, goesOn, numberOfField, kindAmong, contextAmong}
 use Rattle.table.proofs.Splitting.{split-at, split-onto}
 use Rattle.table.proofs.Flat.{leaves-flat}
 use Rattle.table.proofs.Counting.{length-leaves}

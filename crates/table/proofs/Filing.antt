@@ -22,14 +22,14 @@ use Rattle.laws.specs.Lists.{same, firstFrom}
 use Rattle.laws.specs.Texts.{bytes}
 use Rattle.line.specs.Lines.{CR, walk, texts, faultNumber}
 use Rattle.line.specs.Joining.{letterA, addendum, joined}
-use Rattle.line.specs.Sound.{Text}
+use Rattle.line.specs.inner.Sound.{Text}
 use Rattle.line.proofs.Walking.{texts-sound}
 use Rattle.line.proofs.Joining.{joined-segment}
 use Rattle.line.proofs.Written.{Worded, joined-worded}
 use Rattle.line.proofs.FirstLine.{FirstBegins, walk-begins}
 use Rattle.table.specs.Leaves.{split, onto, kindOfSegment}
-use Rattle.table.specs.Flat.{Without}
-use Rattle.table.specs.Filed.{headerBytes, Filed}
+use Rattle.table.specs.inner.Flat.{Without}
+use Rattle.table.specs.inner.Filed.{headerBytes, Filed}
 use Rattle.table.specs.Rows.{Table, kindsOf}
 use Rattle.table.specs.Reading.{Room}
 use Rattle.table.proofs.Splitting.{split-at, split-onto}

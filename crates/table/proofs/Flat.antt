@@ -17,7 +17,7 @@ use Rattle.form.specs.Header.{splitting}
 use Rattle.line.specs.Lines.{CR}
 use Rattle.table.specs.Leaves.{Leaf, split, leaves, segmentLeaves, headerLeaves, leavesFrom, messageLeaves}
 use Rattle.table.specs.Rows.{allLeaves}
-use Rattle.table.specs.Flat.{leaf, ones, raised, flat, under, Without, gluedTo, glued}
+use Rattle.table.specs.inner.Flat.{leaf, ones, raised, flat, under, Without, gluedTo, glued}
 use Rattle.table.proofs.Splitting.{firstPart, otherParts, first-ends, first-more, others-begin, others-later}
 use Rattle.table.proofs.Splitting.{split-parts, split-gluedTo}
 

@@ -14,9 +14,9 @@ use Rattle.form.specs.declared.separators.Separators.{Separators}
 use Rattle.form.specs.Header.{splitting}
 use Rattle.line.specs.Lines.{CR}
 use Rattle.table.specs.Rows.{allLeaves}
-use Rattle.table.specs.Flat.{Without, gluedTo, glued, step, steps, ended}
-use Rattle.table.specs.Filed.{headerBytes, Filed}
-use Rattle.table.specs.OnePass.{headerPass, passOver}
+use Rattle.table.specs.inner.Flat.{Without, gluedTo, glued, step, steps, ended}
+use Rattle.table.specs.inner.Filed.{headerBytes, Filed}
+use Rattle.table.specs.inner.OnePass.{headerPass, passOver}
 use Rattle.table.proofs.Counting.{length-allLeaves}
 use Rattle.table.proofs.Passes.{left, left-steps, left-none, steps-append, steps-one}
 use Rattle.table.proofs.Back.{filed-some}

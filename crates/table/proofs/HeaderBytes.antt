@@ -14,9 +14,9 @@ use Rattle.form.specs.declared.separators.Header.the-variants.{Sound}
 use Rattle.form.specs.Header.{separatorsOf, headerOf}
 use Rattle.form.proofs.HeaderRule.{Allowed, AllAllowed, AllDifferent, SoundHeader, header-sound}
 use Rattle.line.specs.Lines.{CR, space}
-use Rattle.line.specs.Sound.{Text}
-use Rattle.table.specs.Flat.{Without}
-use Rattle.table.specs.Filed.{headerBytes}
+use Rattle.line.specs.inner.Sound.{Text}
+use Rattle.table.specs.inner.Flat.{Without}
+use Rattle.table.specs.inner.Filed.{headerBytes}
 
 -- separators from the five bytes
 unfoldable pub fromBytes : ℕ → ℕ → ℕ → ℕ → ℕ → Separators

@@ -18,11 +18,11 @@ use Rattle.form.specs.declared.separators.Separators.{Separators}
 use Rattle.form.specs.Header.{splitting}
 use Rattle.form.proofs.HeaderRule.{AllAllowed}
 use Rattle.line.specs.Lines.{CR, space}
-use Rattle.line.specs.Sound.{Text}
+use Rattle.line.specs.inner.Sound.{Text}
 use Rattle.table.specs.Leaves.{Leaf}
 use Rattle.table.specs.Rows.{textOf, allLeaves}
-use Rattle.table.specs.Flat.{raised, flat, Without, gluedTo, glued}
-use Rattle.table.specs.Filed.{headerBytes, Filed}
+use Rattle.table.specs.inner.Flat.{raised, flat, Without, gluedTo, glued}
+use Rattle.table.specs.inner.Filed.{headerBytes, Filed}
 use Rattle.table.proofs.Flat.{flat-separator, flat-text, drop-gluedTo}
 use Rattle.table.proofs.Back.{filed-some, filed-header}
 use Rattle.table.proofs.SoundTables.{headed, afterHeader, filed-leaves}

@@ -9,7 +9,7 @@ use lib.ListN.{length}
 use Rattle.laws.specs.Lists.{among}
 use Rattle.laws.proofs.Tests.{Tested, passed, failed, tested}
 use Rattle.table.specs.Leaves.{Leaf}
-use Rattle.table.specs.Flat.{leaf, raised, flat, Pass, step, steps, ended}
+use Rattle.table.specs.inner.Flat.{leaf, raised, flat, Pass, step, steps, ended}
 use Rattle.table.proofs.Flat.{flat-separator, flat-text}
 use Rattle.table.proofs.Places.{Within, within-more, length-raised, raised-within}
 

@@ -16,9 +16,9 @@ use Rattle.laws.proofs.Tests.{Tested, passed, failed, tested, and-first, and-se
 use Rattle.form.specs.Header.{different}
 use Rattle.line.specs.Lines.{space}
 use Rattle.table.specs.Back.{between}
-use Rattle.table.specs.Flat.{ones, raised}
-use Rattle.table.specs.Sound.{Plain, onward}
-use Rattle.table.specs.RowTests.{nextPlace, leafText}
+use Rattle.table.specs.inner.Flat.{ones, raised}
+use Rattle.table.specs.inner.Sound.{Plain, onward}
+use Rattle.table.specs.inner.RowTests.{nextPlace, leafText}
 use Rattle.table.proofs.Flat.{raised-here, raised-later}
 use Rattle.table.proofs.Places.{between-here, between-later}
 use Rattle.table.proofs.LeafTexts.{AllText}

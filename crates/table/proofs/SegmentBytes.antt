@@ -7,7 +7,7 @@ use Prim.Native.Nat.{ℕ, suc, _+_, _-_, _≤_}
 use native.Mathlib.Omega.{arith}
 use lib.ListN.{length, take, drop, length-append, length-take, length-drop}
 use Rattle.laws.specs.Lists.{concat}
-use Rattle.laws.specs.Sums.{sumOf}
+use Rattle.laws.specs.inner.Sums.{sumOf}
 use Rattle.form.specs.declared.limits.Limits.{Limits}
 use Rattle.form.specs.declared.separators.Separators.{Separators}
 use Rattle.form.specs.Limits.{Lawful}
@@ -17,9 +17,9 @@ use Rattle.line.specs.Cutting.{cut, cuts, unlines}
 use Rattle.line.proofs.Cutting.{cuts-nil, cuts-cons, unlines-nil, unlines-append, length-unlines-cut}
 use Rattle.table.specs.Leaves.{Leaf, segmentLeaves, headerLeaves, leavesFrom, messageLeaves}
 use Rattle.table.specs.Rows.{textOf}
-use Rattle.table.specs.Flat.{flat, under}
-use Rattle.table.specs.Filed.{headerBytes, Filed}
-use Rattle.table.specs.BySegment.{segmentBytes, writtenBytes}
+use Rattle.table.specs.inner.Flat.{flat, under}
+use Rattle.table.specs.inner.Filed.{headerBytes, Filed}
+use Rattle.table.specs.inner.BySegment.{segmentBytes, writtenBytes}
 use Rattle.table.proofs.Flat.{headLeaf, separatorsLeaf, segment-flat, header-flat}
 use Rattle.table.proofs.Back.{filed-some}
 use Rattle.table.proofs.LeafRows.{textOf-append}

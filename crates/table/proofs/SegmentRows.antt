@@ -11,8 +11,8 @@ use Rattle.order.specs.Owners.{owner, owners, ownersAfter}
 use Rattle.order.proofs.Owner.{length-owners}
 use Rattle.table.specs.Leaves.{Leaf}
 use Rattle.table.specs.Rows.{segmentRowSize, segmentRow, Next, noneBefore, nextAfter, rowNext, segmentRowsFrom, segmentRowsOf, RowIs, kindIn, ownerIn, firstIn, countIn}
-use Rattle.table.specs.BySegment.{kindAmong}
-use Rattle.table.specs.RowTests.{rowsStated, statedRows}
+use Rattle.table.specs.inner.BySegment.{kindAmong}
+use Rattle.table.specs.inner.RowTests.{rowsStated, statedRows}
 use Rattle.table.proofs.RowsGrowing.{length-segmentRows}
 
 -- the rows of kinds, owners and leaves are those that the leaves state

@@ -10,7 +10,7 @@ use lib.ListN.{getD, replicate}
 use Rattle.form.specs.declared.separators.Separators.{Separators}
 use Rattle.table.specs.declared.Card.{Card}
 use Rattle.table.specs.Lent.{countsFit}
-use Rattle.table.specs.Classes.{classesOver}
+use Rattle.table.specs.inner.Classes.{classesOver}
 
 -- a card that counts so many segments, and nothing else
 abbrev pub counting : ℕ → Card

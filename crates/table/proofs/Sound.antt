@@ -10,8 +10,8 @@ use Rattle.laws.proofs.Tests.{Tested, passed, failed, tested}
 use Rattle.laws.proofs.Every.{all-append}
 use Rattle.table.specs.Leaves.{Leaf}
 use Rattle.table.specs.Back.{between, unsplitFrom, unsplit}
-use Rattle.table.specs.Flat.{leaf, raised, flat}
-use Rattle.table.specs.Sound.{Plain, Sound, last, next}
+use Rattle.table.specs.inner.Flat.{leaf, raised, flat}
+use Rattle.table.specs.inner.Sound.{Plain, Sound, last, next}
 use Rattle.table.proofs.Flat.{flat-separator, flat-text}
 use Rattle.table.proofs.Places.{length-raised, between-raised}
 

@@ -21,10 +21,10 @@ use Rattle.form.proofs.HeaderRule.{AllAllowed, AllDifferent, different-more}
 use Rattle.line.specs.Lines.{CR}
 use Rattle.table.specs.Leaves.{Leaf}
 use Rattle.table.specs.Rows.{textOf}
-use Rattle.table.specs.Flat.{ones, leaf, raised}
+use Rattle.table.specs.inner.Flat.{ones, leaf, raised}
 use Rattle.table.specs.Back.{between}
-use Rattle.table.specs.Sound.{Plain, Sound, last, next}
-use Rattle.table.specs.RowTests.{nextPlace, leafText, goOn, goOnFrom}
+use Rattle.table.specs.inner.Sound.{Plain, Sound, last, next}
+use Rattle.table.specs.inner.RowTests.{nextPlace, leafText, goOn, goOnFrom}
 use Rattle.table.proofs.LeafTexts.{AllText}
 use Rattle.table.proofs.Places.{length-ones, length-raised}
 use Rattle.table.proofs.RowTests.{next-same, next-raised, onward-next, leaf-text}

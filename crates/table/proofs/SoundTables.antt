@@ -13,9 +13,9 @@ use Rattle.line.specs.Lines.{CR}
 use Rattle.table.specs.Leaves.{Leaf, split}
 use Rattle.table.specs.Rows.{Table, allLeaves}
 use Rattle.table.specs.Back.{leavesOf, separatorsIn, between, unsplitFrom, unsplit, segmentsOf}
-use Rattle.table.specs.Flat.{Without, flat, glued}
-use Rattle.table.specs.Filed.{headerBytes, Filed}
-use Rattle.table.specs.Sound.{Sound}
+use Rattle.table.specs.inner.Flat.{Without, flat, glued}
+use Rattle.table.specs.inner.Filed.{headerBytes, Filed}
+use Rattle.table.specs.inner.Sound.{Sound}
 use Rattle.table.proofs.Splitting.{firstPart, otherParts, first-without, others-without, split-begun, glued-parts}
 use Rattle.table.proofs.Flat.{headLeaf, separatorsLeaf, drop-gluedTo, message-flat}
 use Rattle.table.proofs.Back.{filed-header}

@@ -10,8 +10,8 @@ use Rattle.laws.specs.Every.{none, also}
 use Rattle.laws.proofs.Tests.{Tested, passed, failed, tested, and-both, and-first, and-second}
 use Rattle.laws.proofs.Lists.{same-self, same-equal}
 use Rattle.table.specs.Back.{between}
-use Rattle.table.specs.Flat.{raised}
-use Rattle.table.specs.Sound.{Plain, plain, onward}
+use Rattle.table.specs.inner.Flat.{raised}
+use Rattle.table.specs.inner.Sound.{Plain, plain, onward}
 use Rattle.table.proofs.Places.{between-raised}
 
 -- texts

@@ -13,7 +13,7 @@ use Rattle.laws.proofs.Tests.{Tested, passed, failed, tested}
 use Rattle.laws.proofs.Lists.{count-pass, count-fail}
 use Rattle.line.specs.Lines.{CR}
 use Rattle.table.specs.Leaves.{onto, split}
-use Rattle.table.specs.Flat.{Without, gluedTo, glued}
+use Rattle.table.specs.inner.Flat.{Without, gluedTo, glued}
 
 -- the text before the first separator p, and the parts after it
 unfoldable pub firstPart : ℕ → List ℕ → List ℕ

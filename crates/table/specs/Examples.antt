@@ -3,7 +3,6 @@
 -- Assumes nothing.
 use mathlib.Core.List.{List, [], _∷_, _++_, map}
 use Prim.Native.Nat.{ℕ}
-use Prim.Native.String.{String}
 use lib.ListN.{length, replicate}
 use Rattle.laws.specs.Lists.{concat}
 use Rattle.laws.specs.Texts.{bytes}

@@ -1,6 +1,6 @@
 -- A table as a caller lends it: a card and three buffers, whatever they hold (document 01, "Numbers that come back").
 -- Assumes nothing.
-use mathlib.Core.Bool.{Bool, true, false, _&&_}
+use mathlib.Core.Bool.{Bool, _&&_}
 use mathlib.Core.List.{List}
 use mathlib.Core.Path.{_≡_}
 use Prim.Native.Nat.{ℕ, _*_}

@@ -1,13 +1,7 @@
-pub mod Classes
 pub mod Leaves
-pub mod Flat
-pub mod Filed
-pub mod OnePass
 pub mod Rows
 pub mod Reading
 pub mod Back
-pub mod Sound
 pub mod Examples
-pub mod BySegment
-pub mod RowTests
 pub mod Lent
+pub mod inner

@@ -1,20 +1,19 @@
 -- The outcome of reading a message (document 01, "Numbers that come back"): accepted with its table, or one number and one place.
 -- Assumes nothing.
 use mathlib.Core.Bool.{Bool, true, false, _||_}
-use mathlib.Core.List.{List, []}
+use mathlib.Core.List.{List}
 use Prim.Native.Nat.{ℕ, _*_}
 use lib.Dec.{ltb, eqb}
 use lib.ListN.{length}
 use Rattle.laws.specs.Lists.{firstFrom}
 use Rattle.form.specs.declared.limits.Limits.{Limits}
 use Rattle.form.specs.declared.separators.Separators.{Separators}
-use Rattle.form.specs.declared.separators.Header.{Header}
 use Rattle.form.specs.declared.separators.Header.the-variants.{Sound, Broken}
 use Rattle.form.specs.Header.{headerOf}
 use Rattle.form.specs.Numbers.{shortBuffer, longMessage, brokenHeader, manySegments, unknownKind, noContext, misplacedKind, manyLeaves}
 use Rattle.line.specs.Lines.{walk, texts, faultNumber, faultPlace}
 use Rattle.line.specs.Joining.{joined}
-use Rattle.order.specs.Place.{misplaced}
+use Rattle.order.specs.inner.Place.{misplaced}
 use Rattle.table.specs.Rows.{Table, segmentRowSize, leafRowSize, kindsOf, contextIn, allLeaves, tableOf}
 
 -- how long the three lent buffers are: bytes of the text area, numbers of the segment rows, numbers of the leaf rows

@@ -2,12 +2,10 @@
 -- Assumes nothing.
 use mathlib.Core.List.{List, [], _∷_, _++_, map}
 use mathlib.Core.Path.{_≡_}
-use Prim.Native.Nat.{ℕ, _+_, _*_, _<_}
+use Prim.Native.Nat.{ℕ, _+_, _*_}
 use lib.ListN.{length, take, drop, getD}
 use Rattle.laws.specs.Lists.{concat}
-use Rattle.form.specs.declared.limits.Limits.{Limits}
 use Rattle.form.specs.declared.separators.Separators.{Separators}
-use Rattle.form.specs.Limits.{Lawful}
 use Rattle.order.specs.Owners.{owners}
 use Rattle.table.specs.declared.Card.{Card}
 use Rattle.table.specs.Leaves.{Leaf, kindOfSegment, contextOfHeader, messageLeaves}
@@ -22,13 +20,6 @@ leafRowSize = 7
 -- every number of a row is below this
 abbrev pub width : ℕ
 width = 65536
-
--- a lawful form whose numbers fit the rows: each count that it allows, and the one after it
-pub record FitsRows (L : Limits) : Type 0 where
-  pub lawful : Lawful L
-  pub segments : L .segments + 1 < width
-  pub leaves : L .leaves + 1 < width
-  pub bytes : L .bytes + 1 < width
 
 -- a segment's row: its kind, its owner (a row number, or 0), its first leaf, its leaf count
 abbrev pub segmentRow : (kind owner first count : ℕ) → List ℕ

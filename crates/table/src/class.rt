@@ -2,7 +2,7 @@
 use form::separators::Separators;
 ghost use mathlib.Core.Path.{_≡_};
 ghost use Prim.Native.Nat.{_<_};
-ghost use Rattle.table.specs.Classes.{classesOver};
+ghost use Rattle.table.specs.inner.Classes.{classesOver};
 
 // The classes under these separators, set in a lent table, whose other entries stay: 1 to 4 the splitting separators, the coarsest first,
 // 5 below 32. The finest is set first, so that of two that are the same byte the coarser counts. Over zeros, 0 is text.

@@ -16,11 +16,12 @@ use Rattle.write.specs.declared.Written.{Written}
 use Rattle.write.specs.declared.lines.Going.{Going}
 use Rattle.table.specs.Lent.{Lent, counted, lent}
 use Rattle.write.specs.Writing.{writes, isTable, writing}
-use Rattle.write.specs.Passing.{Writable, WrittenOut}
-use Rattle.write.specs.Answer.{answer, outputAfter, messageWritten, Tested}
+use Rattle.write.specs.inner.Passing.{Writable, WrittenOut}
+use Rattle.write.specs.Answer.{answer, outputAfter}
+use Rattle.write.specs.inner.Message.{messageWritten, Tested}
 use Rattle.write.proofs.LentTables.{table-written-out}
 use Rattle.write.proofs.TablesWritten.{table-four, table-writable, table-message}
-use Rattle.write.specs.Asked.{FourWithin}
+use Rattle.write.specs.inner.Asked.{FourWithin}
 
 -- the segment rows change nothing of what is written
 module _ (L : Limits) (card : Card) (segmentRows rows text : List ℕ) where

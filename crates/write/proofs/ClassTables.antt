@@ -14,9 +14,9 @@ use Rattle.laws.proofs.Cases.{less-or-not}
 use Rattle.laws.proofs.Tests.{Tested, passed, failed, tested, and-both, and-fails-first, and-fails-second}
 use Rattle.form.specs.declared.separators.Separators.{Separators}
 use Rattle.form.specs.Header.{splitting}
-use Rattle.table.specs.Classes.{classOf, classTable}
+use Rattle.table.specs.inner.Classes.{classOf, classTable}
 use Rattle.table.proofs.Classes.{class-at, class-low, class-high, sort-none, sort-some}
-use Rattle.write.specs.Tests.{leafByte}
+use Rattle.write.specs.inner.Tests.{leafByte}
 
 -- as the table has it at a byte's index
 module _ (ps : Separators) {table : List ℕ} (e : table ≡ classTable ps) {b i : ℕ} (at : i ≡ b) (few : i < 256) where

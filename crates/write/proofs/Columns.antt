@@ -12,17 +12,18 @@ use Rattle.laws.specs.Lists.{same}
 use Rattle.laws.proofs.Parts.{left-cons}
 use Rattle.laws.proofs.Tables.{length-values, getD-values-zero}
 use Rattle.laws.proofs.Tests.{Tested, passed, failed, tested, and-passed, and-fails-first}
-use Rattle.order.specs.Levels.{topLevel}
+use Rattle.order.specs.inner.Levels.{topLevel}
 use Rattle.order.specs.Owners.{owners}
-use Rattle.order.specs.Owning.{Owned, noRows}
-use Rattle.order.specs.Place.{misplaced}
-use Rattle.order.specs.Watcher.{begun, tellOf}
+use Rattle.order.specs.inner.Owning.{Owned, noRows}
+use Rattle.order.specs.inner.Place.{misplaced}
+use Rattle.order.specs.Watcher.{begun}
+use Rattle.order.specs.inner.Telling.{tellOf}
 use Rattle.order.specs.declared.watcher.Watcher.{Watcher}
 use Rattle.order.specs.declared.watcher.Told.{Told}
 use Rattle.order.proofs.Checking.{Checked, check-begins, check-yes, check-no, check-whole, check-short}
 use Rattle.order.proofs.Owner.{RowsKnown, row-read, length-owners, rows-begin}
 use Rattle.table.specs.Rows.{kindIn, ownerIn}
-use Rattle.write.specs.Tests.{kindColumn, ownerColumn}
+use Rattle.write.specs.inner.Tests.{kindColumn, ownerColumn}
 
 module _ (rows : List ℕ) (n : ℕ) where
   pub length-kinds : length (kindColumn rows n) ≡ n

@@ -17,8 +17,8 @@ use Rattle.line.specs.Lines.{CR}
 use Rattle.line.specs.Joining.{letterA}
 use Rattle.write.specs.declared.lines.Going.{Going}
 use Rattle.form.proofs.RoundedUp.{some-more}
-use Rattle.write.specs.Asked.{Opens, RoomForByte, RoomForEnd, ByteInside}
-use Rattle.write.specs.Filling.{Stand, stand, placed, segmentClosed, broken, lineOpened, putByte, puts, Fits, InSegment}
+use Rattle.write.specs.inner.Asked.{Opens, RoomForByte, RoomForEnd, ByteInside}
+use Rattle.write.specs.inner.Filling.{Stand, stand, placed, segmentClosed, broken, lineOpened, putByte, puts, Fits, InSegment}
 
 -- how far an output is written, from its three numbers
 abbrev pub going : ℕ → ℕ → ℕ → Going

@@ -16,14 +16,14 @@ use Rattle.laws.proofs.Lists.{same-equal, different-same}
 use Rattle.laws.proofs.Tests.{and-first, and-second, and-fails-first}
 use Rattle.form.specs.Header.{allAllowed, different, five, splitting}
 use Rattle.line.specs.Lines.{space}
-use Rattle.table.specs.Flat.{ones}
+use Rattle.table.specs.inner.Flat.{ones}
 use Rattle.table.specs.Rows.{leafRowSize, fieldIn, placeIn, startIn}
 use Rattle.table.specs.Back.{leafAt, separatorsAt}
-use Rattle.table.specs.RowTests.{endToEnd, nextPlace, leafText, goOn, goOnFrom}
+use Rattle.table.specs.inner.RowTests.{endToEnd, nextPlace, leafText, goOn, goOnFrom}
 use Rattle.table.proofs.EndToEnd.{ends-start, ends-later, ends-last, ended-from}
-use Rattle.write.specs.Local.{thirdPlace}
-use Rattle.write.specs.Tests.{leavesBetween, headerLeavesAt, soundLeaves}
-use Rattle.write.specs.Asked.{Headed}
+use Rattle.write.specs.inner.Local.{thirdPlace}
+use Rattle.write.specs.inner.Tests.{leavesBetween, headerLeavesAt, soundLeaves}
+use Rattle.write.specs.inner.Asked.{Headed}
 use Rattle.write.proofs.HeaderTest.{field-of, place-next, header-leaves, same-of}
 use Rattle.write.proofs.SegmentTests.{leaves-cons}
 

@@ -19,11 +19,11 @@ use Rattle.laws.proofs.Tests.{Tested, passed, failed, tested, never-both, and-f
 use Rattle.form.specs.Names.{numberAmong, contextNames}
 use Rattle.table.specs.Leaves.{Leaf}
 use Rattle.table.specs.Rows.{countIn, segmentIn, fieldIn}
-use Rattle.table.specs.Flat.{leaf}
+use Rattle.table.specs.inner.Flat.{leaf}
 use Rattle.table.specs.Back.{leafAt}
-use Rattle.table.specs.BySegment.{segmentOf, withLeaf, bySegment, kindAmong, numberOfField, contextAmong}
+use Rattle.table.specs.inner.BySegment.{segmentOf, withLeaf, bySegment, kindAmong, numberOfField, contextAmong}
 use Rattle.table.proofs.BySegment.{InSegment, Ended, group-first}
-use Rattle.write.specs.Tests.{groupsIn, leavesBetween, SegmentEnd, FieldLeaf, rowStates, groupsStated}
+use Rattle.write.specs.inner.Tests.{groupsIn, leavesBetween, SegmentEnd, FieldLeaf, rowStates, groupsStated}
 use Rattle.write.proofs.Said.{answered-no, answered-yes}
 use Rattle.write.proofs.SegmentTests.{row-segment, leaves-cons, leaves-none, SomeEnd, segment-ends, states-all, states-another}
 

@@ -17,13 +17,13 @@ use Rattle.laws.proofs.Lists.{same-self, same-equal}
 use Rattle.laws.proofs.Parts.{left-cons}
 use Rattle.laws.proofs.Tests.{Tested, passed, failed, tested, and-first, and-second, and-passed, and-both, never-both}
 use Rattle.form.specs.declared.separators.Separators.{Separators}
-use Rattle.table.specs.Flat.{ones}
+use Rattle.table.specs.inner.Flat.{ones}
 use Rattle.table.specs.Rows.{leafRowSize, fieldIn, placeIn, startIn, lengthIn}
 use Rattle.table.specs.Back.{leafAt, separatorsAt}
-use Rattle.table.specs.RowTests.{nextPlace}
+use Rattle.table.specs.inner.RowTests.{nextPlace}
 use Rattle.table.proofs.RowTests.{next-same, next-raised}
-use Rattle.write.specs.Tests.{finer, headerLeavesAt}
-use Rattle.write.specs.Asked.{LaidOut, FourWithin}
+use Rattle.write.specs.inner.Tests.{finer, headerLeavesAt}
+use Rattle.write.specs.inner.Asked.{LaidOut, FourWithin}
 use Rattle.write.proofs.LaidRows.{in-text-fits}
 use Rattle.write.proofs.PlaceTests.{five-at}
 use Rattle.write.proofs.SegmentTests.{row-length}

@@ -15,9 +15,9 @@ use Rattle.laws.proofs.Tests.{never-both}
 use Rattle.form.specs.Header as header
 use Rattle.table.specs.Rows.{leafRowSize, textOf, startIn, lengthIn, placeIn, width}
 use Rattle.table.specs.Back.{leafAt}
-use Rattle.table.specs.RowTests.{nextPlace}
-use Rattle.write.specs.Asked.{TextStated}
-use Rattle.write.specs.Tests.{Decides, InText, Laid, leavesBetween}
+use Rattle.table.specs.inner.RowTests.{nextPlace}
+use Rattle.write.specs.inner.Asked.{TextStated}
+use Rattle.write.specs.inner.Tests.{Decides, InText, Laid, leavesBetween}
 use Rattle.write.proofs.LeafTests.{Ending, ending-begins, ending-fails, ending-on, ending-done}
 use Rattle.write.proofs.SegmentTests.{row-length}
 use Rattle.table.proofs.EndToEnd.{ended-within, ended-next, ended-first}

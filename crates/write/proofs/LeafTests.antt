@@ -12,8 +12,8 @@ use borrow.Author.Tests.{eq-eqb, ne-eqb}
 use Rattle.laws.proofs.Parts.{part-cons, part-none}
 use Rattle.laws.proofs.Tests.{and-passed, and-fails-first}
 use Rattle.table.specs.Rows.{startIn, lengthIn, width}
-use Rattle.table.specs.RowTests.{endToEnd, leafText}
-use Rattle.write.specs.Tests.{leafByte}
+use Rattle.table.specs.inner.RowTests.{endToEnd, leafText}
+use Rattle.write.specs.inner.Tests.{leafByte}
 
 -- texts end to end: i rows have been passed, and the next one is to begin at `start`
 pub record Ending (rows : List ℕ) (finish count i start : ℕ) : Type 0 where

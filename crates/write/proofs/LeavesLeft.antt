@@ -22,10 +22,10 @@ use Rattle.line.specs.Cutting.{unlines}
 use Rattle.table.specs.Leaves.{Leaf}
 use Rattle.table.specs.Back.{leafAt, between, unsplitFrom, unsplit}
 use Rattle.write.specs.declared.lines.Going.{Going}
-use Rattle.write.specs.Filling.{Stand, stand, segmentClosed, puts, Fits, InSegment}
-use Rattle.write.specs.Asked.{PartInside, RoomForEnd, SeparatorFits}
+use Rattle.write.specs.inner.Filling.{Stand, stand, segmentClosed, puts, Fits, InSegment}
+use Rattle.write.specs.inner.Asked.{PartInside, RoomForEnd, SeparatorFits}
 use Rattle.write.proofs.SegmentTests.{stated-text}
-use Rattle.write.specs.Passing.{LeafWithin, linesOfRows, leading, Writable, WrittenOut}
+use Rattle.write.specs.inner.Passing.{LeafWithin, linesOfRows, leading, Writable, WrittenOut}
 use Rattle.write.proofs.Filling.{going, puts-append, puts-kept, fits-first, fits-next, close-fits, closed-one}
 use Rattle.write.proofs.LinesFilled.{lines-filled}
 use Rattle.table.specs.Rows.{startIn, lengthIn}

@@ -20,7 +20,7 @@ use Rattle.line.specs.Lines.{walk, texts}
 use Rattle.line.specs.Cutting.{cuts}
 use Rattle.line.proofs.Walking.{texts-given}
 use Rattle.line.proofs.Written.{walk-written}
-use Rattle.table.specs.Filed.{headerBytes}
+use Rattle.table.specs.inner.Filed.{headerBytes}
 use Rattle.table.specs.Rows.{Table, segmentRowSize, leafRowSize, textOf}
 use Rattle.table.specs.Reading.{accepted, reading, stated}
 use Rattle.table.specs.Back.{leavesOf, linesOf, written}
@@ -31,8 +31,8 @@ use Rattle.table.proofs.Filing.{segmentsOfAccepted, accepted-header, accepted-w
 use Rattle.table.proofs.HeaderBytes.{header-text}
 use Rattle.table.proofs.SegmentBytes.{texts-written}
 use Rattle.table.specs.Lent.{Lent, withinLimits, countsFit, withinBuffers, counted}
-use Rattle.write.specs.Local.{groupsOf, Local}
-use Rattle.write.specs.RowByRow.{Sized, RowByRow}
+use Rattle.write.specs.inner.Local.{groupsOf, Local}
+use Rattle.write.specs.inner.RowByRow.{Sized, RowByRow}
 use Rattle.write.specs.Writing.{ReadTo, readsBack, isTable, refuses, writes, writing}
 use Rattle.write.proofs.LocalTables.{read-local}
 use Rattle.write.proofs.RoundTrip.{table-lines, table-written, reads-back, reads-same}

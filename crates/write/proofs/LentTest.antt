@@ -7,14 +7,14 @@ use Prim.Native.Nat.{ℕ, _<_}
 use Rattle.laws.proofs.Tests.{and-passed, and-both, and-fails-first, and-fails-second}
 use Rattle.form.specs.declared.limits.Limits.{Limits}
 use Rattle.form.specs.Limits.{form}
-use Rattle.order.specs.Levels.{levelIn, levelTable}
+use Rattle.order.specs.inner.Levels.{levelIn, levelTable}
 use Rattle.order.specs.Owners.{level}
 use Rattle.order.proofs.LevelTable.{levels-are, levels-below}
 use Rattle.table.specs.Lent.{Lent, withinLimits, withinBuffers, counted}
 use Rattle.table.proofs.Lent.{few-segments, few-leaves, few-bytes}
 use Rattle.table.proofs.Width.{form-fits}
 use Rattle.write.specs.Writing.{readsBack, isTable}
-use Rattle.write.specs.Asked.{Testable, CountedTable}
+use Rattle.write.specs.inner.Asked.{Testable, CountedTable}
 use Rattle.write.proofs.LentTables.{counted-sized}
 
 module _ (L : Limits) (levels : ℕ → ℕ → ℕ) (l : Lent) where

@@ -20,7 +20,7 @@ use Rattle.line.specs.Cutting.{addenda, cut, cuts, unlines}
 use Rattle.line.proofs.Cutting.{filled, filled-none, filled-more, addenda-nil, addenda-cons, cut-addenda, carried-filled, cuts-nil, cuts-cons}
 use Rattle.table.specs.Leaves.{onto, split}
 use Rattle.table.proofs.Splitting.{firstPart, otherParts, first-ends, first-more, others-begin, others-later, split-parts}
-use Rattle.write.specs.Filling.{Stand, stand, placed, segmentClosed, broken, puts}
+use Rattle.write.specs.inner.Filling.{Stand, stand, placed, segmentClosed, broken, puts}
 use Rattle.write.proofs.Filling.{going, same-going, some-left, opened-full, opened-room, put-close, put-open}
 
 module _ (L : Limits) (lawful : Lawful L) (f : ℕ) where

@@ -9,7 +9,7 @@ use native.Mathlib.Omega.{arith}
 use lib.ListN.{length, drop, getD}
 use borrow.Author.Tests.{le-ltb}
 use Rattle.laws.specs.Every.{All}
-use Rattle.laws.specs.Sums.{sumOf}
+use Rattle.laws.specs.inner.Sums.{sumOf}
 use Rattle.laws.proofs.Every.{all-from}
 use Rattle.laws.proofs.Tables.{getD-values}
 use Rattle.form.specs.declared.limits.Limits.{Limits}
@@ -19,19 +19,19 @@ use Rattle.form.specs.Header.{allAllowed, different, five, splitting}
 use Rattle.form.proofs.HeaderRule.{AllAllowed, AllDifferent, all-allowed-facts, facts-all-allowed, different-facts, facts-different}
 use Rattle.line.specs.Lines.{CR}
 use Rattle.line.specs.Cutting.{cuts, unlines}
-use Rattle.line.specs.Sound.{Text}
+use Rattle.line.specs.inner.Sound.{Text}
 use Rattle.line.proofs.Fewest.{least-message}
 use Rattle.line.proofs.Written.{Worded}
-use Rattle.order.specs.Place.{misplaced}
+use Rattle.order.specs.inner.Place.{misplaced}
 use Rattle.order.specs.Owners.{owners}
 use Rattle.table.specs.Leaves.{Leaf}
-use Rattle.table.specs.Flat.{leaf}
-use Rattle.table.specs.Filed.{headerBytes, Filed}
+use Rattle.table.specs.inner.Flat.{leaf}
+use Rattle.table.specs.inner.Filed.{headerBytes, Filed}
 use Rattle.table.specs.Rows.{Table, segmentRowSize, leafRowSize, kindsOf, contextIn, segmentRowsOf, leafRowsFrom, textOf, allLeaves, tableOf}
 use Rattle.table.specs.Reading.{Room, short, stated}
 use Rattle.table.specs.Back.{leafAt, leavesOf, separatorsAt, separatorsIn, segmentsOf, linesOf, written}
-use Rattle.table.specs.Sound.{Sound}
-use Rattle.table.specs.BySegment.{writtenBytes}
+use Rattle.table.specs.inner.Sound.{Sound}
+use Rattle.table.specs.inner.BySegment.{writtenBytes}
 use Rattle.table.proofs.Accepting.{Known, Judged, Accepted, accepting}
 use Rattle.table.proofs.Back.{filed-some, separatorsIn-table}
 use Rattle.table.proofs.Filing.{segmentsOfAccepted, accepted-header, accepted-worded, accepted-filed, all-worded}
@@ -39,7 +39,7 @@ use Rattle.table.proofs.HeaderBytes.{header-clear}
 use Rattle.table.proofs.LeafTexts.{AllText, text-leaves}
 use Rattle.table.proofs.LeafRows.{leavesOf-table}
 use Rattle.table.proofs.SoundTables.{headed, afterHeader, filed-leaves, filed-sound, table-filed, table-leaves}
-use Rattle.write.specs.Local.{groupsOf, kindsAmong, thirdPlace, Local}
+use Rattle.write.specs.inner.Local.{groupsOf, kindsAmong, thirdPlace, Local}
 use Rattle.write.specs.Writing.{ReadTo, readsBack}
 use Rattle.write.proofs.TableLeaves.{headed-leaves, same-groups, same-kinds, same-context, same-count, same-bytes, leaf-count}
 use Rattle.write.proofs.SameTables.{same-numbers, same-parts}

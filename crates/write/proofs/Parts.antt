@@ -9,12 +9,12 @@ use borrow.Author.Tests.{eq-eqb, ne-eqb}
 use Rattle.laws.proofs.Tests.{and-passed, and-both, and-fails-first, and-fails-second}
 use Rattle.form.specs.declared.separators.Separators.{Separators}
 use Rattle.form.specs.Header.{allAllowed, different, five, splitting}
-use Rattle.order.specs.Place.{misplaced}
+use Rattle.order.specs.inner.Place.{misplaced}
 use Rattle.table.specs.Back.{separatorsAt}
-use Rattle.table.specs.BySegment.{contextAmong}
-use Rattle.table.specs.RowTests.{goOnFrom}
-use Rattle.write.specs.Local.{thirdPlace}
-use Rattle.write.specs.Tests.{groupsIn, leavesBetween, headerLeavesAt, kindColumn, soundLeaves, inOrder}
+use Rattle.table.specs.inner.BySegment.{contextAmong}
+use Rattle.table.specs.inner.RowTests.{goOnFrom}
+use Rattle.write.specs.inner.Local.{thirdPlace}
+use Rattle.write.specs.inner.Tests.{groupsIn, leavesBetween, headerLeavesAt, kindColumn, soundLeaves, inOrder}
 
 module _ (field : ℕ) (rows text : List ℕ) (count : ℕ) where
   abbrev rule : Separators → Bool

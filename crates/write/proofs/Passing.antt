@@ -15,17 +15,17 @@ use Rattle.laws.proofs.Tests.{never-both, and-first, and-second, and-both}
 use Rattle.form.specs.declared.separators.Separators.{Separators}
 use Rattle.form.specs.Header.{splitting}
 use Rattle.table.specs.Leaves.{Leaf}
-use Rattle.table.specs.Flat.{leaf}
+use Rattle.table.specs.inner.Flat.{leaf}
 use Rattle.table.specs.Rows.{Table, segmentRowSize, segmentRowsFrom, kindIn, ownerIn}
 use Rattle.table.specs.Back.{leafAt, leavesOf, separatorsAt, separatorsIn}
-use Rattle.table.specs.BySegment.{kindAmong}
-use Rattle.table.specs.RowTests.{goOnFrom}
+use Rattle.table.specs.inner.BySegment.{kindAmong}
+use Rattle.table.specs.inner.RowTests.{goOnFrom}
 use Rattle.table.proofs.SegmentRows.{row-states}
-use Rattle.write.specs.Local.{HeaderRows, thirdPlace}
+use Rattle.write.specs.inner.Local.{HeaderRows, thirdPlace}
 use Rattle.write.proofs.HeaderTest.{header-leaves, leaves-header}
 use Rattle.write.proofs.GoingOn.{sound-parts}
 use Rattle.write.proofs.SegmentTests.{states-all, all-stated}
-use Rattle.write.specs.Tests.{leavesBetween, rowStates, groupsStated, soundLeaves}
+use Rattle.write.specs.inner.Tests.{leavesBetween, rowStates, groupsStated, soundLeaves}
 
 -- segment rows against their columns
 module _ (segs : List ℕ) where

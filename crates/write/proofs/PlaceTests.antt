@@ -14,11 +14,11 @@ use Rattle.laws.proofs.Parts.{left-cons}
 use Rattle.laws.proofs.Tests.{and-passed, and-fails-first}
 use Rattle.laws.specs.Tables.{values}
 use Rattle.laws.proofs.Cases.{equal-or-not}
-use Rattle.table.specs.Flat.{ones}
-use Rattle.table.specs.RowTests.{nextPlace}
+use Rattle.table.specs.inner.Flat.{ones}
+use Rattle.table.specs.inner.RowTests.{nextPlace}
 use Rattle.table.proofs.RowTests.{next-same, next-raised}
-use Rattle.write.specs.Tests.{finer}
-use Rattle.write.specs.Asked.{TwoPlaces}
+use Rattle.write.specs.inner.Tests.{finer}
+use Rattle.write.specs.inner.Asked.{TwoPlaces}
 
 -- two lists that begin alike, or differently
 same-on : {a b : ℕ} (s t : List ℕ) → a ≡ b → same (a ∷ s) (b ∷ t) ≡ same s t

@@ -17,11 +17,11 @@ use Rattle.laws.proofs.Lists.{same-equal}
 use Rattle.laws.proofs.Tests.{and-first, and-second}
 use Rattle.form.specs.Header as header
 use Rattle.table.specs.Rows.{leafRowSize, segmentIn, fieldIn, placeIn}
-use Rattle.table.specs.Flat.{ones}
-use Rattle.table.specs.RowTests.{nextPlace}
+use Rattle.table.specs.inner.Flat.{ones}
+use Rattle.table.specs.inner.RowTests.{nextPlace}
 use Rattle.table.proofs.RowTests.{next-raised}
-use Rattle.write.specs.Asked.{TwoPlaces}
-use Rattle.write.specs.Tests.{Decides, PlacesFollow, SegmentEnd, finer}
+use Rattle.write.specs.inner.Asked.{TwoPlaces}
+use Rattle.write.specs.inner.Tests.{Decides, PlacesFollow, SegmentEnd, finer}
 use Rattle.write.proofs.PlaceTests.{Next, next-numbers}
 
 -- segment numbers never fall along places that follow each other, so the last leaf of a stretch tells whether it is one segment

@@ -20,7 +20,7 @@ use Rattle.line.specs.Cutting.{cuts, unlines, addenda}
 use Rattle.line.proofs.Cutting.{cuts-cons, cut-addenda, carriedPieces, unlines-cons}
 use Rattle.line.proofs.Fewest.{least-message}
 use Rattle.line.proofs.Written.{Worded, no-fault-written, joined-written}
-use Rattle.table.specs.Filed.{headerBytes, Filed}
+use Rattle.table.specs.inner.Filed.{headerBytes, Filed}
 use Rattle.table.specs.Rows.{Table, tableOf}
 use Rattle.table.specs.Reading.{Room, accepted, short, reading, stated}
 use Rattle.table.specs.Back.{segmentsOf, linesOf, written}

@@ -14,13 +14,13 @@ use Rattle.form.specs.declared.separators.Separators.{Separators}
 use Rattle.form.specs.Header.{splitting}
 use Rattle.line.specs.Lines.{CR}
 use Rattle.table.specs.Back.{between}
-use Rattle.table.specs.RowTests.{nextPlace}
+use Rattle.table.specs.inner.RowTests.{nextPlace}
 use Rattle.table.proofs.Places.{between-here, between-later}
 use Rattle.table.proofs.RowTests.{next-same}
-use Rattle.write.specs.Asked.{NextThere, NextInside}
+use Rattle.write.specs.inner.Asked.{NextThere, NextInside}
 use Rattle.write.proofs.PlaceTests.{five-at}
-use Rattle.write.specs.Filling.{InSegment}
-use Rattle.write.specs.Passing.{leading}
+use Rattle.write.specs.inner.Filling.{InSegment}
+use Rattle.write.specs.inner.Passing.{leading}
 use Rattle.table.specs.Rows.{leafRowSize, segmentIn, placeIn}
 
 -- no separator between two places is CR where none of all is

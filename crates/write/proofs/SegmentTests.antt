@@ -17,10 +17,10 @@ use Rattle.laws.proofs.Tests.{and-first, and-second, and-passed, and-both, and-
 use Rattle.form.specs.Names.{numberAmong}
 use Rattle.table.specs.Rows.{leafRowSize, kindIn, firstIn, countIn, segmentIn, fieldIn, startIn, lengthIn}
 use Rattle.table.specs.Back.{leafAt}
-use Rattle.table.specs.BySegment.{segmentOf, fieldOf, goesOn, numberOfField}
+use Rattle.table.specs.inner.BySegment.{segmentOf, fieldOf, goesOn, numberOfField}
 use Rattle.table.proofs.FieldNames.{number-one, number-more, number-later}
-use Rattle.write.specs.Asked.{FieldThere, TextStated}
-use Rattle.write.specs.Tests.{leavesBetween, SegmentEnd, FieldLeaf, rowStates}
+use Rattle.write.specs.inner.Asked.{FieldThere, TextStated}
+use Rattle.write.specs.inner.Tests.{leavesBetween, SegmentEnd, FieldLeaf, rowStates}
 
 -- what a row states: its segment, its field, its text
 module _ (rows text : List ℕ) (i : ℕ) where

@@ -12,7 +12,7 @@ use Rattle.order.specs.Owners.{owners}
 use Rattle.table.specs.Rows.{textOf}
 use Rattle.table.specs.Back.{leavesOf}
 use Rattle.table.specs.Lent.{Lent, counted}
-use Rattle.write.specs.Tests.{kindColumn, ownerColumn}
+use Rattle.write.specs.inner.Tests.{kindColumn, ownerColumn}
 use Rattle.write.specs.Writing.{isTable}
 use Rattle.write.proofs.RowByRow.{rows-local}
 use Rattle.write.proofs.LentTables.{counted-sized, is-table-rows}

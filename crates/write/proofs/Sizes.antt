@@ -5,16 +5,16 @@ use mathlib.Core.Path.{_≡_, sym, ap, _∙_}
 use Prim.Native.Nat.{ℕ}
 use native.Mathlib.Omega.{arith}
 use borrow.Author.Tests.{le-ltb}
-use Rattle.laws.specs.Sums.{sumOf}
+use Rattle.laws.specs.inner.Sums.{sumOf}
 use Rattle.form.specs.declared.limits.Limits.{Limits}
 use Rattle.form.specs.Limits.{Lawful}
-use Rattle.table.specs.Rows.{FitsRows}
+use Rattle.table.specs.inner.Fitting.{FitsRows}
 use Rattle.table.specs.Back.{leavesOf}
-use Rattle.table.specs.BySegment.{writtenBytes}
+use Rattle.table.specs.inner.BySegment.{writtenBytes}
 use Rattle.table.specs.Lent.{Lent, counted}
-use Rattle.write.specs.Local.{groupsOf}
+use Rattle.write.specs.inner.Local.{groupsOf}
 use Rattle.table.proofs.Lent.{few-bytes}
-use Rattle.write.specs.Asked.{Grouped}
+use Rattle.write.specs.inner.Asked.{Grouped}
 use Rattle.write.specs.Writing.{isTable}
 use Rattle.write.specs.Answer.{answer, writtenSize}
 use Rattle.write.proofs.LocalTables.{local-bytes}

@@ -5,7 +5,7 @@ use mathlib.Core.Path.{_≡_, refl, sym, ap, ap₂, _∙_}
 use Prim.Native.Nat.{ℕ, zero, suc}
 use native.Mathlib.Omega.{arith}
 use lib.ListN.{length, drop, getD}
-use Rattle.laws.specs.Sums.{sumOf}
+use Rattle.laws.specs.inner.Sums.{sumOf}
 use Rattle.laws.specs.Tables.{values}
 use Rattle.laws.proofs.Tables.{length-values}
 use Rattle.form.specs.declared.limits.Limits.{Limits}
@@ -16,17 +16,17 @@ use Rattle.form.proofs.HeaderRule.{AllAllowed}
 use Rattle.line.specs.Lines.{CR}
 use Rattle.line.specs.Cutting.{cuts, unlines}
 use Rattle.table.specs.Leaves.{Leaf, messageLeaves}
-use Rattle.table.specs.Flat.{leaf}
-use Rattle.table.specs.Filed.{headerBytes, Filed}
+use Rattle.table.specs.inner.Flat.{leaf}
+use Rattle.table.specs.inner.Filed.{headerBytes, Filed}
 use Rattle.table.specs.Rows.{Table, kindsOf, contextIn, allLeaves}
 use Rattle.table.specs.Back.{leafAt, leavesOf, separatorsAt, separatorsIn}
-use Rattle.table.specs.Sound.{Sound, last, next}
-use Rattle.table.specs.BySegment.{bySegment, kindAmong, contextAmong, writtenBytes}
+use Rattle.table.specs.inner.Sound.{Sound, last, next}
+use Rattle.table.specs.inner.BySegment.{bySegment, kindAmong, contextAmong, writtenBytes}
 use Rattle.table.proofs.BySegment.{segments-found, length-messageLeaves}
 use Rattle.table.proofs.FieldNames.{kinds-among, context-among}
 use Rattle.table.proofs.SegmentBytes.{filed-bytes}
 use Rattle.table.proofs.SoundTables.{headed}
-use Rattle.write.specs.Local.{groupsOf, kindsAmong, HeaderRows, thirdPlace}
+use Rattle.write.specs.inner.Local.{groupsOf, kindsAmong, HeaderRows, thirdPlace}
 
 -- a text of four bytes is its four bytes
 four-bytes : (s : List ℕ) → length s ≡ 4 → s ≡ getD s 0 0 ∷ getD s 1 0 ∷ getD s 2 0 ∷ getD s 3 0 ∷ []

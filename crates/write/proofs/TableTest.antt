@@ -9,7 +9,7 @@ use lib.Dec.{leb, eqb}
 use lib.ListN.{length, getD, length-map}
 use borrow.Author.Tests.{eqb-true, eqb-false, eq-eqb, ne-eqb, leb-true, le-leb, not-true}
 use Rattle.laws.specs.Lists.{same}
-use Rattle.laws.specs.Sums.{sumOf}
+use Rattle.laws.specs.inner.Sums.{sumOf}
 use Rattle.laws.proofs.Lists.{same-equal}
 use Rattle.laws.proofs.Tables.{getD-values-zero}
 use Rattle.laws.proofs.Tests.{Tested, passed, failed, tested, never-both, and-first, and-second, and-both}
@@ -17,19 +17,20 @@ use Rattle.form.specs.declared.limits.Limits.{Limits}
 use Rattle.form.specs.Names.{kindNames, kindOf}
 use Rattle.form.proofs.Names.{kind-within}
 use Rattle.table.proofs.FieldNames.{number-one, number-more, number-later}
-use Rattle.order.specs.Place.{misplaced}
+use Rattle.order.specs.inner.Place.{misplaced}
 use Rattle.order.specs.Owners.{owners}
 use Rattle.order.proofs.Owner.{length-owners}
 use Rattle.table.specs.Leaves.{Leaf}
-use Rattle.table.specs.Rows.{Table, segmentRowsOf, kindIn, FitsRows}
+use Rattle.table.specs.Rows.{Table, segmentRowsOf, kindIn}
+use Rattle.table.specs.inner.Fitting.{FitsRows}
 use Rattle.table.specs.Back.{leavesOf}
-use Rattle.table.specs.BySegment.{fieldOf, goesOn, numberOfField, kindAmong, contextAmong, writtenBytes}
-use Rattle.table.specs.RowTests.{endToEnd}
+use Rattle.table.specs.inner.BySegment.{fieldOf, goesOn, numberOfField, kindAmong, contextAmong, writtenBytes}
+use Rattle.table.specs.inner.RowTests.{endToEnd}
 use Rattle.table.proofs.SegmentRows.{owners-stated}
-use Rattle.write.specs.Local.{groupsOf, kindsAmong}
-use Rattle.write.specs.RowByRow.{Sized, RowByRow}
-use Rattle.write.specs.Asked.{CountedTable}
-use Rattle.write.specs.Tests.{groupsIn, InText, Laid, KindsStated, groupsStated, kindColumn, ownerColumn, soundLeaves, inOrder}
+use Rattle.write.specs.inner.Local.{groupsOf, kindsAmong}
+use Rattle.write.specs.inner.RowByRow.{Sized, RowByRow}
+use Rattle.write.specs.inner.Asked.{CountedTable}
+use Rattle.write.specs.inner.Tests.{groupsIn, InText, Laid, KindsStated, groupsStated, kindColumn, ownerColumn, soundLeaves, inOrder}
 use Rattle.write.specs.Writing.{readsBack}
 use Rattle.write.proofs.RowByRow.{row-by-row, rows-local}
 use Rattle.write.proofs.GoingOn.{sound-next}

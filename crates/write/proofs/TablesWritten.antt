@@ -22,18 +22,18 @@ use Rattle.form.proofs.HeaderRule.{Allowed, all-allowed-facts}
 use Rattle.line.specs.Lines.{CR, space}
 use Rattle.line.specs.Cutting.{cuts, unlines}
 use Rattle.table.specs.Leaves.{Leaf, split}
-use Rattle.table.specs.Flat.{leaf}
+use Rattle.table.specs.inner.Flat.{leaf}
 use Rattle.table.specs.Back.{leafAt, leavesOf, separatorsAt, separatorsIn, unsplit, segmentsOf, linesOf, written}
-use Rattle.table.specs.RowTests.{nextPlace}
+use Rattle.table.specs.inner.RowTests.{nextPlace}
 use Rattle.table.proofs.EndToEnd.{ended-within, ended-first, ended-next}
 use Rattle.write.specs.declared.lines.Going.{Going}
 use Rattle.table.specs.Lent.{Lent, withinBuffers, counted}
-use Rattle.write.specs.Local.{Local}
-use Rattle.write.specs.RowByRow.{RowByRow}
+use Rattle.write.specs.inner.Local.{Local}
+use Rattle.write.specs.inner.RowByRow.{RowByRow}
 use Rattle.write.specs.Writing.{isTable}
-use Rattle.write.specs.Filling.{InSegment}
-use Rattle.write.specs.Asked.{FourWithin}
-use Rattle.write.specs.Passing.{linesOfRows, NextAfter, Writable, WrittenOut}
+use Rattle.write.specs.inner.Filling.{InSegment}
+use Rattle.write.specs.inner.Asked.{FourWithin}
+use Rattle.write.specs.inner.Passing.{linesOfRows, NextAfter, Writable, WrittenOut}
 use Rattle.write.proofs.TableLeaves.{headed-leaves}
 use Rattle.write.proofs.LocalTables.{local-accepted}
 use Rattle.write.proofs.RowByRow.{rows-local}

@@ -16,8 +16,8 @@ use Rattle.form.specs.declared.limits.Limits.{Limits}
 use Rattle.line.specs.Lines.{CR}
 use Rattle.form.specs.Limits.{Lawful}
 use Rattle.form.proofs.RoundedUp.{some-more}
-use Rattle.write.specs.Asked.{RoomForEnd}
-use Rattle.write.specs.Filling.{Stand, stand, broken, lineOpened, puts, Fits, InSegment}
+use Rattle.write.specs.inner.Asked.{RoomForEnd}
+use Rattle.write.specs.inner.Filling.{Stand, stand, broken, lineOpened, puts, Fits, InSegment}
 use Rattle.write.proofs.Filling.{going, same-going, puts-append, puts-opened, puts-room, opened-kept, opened-full, puts-kept, fits-first, fits-next, open-fits, break-fits}
 
 -- copying: what is left to copy from i on gives the whole

@@ -8,7 +8,7 @@ use native.Mathlib.Nat.{div-le-self}
 use native.Mathlib.Omega.{arith}
 use lib.Dec.{eqb}
 use lib.ListN.{length-append, length}
-use Rattle.laws.specs.Sums.{sumOf}
+use Rattle.laws.specs.inner.Sums.{sumOf}
 use Rattle.laws.specs.Tables.{values}
 use Rattle.laws.proofs.Cases.{less-or-not}
 use Rattle.laws.proofs.Tables.{length-values}
@@ -19,9 +19,9 @@ use Rattle.form.proofs.LineCount.{one-line, more-lines, lines-lawful}
 use Rattle.table.specs.Leaves.{Leaf}
 use Rattle.table.specs.Rows.{textOf}
 use Rattle.table.specs.Back.{leafAt}
-use Rattle.table.specs.BySegment.{segmentOf, withLeaf, bySegment, segmentBytes, writtenBytes}
+use Rattle.table.specs.inner.BySegment.{segmentOf, withLeaf, bySegment, segmentBytes, writtenBytes}
 use Rattle.table.proofs.BySegment.{concat-bySegment}
-use Rattle.write.specs.Tests.{groupsIn, InText, leavesBetween, SegmentEnd}
+use Rattle.write.specs.inner.Tests.{groupsIn, InText, leavesBetween, SegmentEnd}
 use Rattle.laws.specs.Lists.{concat}
 use Rattle.laws.specs.Every.{All, none, also}
 use Rattle.table.proofs.LeafRows.{textOf-append}

@@ -1,17 +1,13 @@
 -- What comes back from writing (document 01, "Numbers that come back"): number, place, bytes and lines, and what the output holds then.
 -- Assumes nothing.
-use mathlib.Core.List.{List, []}
-use mathlib.Core.Bool.{true}
-use mathlib.Core.Path.{_≡_}
+use mathlib.Core.List.{List}
 use Prim.Native.Nat.{ℕ}
 use lib.ListN.{length}
 use lib.Seq.{sets}
 use Rattle.form.specs.declared.limits.Limits.{Limits}
-use Rattle.table.specs.declared.Card.{Card}
-use Rattle.table.specs.Back.{linesOf, written}
 use Rattle.write.specs.declared.Written.{Written}
-use Rattle.table.specs.Lent.{Lent, lent, counted}
-use Rattle.write.specs.Writing.{Writing, refuses, writes, isTable, writing}
+use Rattle.table.specs.Lent.{Lent}
+use Rattle.write.specs.Writing.{Writing, refuses, writes, writing}
 
 -- "number, place, bytes, lines": all zero but the number on a refusal
 unfoldable pub answer : Writing → Written
@@ -26,14 +22,3 @@ outputAfter output (writes bytes lines) = sets output 0 bytes
 -- the bytes that are written for a lent table into an output of the stated size; 0 where it is refused
 unfoldable pub writtenSize : Limits → (ℕ → ℕ → ℕ) → Lent → ℕ
 writtenSize L levels l = answer (writing L levels l (L .bytes)) .bytes
-
--- what is written for a table, which its segment rows do not change
-unfoldable pub messageWritten : Limits → Card → List ℕ → List ℕ → Writing
-messageWritten L card leafRows text =
-    writes (written L (counted (lent card [] leafRows text))) (length (linesOf L (counted (lent card [] leafRows text))))
-
--- a card, leaf rows and a text that passed the table test, with some segment rows
-pub record Tested (L : Limits) (card : Card) (leafRows text : List ℕ) : Type 0 where
-  pub levels : ℕ → ℕ → ℕ
-  pub segmentRows : List ℕ
-  pub passed : isTable L levels (lent card segmentRows leafRows text) ≡ true

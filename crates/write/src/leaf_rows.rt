@@ -14,11 +14,11 @@ ghost use Rattle.laws.specs.Lists.{same};
 ghost use Rattle.laws.specs.Tables.{values};
 ghost use Rattle.form.specs.Header.{splitting};
 ghost use Rattle.table.specs.Back.{leafAt, separatorsAt};
-ghost use Rattle.table.specs.Classes.{classTable};
-ghost use Rattle.table.specs.RowTests.{nextPlace, leafText, goOnFrom};
-ghost use Rattle.write.specs.Local.{thirdPlace};
-ghost use Rattle.write.specs.Tests.{Decides, Laid, finer, headerLeavesAt};
-ghost use Rattle.write.specs.Asked.{SomeRows, TwoPlaces, LaidOut, Headed, FourWithin};
+ghost use Rattle.table.specs.inner.Classes.{classTable};
+ghost use Rattle.table.specs.inner.RowTests.{nextPlace, leafText, goOnFrom};
+ghost use Rattle.write.specs.inner.Local.{thirdPlace};
+ghost use Rattle.write.specs.inner.Tests.{Decides, Laid, finer, headerLeavesAt};
+ghost use Rattle.write.specs.inner.Asked.{SomeRows, TwoPlaces, LaidOut, Headed, FourWithin};
 
 // Whether so many leaf rows are laid out: their texts lie end to end, from 0 up to `finish`, and each stands at the next place.
 pub(crate) fn laid(rows: &[Entry], count: usize, finish: usize) -> bool

@@ -9,9 +9,9 @@ use table::rows;
 use table::rows::Entry;
 ghost use mathlib.Core.List.{[], _∷_};
 ghost use mathlib.Core.Path.{_≡_};
-ghost use Rattle.write.specs.Filling.{stand, puts};
-ghost use Rattle.write.specs.Passing.{leading, Writable, WrittenOut};
-ghost use Rattle.write.specs.Asked.{NextInside, SeparatorFits};
+ghost use Rattle.write.specs.inner.Filling.{stand, puts};
+ghost use Rattle.write.specs.inner.Passing.{leading, Writable, WrittenOut};
+ghost use Rattle.write.specs.inner.Asked.{NextInside, SeparatorFits};
 
 // The separator between the leaf of a row and the next one of its segment: that of the first number of their places that differs. Some
 // number does, since the next leaf stands at the place that comes next.

@@ -5,8 +5,8 @@ ghost use mathlib.Core.Path.{_≡_};
 ghost use Prim.Native.Nat.{_+_, _-_, _≤_, _<_};
 ghost use lib.ListN.{length, take, drop};
 ghost use lib.Seq.{sets};
-ghost use Rattle.write.specs.Filling.{stand, placed, segmentClosed, broken, lineOpened, puts};
-ghost use Rattle.write.specs.Asked.{Opens, RoomForByte, RoomForEnd, ByteInside, PartInside};
+ghost use Rattle.write.specs.inner.Filling.{stand, placed, segmentClosed, broken, lineOpened, puts};
+ghost use Rattle.write.specs.inner.Asked.{Opens, RoomForByte, RoomForEnd, ByteInside, PartInside};
 
 // CR ends a line.
 pub(crate) const CR: u8 = 13;

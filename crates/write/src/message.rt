@@ -6,8 +6,9 @@ use form::limits::Limits;
 use table::Card;
 use table::rows::Entry;
 ghost use mathlib.Core.Path.{_≡_};
-ghost use Rattle.write.specs.Answer.{answer, outputAfter, messageWritten};
-ghost use Rattle.write.specs.Asked.{MessageFits};
+ghost use Rattle.write.specs.Answer.{answer, outputAfter};
+ghost use Rattle.write.specs.inner.Message.{messageWritten};
+ghost use Rattle.write.specs.inner.Asked.{MessageFits};
 
 // Writes the message at the front of the output, which has the bytes that a message may have.
 pub(crate) fn write_message(

@@ -13,14 +13,14 @@ ghost use Prim.Native.Nat.{_+_, _-_, _*_, _≤_, _<_};
 ghost use lib.Dec.{eqb};
 ghost use lib.ListN.{length};
 ghost use Rattle.laws.specs.Lists.{same};
-ghost use Rattle.laws.specs.Sums.{sumOf};
-ghost use Rattle.order.specs.Levels.{levelIn};
+ghost use Rattle.laws.specs.inner.Sums.{sumOf};
+ghost use Rattle.order.specs.inner.Levels.{levelIn};
 ghost use Rattle.order.specs.Owners.{owners};
-ghost use Rattle.order.specs.Place.{misplaced};
+ghost use Rattle.order.specs.inner.Place.{misplaced};
 ghost use Rattle.table.specs.Rows.{segmentRowSize, leafRowSize, textOf};
-ghost use Rattle.table.specs.BySegment.{kindAmong, contextAmong, writtenBytes};
-ghost use Rattle.write.specs.Tests.{groupsIn, Decides, leavesBetween, SegmentEnd, FieldLeaf, rowStates, groupsStated, kindColumn, ownerColumn};
-ghost use Rattle.write.specs.Asked.{TextStated, LeafAmong, Following, FieldThere, UpTo, Stretch, SegmentThere, LawfulStretch, Groupable, Grouped, Orderable, Ownable};
+ghost use Rattle.table.specs.inner.BySegment.{kindAmong, contextAmong, writtenBytes};
+ghost use Rattle.write.specs.inner.Tests.{groupsIn, Decides, leavesBetween, SegmentEnd, FieldLeaf, rowStates, groupsStated, kindColumn, ownerColumn};
+ghost use Rattle.write.specs.inner.Asked.{TextStated, LeafAmong, Following, FieldThere, UpTo, Stretch, SegmentThere, LawfulStretch, Groupable, Grouped, Orderable, Ownable};
 
 // The leaf after the last one of the segment that the leaf `first` stands in.
 fn segment_end(rows: &[Entry], count: usize, first: usize) -> usize

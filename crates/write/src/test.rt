@@ -11,12 +11,12 @@ use table::rows::Entry;
 ghost use mathlib.Core.Path.{_≡_};
 ghost use Prim.Native.Nat.{_*_, _<_};
 ghost use Rattle.form.specs.Limits.{form};
-ghost use Rattle.order.specs.Levels.{levelIn};
+ghost use Rattle.order.specs.inner.Levels.{levelIn};
 ghost use Rattle.order.specs.Owners.{level};
 ghost use Rattle.write.specs.Writing.{isTable, readsBack};
 ghost use Rattle.table.specs.Lent.{lent, withinLimits};
-ghost use Rattle.write.specs.Tests.{tableWith, soundLeaves, inOrder};
-ghost use Rattle.write.specs.Asked.{Testable, CountedTable, LaidOut, KindsAndLeaves};
+ghost use Rattle.write.specs.inner.Tests.{tableWith, soundLeaves, inOrder};
+ghost use Rattle.write.specs.inner.Asked.{Testable, CountedTable, LaidOut, KindsAndLeaves};
 
 // Yes exactly where some message within the form's limits reads to the table that the card counts in the lent buffers, whatever these hold.
 pub fn is_table(card: Card, segments: &[Entry], leaves: &[Entry], text: &[u8]) -> bool

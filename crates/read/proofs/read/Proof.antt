@@ -6,7 +6,7 @@ use native.Mathlib.Omega.{arith}
 use borrow.Author.Needs.{needs}
 use Rattle.form.specs.declared.limits.Limits.{Limits}
 use Rattle.order.proofs.LevelTable.{levels-are, levels-below}
-use Rattle.table.specs.Rows.{FitsRows}
+use Rattle.table.specs.inner.Fitting.{FitsRows}
 use Rattle.table.proofs.Width.{form-fits}
 use Rattle.read.proofs.Answering.{read-same}
 use Rattle.read.proofs.read.Statement.{statement}

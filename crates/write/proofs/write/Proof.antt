@@ -12,8 +12,9 @@ use Rattle.form.specs.Limits.{form}
 use Rattle.form.proofs.LineCount.{form-lawful}
 use Rattle.order.specs.Owners.{level}
 use Rattle.table.specs.Lent.{Lent, lent}
-use Rattle.write.specs.Answer.{answer, outputAfter, messageWritten}
-use Rattle.write.specs.Asked.{MessageFits}
+use Rattle.write.specs.Answer.{answer, outputAfter}
+use Rattle.write.specs.inner.Message.{messageWritten}
+use Rattle.write.specs.inner.Asked.{MessageFits}
 use Rattle.write.proofs.Answers.{writing-message, tested-lent}
 use Rattle.write.proofs.LentTables.{short-refused, no-table-refused}
 use Rattle.write.proofs.write.Statement.{statement}

@@ -5,7 +5,7 @@ use Prim.Native.Nat.{ℕ, _*_, _-_}
 use native.Mathlib.Omega.{arith}
 use lib.ListN.{length, take, drop}
 use borrow.Author.Needs.{needs}
-use Rattle.listing.specs.Names.{nameIn}
+use Rattle.listing.specs.inner.Names.{nameIn}
 use Rattle.listing.proofs.Names.{none-named, past-named, one-named, name-short, name-few, part-named}
 use Rattle.listing.proofs.Putting.{put-as, put-nothing, put-within}
 use Rattle.listing.proofs.put.put_name.Statement.{statement}

@@ -7,7 +7,7 @@ use native.Mathlib.Omega.{arith}
 use lib.ListN.{length}
 use Rattle.table.specs.Lent.{Lent, lent}
 use Rattle.look.specs.declared.leaf.Sought.the-variants.{At}
-use Rattle.look.specs.Ordering.{orderText}
+use Rattle.look.specs.inner.Ordering.{orderText}
 use Rattle.look.proofs.Orders.{order-within, both-there, first-not-there, second-not-there}
 use borrow.Author.Needs.{needs}
 use Rattle.look.proofs.order.same_order.Statement.{statement}

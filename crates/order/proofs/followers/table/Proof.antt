@@ -2,7 +2,7 @@
 -- Assumes nothing.
 use mathlib.Core.Path.{refl}
 use Rattle.laws.specs.Tables.{values}
-use Rattle.order.specs.Followers.{follows, follower, followers}
+use Rattle.order.specs.inner.Followers.{follows, follower, followers}
 use Rattle.order.proofs.Seven.{states}
 use Rattle.order.proofs.followers.table.Statement.{statement}
 use Rattle.order.proofs.followers.table.Tie as tie

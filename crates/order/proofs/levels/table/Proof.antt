@@ -3,7 +3,7 @@
 use mathlib.Core.Path.{refl}
 use Rattle.laws.specs.Tables.{values}
 use Rattle.order.specs.Owners.{levels, level}
-use Rattle.order.specs.Levels.{levelTableOf, levelTable}
+use Rattle.order.specs.inner.Levels.{levelTableOf, levelTable}
 use Rattle.order.proofs.levels.table.Statement.{statement}
 use Rattle.order.proofs.levels.table.Tie as tie
 

@@ -1,7 +1,7 @@
 -- `order::owners::no_rows` meets its contract.
 -- Assumes nothing.
 use mathlib.Core.Path.{refl}
-use Rattle.order.specs.Owning.{noRows}
+use Rattle.order.specs.inner.Owning.{noRows}
 use Rattle.order.proofs.owners.no_rows.Statement.{statement}
 use Rattle.order.proofs.owners.no_rows.Tie as tie
 

@@ -5,7 +5,7 @@ use mathlib.Core.Path.{ap, _∙_}
 use Prim.Native.Nat.{ℕ, _-_}
 use native.Mathlib.Omega.{arith}
 use lib.ListN.{getD}
-use Rattle.order.specs.Owning.{added}
+use Rattle.order.specs.inner.Owning.{added}
 use Rattle.order.proofs.Nearest.{Writing, writing-begins, writing-on, writing-waits, writing-done}
 use Rattle.order.proofs.owners.owner_of.Statement.{statement}
 use Rattle.order.proofs.owners.owner_of.Tie as tie

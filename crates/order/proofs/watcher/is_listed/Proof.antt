@@ -2,7 +2,7 @@
 -- Assumes nothing.
 use borrow.Author.Needs.{needs}
 use mathlib.Core.Path.{refl}
-use Rattle.order.specs.Watcher.{followsBy}
+use Rattle.order.specs.inner.Telling.{followsBy}
 use Rattle.order.proofs.watcher.is_listed.Statement.{statement}
 use Rattle.order.proofs.watcher.is_listed.Tie as tie
 

@@ -2,7 +2,7 @@
 -- Assumes nothing.
 use mathlib.Core.Path.{sym, _∙_}
 use native.Mathlib.Omega.{arith}
-use Rattle.order.specs.Watcher.{followsBy}
+use Rattle.order.specs.inner.Telling.{followsBy}
 use Rattle.order.proofs.Allowing.{first-is-H, last-above, kind-below, kind-above, kind-within}
 use Rattle.order.proofs.watcher.may_be_next.Statement.{statement}
 use Rattle.order.proofs.watcher.may_be_next.Tie as tie

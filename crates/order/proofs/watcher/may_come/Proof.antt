@@ -2,7 +2,7 @@
 -- Assumes nothing.
 use borrow.Author.Needs.{needs}
 use mathlib.Core.Path.{sym, _∙_}
-use Rattle.order.specs.Watcher.{followsBy}
+use Rattle.order.specs.inner.Telling.{followsBy}
 use Rattle.order.proofs.Allowing.{context-below, context-above, allows-C, allows-other}
 use Rattle.order.proofs.Seven.{context-within}
 use Rattle.order.proofs.watcher.may_come.Statement.{statement}

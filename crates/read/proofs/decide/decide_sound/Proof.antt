@@ -3,9 +3,9 @@
 use mathlib.Core.Path.{_≡_, subst}
 use native.Mathlib.Omega.{arith}
 use borrow.Author.Needs.{needs}
-use Rattle.table.specs.Classes.{classTable}
+use Rattle.table.specs.inner.Classes.{classTable}
 use Rattle.table.proofs.Classes.{classes-set}
-use Rattle.read.specs.Surveying.{SurveyOf}
+use Rattle.read.specs.inner.Surveying.{SurveyOf}
 use Rattle.read.proofs.Deciding.{fault-decides, survey-decides}
 use Rattle.read.proofs.decide.decide_sound.Statement.{statement}
 use Rattle.read.proofs.decide.decide_sound.Tie as tie

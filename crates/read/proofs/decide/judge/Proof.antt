@@ -3,8 +3,8 @@
 use mathlib.Core.Path.{_≡_, sym, _∙_}
 use native.Mathlib.Omega.{arith}
 use borrow.Author.Needs.{needs}
-use Rattle.read.specs.Deciding.{acceptedBy}
-use Rattle.read.specs.Surveying.{placeSeen}
+use Rattle.read.specs.inner.Deciding.{acceptedBy}
+use Rattle.read.specs.inner.Surveying.{placeSeen}
 use Rattle.read.proofs.Deciding.{place-none, decision-7, decision-8, decision-9, decision-misplaced, decision-open, decision-11, decision-0}
 use Rattle.read.proofs.decide.judge.Statement.{statement}
 use Rattle.read.proofs.decide.judge.Tie as tie

@@ -1,7 +1,7 @@
 -- `read::decide::refuse` meets its contract.
 -- Assumes nothing.
 use mathlib.Core.Path.{refl}
-use Rattle.read.specs.Deciding.{refusedAt}
+use Rattle.read.specs.inner.Deciding.{refusedAt}
 use Rattle.read.proofs.decide.refuse.Statement.{statement}
 use Rattle.read.proofs.decide.refuse.Tie as tie
 

@@ -7,7 +7,7 @@ use lib.ListN.{length}
 use borrow.Author.Needs.{needs}
 use Rattle.laws.proofs.Bytes.{bytes-known}
 use Rattle.laws.proofs.Bytes.{Bytes}
-use Rattle.read.specs.Segments.{AtLine, Onward}
+use Rattle.read.specs.inner.Segments.{AtLine, Onward}
 use Rattle.read.proofs.HeaderLaws.{header-fits, header-line}
 use Rattle.read.proofs.StandLaws.{text-kept, segments-kept, leaves-kept, line-lays, line-on, line-ahead, stands-closable, stands-next, stands-addendum, stands-segment, stands-filled}
 use Rattle.read.proofs.fill.fill.Statement.{statement}

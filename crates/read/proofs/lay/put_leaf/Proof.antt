@@ -4,7 +4,7 @@ use native.Mathlib.Numerals.{towards-suc}
 use native.Mathlib.Omega.{arith}
 use lib.ListN.{length-set}
 use borrow.Author.Needs.{needs}
-use Rattle.read.specs.Laying.{leafPlace, rowOf}
+use Rattle.read.specs.inner.Laying.{leafPlace, rowOf}
 use Rattle.read.proofs.lay.put_leaf.Statement.{statement}
 use Rattle.read.proofs.lay.put_leaf.Tie as tie
 

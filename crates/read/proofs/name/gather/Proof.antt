@@ -6,7 +6,7 @@ use native.Mathlib.Omega.{arith}
 use borrow.Author.Needs.{needs}
 use lib.ListN.{take, drop}
 use Rattle.read.specs.declared.name.Name.{Name}
-use Rattle.read.specs.Naming.{withBytes}
+use Rattle.read.specs.inner.Naming.{withBytes}
 use Rattle.read.proofs.Naming.{bytes-settled, bytes-turn, bytes-end}
 use Rattle.read.proofs.name.gather.Statement.{statement}
 use Rattle.read.proofs.name.gather.Tie as tie

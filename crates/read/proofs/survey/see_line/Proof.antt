@@ -7,8 +7,8 @@ use mathlib.Core.List.{List}
 use lib.ListN.{take, drop}
 use Rattle.laws.proofs.Bytes.{bytes-known}
 use Rattle.line.proofs.Finding.{EndedAt, ended-at}
-use Rattle.read.specs.Scanning.{run, marks}
-use Rattle.read.specs.Underway.{StepOf}
+use Rattle.read.specs.inner.Scanning.{run, marks}
+use Rattle.read.specs.inner.Underway.{StepOf}
 use Rattle.read.specs.declared.survey.Step.the-variants.{On}
 use Rattle.read.proofs.Underway.{LineScanned, line-part, line-seen, line-faulty}
 use Rattle.read.proofs.survey.see_line.Statement.{statement}

@@ -11,7 +11,7 @@ use Rattle.form.proofs.HeaderRule.{sound-header}
 use Rattle.read.specs.declared.survey.Survey.{Survey}
 use Rattle.read.specs.declared.survey.Step.{Step}
 use Rattle.read.specs.declared.survey.Step.the-variants.{On}
-use Rattle.read.specs.Underway.{StepOf}
+use Rattle.read.specs.inner.Underway.{StepOf}
 use Rattle.read.proofs.Underway.{message-begins, goes-on-from, begins-next, survey-ends}
 use Rattle.read.proofs.Noting.{Noting, noting-begins, noting-goes-on, noting-next, closed-noted, closed-kept}
 use Rattle.read.proofs.survey.survey_message.Statement.{statement}

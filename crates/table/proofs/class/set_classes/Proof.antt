@@ -6,7 +6,7 @@ use native.Mathlib.Omega.{arith}
 use lib.ListN.{replicate}
 use lib.Seq.{sets}
 use borrow.Author.Needs.{needs}
-use Rattle.table.specs.Classes.{classesOver}
+use Rattle.table.specs.inner.Classes.{classesOver}
 use Rattle.table.proofs.Classes.{lows-more}
 use Rattle.table.proofs.class.set_classes.Statement.{statement}
 use Rattle.table.proofs.class.set_classes.Tie as tie

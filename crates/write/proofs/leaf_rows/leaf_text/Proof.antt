@@ -6,7 +6,7 @@ use mathlib.Core.Path.{_≡_}
 use Prim.Native.Nat.{_-_, _≤_}
 use Rattle.form.specs.declared.separators.Separators.{Separators}
 use Rattle.form.specs.Header.{splitting}
-use Rattle.table.specs.Classes.{classTable}
+use Rattle.table.specs.inner.Classes.{classTable}
 use Rattle.write.proofs.ClassTables.{text-ends, text-goes-on}
 use Rattle.write.proofs.LeafTests.{Reading, reading-begins, reading-fails, reading-on, reading-done}
 use Rattle.write.proofs.leaf_rows.leaf_text.Statement.{statement}

@@ -6,7 +6,7 @@ use Prim.Native.Nat.{_+_}
 use lib.ListN.{getD}
 use borrow.Author.Tests.{not-true, not-false}
 use Rattle.laws.specs.Tables.{values}
-use Rattle.table.specs.Flat.{ones}
+use Rattle.table.specs.inner.Flat.{ones}
 use Rattle.write.proofs.PlaceTests.{one-left, next-left, next-goes-on, next-fails, next-rises, next-last}
 use Rattle.write.proofs.leaf_rows.next_in_repetition.Statement.{statement}
 use Rattle.write.proofs.leaf_rows.next_in_repetition.Tie as tie

@@ -4,7 +4,7 @@
 use borrow.Author.Needs.{needs}
 use native.Mathlib.Omega.{arith}
 use Prim.Native.Nat.{_-_, _<_}
-use Rattle.write.specs.Filling.{stand}
+use Rattle.write.specs.inner.Filling.{stand}
 use Rattle.write.proofs.LeavesLeft.{LeavesLeft, leaves-begin, leaf-fits, last-fits, last-turn, leading-fits, leading-turn, leaves-written}
 use Rattle.write.proofs.leaves.put_leaves.Statement.{statement}
 use Rattle.write.proofs.leaves.put_leaves.Tie as tie

@@ -5,8 +5,8 @@ use mathlib.Core.List.{[], _∷_}
 use mathlib.Core.Path.{_≡_, sym, ap, _∙_, subst}
 use Prim.Native.Nat.{ℕ}
 use Rattle.line.specs.Lines.{CR}
-use Rattle.write.specs.Filling.{Stand, stand, puts, Fits}
-use Rattle.write.specs.Passing.{leading}
+use Rattle.write.specs.inner.Filling.{Stand, stand, puts, Fits}
+use Rattle.write.specs.inner.Passing.{leading}
 use Rattle.write.proofs.Filling.{close-fits, closed-one}
 use Rattle.write.proofs.RowPlaces.{other-segment, inside-clear, next-inside}
 use Rattle.write.proofs.leaves.put_separator.Statement.{statement}

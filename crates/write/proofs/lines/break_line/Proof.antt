@@ -4,7 +4,7 @@ use borrow.Author.Needs.{needs}
 use native.Mathlib.Omega.{arith}
 use native.Mathlib.Numerals.{towards-suc}
 use lib.ListN.{length-set}
-use Rattle.write.specs.Filling.{broken}
+use Rattle.write.specs.inner.Filling.{broken}
 use Rattle.write.proofs.lines.break_line.Statement.{statement}
 use Rattle.write.proofs.lines.break_line.Tie as tie
 

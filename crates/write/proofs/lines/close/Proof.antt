@@ -2,7 +2,7 @@
 -- Assumes nothing.
 use borrow.Author.Needs.{needs}
 use mathlib.Core.Path.{refl}
-use Rattle.write.specs.Filling.{segmentClosed}
+use Rattle.write.specs.inner.Filling.{segmentClosed}
 use Rattle.write.proofs.lines.close.Statement.{statement}
 use Rattle.write.proofs.lines.close.Tie as tie
 

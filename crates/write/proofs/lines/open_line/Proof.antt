@@ -3,7 +3,7 @@
 use borrow.Author.Needs.{needs}
 use mathlib.Core.Path.{sym, _∙_}
 use borrow.Author.Tests.{eq-eqb, ne-eqb}
-use Rattle.write.specs.Filling.{stand}
+use Rattle.write.specs.inner.Filling.{stand}
 use Rattle.write.proofs.Filling.{break-fits, opened-full, opened-room}
 use Rattle.write.proofs.lines.open_line.Statement.{statement}
 use Rattle.write.proofs.lines.open_line.Tie as tie

@@ -2,7 +2,7 @@
 -- Assumes nothing.
 use borrow.Author.Needs.{needs}
 use mathlib.Core.Path.{refl}
-use Rattle.write.specs.Filling.{placed}
+use Rattle.write.specs.inner.Filling.{placed}
 use Rattle.write.proofs.lines.place.Statement.{statement}
 use Rattle.write.proofs.lines.place.Tie as tie
 

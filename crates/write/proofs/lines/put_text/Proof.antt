@@ -3,7 +3,7 @@
 use native.Mathlib.Omega.{arith}
 use mathlib.Core.Path.{refl}
 use Prim.Native.Nat.{_+_, _-_, _*_}
-use Rattle.write.specs.Filling.{stand}
+use Rattle.write.specs.inner.Filling.{stand}
 use Rattle.write.proofs.TextLeft.{TextLeft, part, text-fits, text-room, text-broken, text-less, text-turn, rest-fits, rest-room, text-kept, text-done}
 use Rattle.write.proofs.lines.put_text.Statement.{statement}
 use Rattle.write.proofs.lines.put_text.Tie as tie

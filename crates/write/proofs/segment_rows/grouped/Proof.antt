@@ -5,7 +5,7 @@ use borrow.Author.Needs.{needs}
 use native.Mathlib.Omega.{arith}
 use Prim.Native.Nat.{_+_, _-_}
 use borrow.Author.Tests.{not-true, not-false}
-use Rattle.write.specs.Tests.{SegmentEnd}
+use Rattle.write.specs.inner.Tests.{SegmentEnd}
 use Rattle.write.proofs.Rising.{segment-head}
 use Rattle.write.proofs.Groups.{Grouping, FieldOne, grouping-begins, grouping-otherwise, stated-wrong, stated-right, grouping-done}
 use Rattle.write.proofs.segment_rows.grouped.Statement.{statement}

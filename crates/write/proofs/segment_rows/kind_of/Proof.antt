@@ -4,7 +4,7 @@ use borrow.Author.Needs.{needs}
 use native.Mathlib.Omega.{arith}
 use mathlib.Core.Path.{ap, _∙_}
 use Rattle.form.specs.Names.{kindNames, kindOf}
-use Rattle.table.specs.BySegment.{kindAmong}
+use Rattle.table.specs.inner.BySegment.{kindAmong}
 use Rattle.write.proofs.LaidRows.{stated-within}
 use Rattle.write.proofs.SegmentTests.{stated-text}
 use Rattle.write.proofs.Groups.{field-missing, field-found}

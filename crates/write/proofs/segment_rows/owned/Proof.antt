@@ -4,7 +4,7 @@ use borrow.Author.Needs.{needs}
 use native.Mathlib.Omega.{arith}
 use mathlib.Core.Path.{refl}
 use Prim.Native.Nat.{_-_}
-use Rattle.order.specs.Levels.{levelIn}
+use Rattle.order.specs.inner.Levels.{levelIn}
 use Rattle.write.proofs.Columns.{Owning, owning-begins, owning-fails, owning-on, owning-done}
 use Rattle.write.proofs.segment_rows.owned.Statement.{statement}
 use Rattle.write.proofs.segment_rows.owned.Tie as tie

@@ -6,7 +6,7 @@ use mathlib.Core.Path.{_≡_}
 use Prim.Native.Nat.{_+_, _-_}
 use lib.ListN.{length}
 use Rattle.table.specs.Rows.{textOf}
-use Rattle.write.specs.Tests.{leavesBetween}
+use Rattle.write.specs.inner.Tests.{leavesBetween}
 use Rattle.write.proofs.LaidRows.{stated-within, texts-span}
 use Rattle.write.proofs.segment_rows.text_bytes.Statement.{statement}
 use Rattle.write.proofs.segment_rows.text_bytes.Tie as tie

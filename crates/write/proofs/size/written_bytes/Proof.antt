@@ -5,18 +5,18 @@ use native.Mathlib.Omega.{arith}
 use mathlib.Core.Path.{sym, ap, _∙_, subst⁻¹}
 use Prim.Native.Nat.{_*_}
 use lib.Seq.{length-take-le}
-use Rattle.laws.specs.Sums.{sumOf}
+use Rattle.laws.specs.inner.Sums.{sumOf}
 use Rattle.form.specs.declared.limits.Limits.{Limits}
 use Rattle.form.specs.Limits.{form}
 use Rattle.form.proofs.LineCount.{form-lawful}
 use Rattle.order.specs.Owners.{level}
 use Rattle.table.specs.Rows.{segmentRowSize, leafRowSize}
 use Rattle.table.specs.Back.{leavesOf}
-use Rattle.table.specs.BySegment.{writtenBytes}
+use Rattle.table.specs.inner.BySegment.{writtenBytes}
 use Rattle.table.specs.Lent.{Lent, lent, counted}
 use Rattle.table.proofs.Width.{form-fits}
-use Rattle.write.specs.Asked.{Grouped}
-use Rattle.write.specs.Local.{groupsOf}
+use Rattle.write.specs.inner.Asked.{Grouped}
+use Rattle.write.specs.inner.Local.{groupsOf}
 use Rattle.write.proofs.Sizes.{Counts, table-counts, no-table-size}
 use Rattle.write.proofs.size.written_bytes.Statement.{statement}
 use Rattle.write.proofs.size.written_bytes.Tie as tie

@@ -6,7 +6,7 @@ use mathlib.Core.Bool.{true}
 use mathlib.Core.Path.{_≡_, sym, _∙_}
 use lib.Seq.{length-take-le}
 use Prim.Native.Nat.{_*_}
-use Rattle.order.specs.Levels.{levelIn}
+use Rattle.order.specs.inner.Levels.{levelIn}
 use Rattle.table.specs.Rows.{segmentRowSize, leafRowSize}
 use Rattle.table.specs.Lent.{Lent, lent, withinLimits, withinBuffers, counted}
 use Rattle.write.proofs.LentTables.{Within, within-buffers}

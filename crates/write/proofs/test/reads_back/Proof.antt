@@ -5,9 +5,9 @@ use mathlib.Core.Bool.{false, true}
 use mathlib.Core.Path.{_≡_, ap}
 use borrow.Author.Tests.{not-true, not-false}
 use Rattle.laws.proofs.Tests.{never-both}
-use Rattle.order.specs.Levels.{levelIn}
+use Rattle.order.specs.inner.Levels.{levelIn}
 use Rattle.table.specs.Rows.{Table}
-use Rattle.write.specs.Tests.{groupsIn, tableWith, InText, Laid, KindsStated, soundLeaves, groupsStated}
+use Rattle.write.specs.inner.Tests.{groupsIn, tableWith, InText, Laid, KindsStated, soundLeaves, groupsStated}
 use Rattle.write.specs.Writing.{readsBack}
 use Rattle.write.proofs.GoingOn.{sound-first}
 use Rattle.write.proofs.Said.{answered-no, answered-yes}

@@ -3,7 +3,7 @@
 use borrow.Author.Needs.{needs}
 use mathlib.Core.Bool.{true}
 use mathlib.Core.Path.{_≡_, _∙_}
-use Rattle.write.specs.Tests.{headerLeavesAt}
+use Rattle.write.specs.inner.Tests.{headerLeavesAt}
 use Rattle.write.proofs.HeaderTest.{header-four}
 use Rattle.write.proofs.Said.{answered-no, answered-yes}
 use Rattle.write.proofs.Parts.{no-header, no-rule, others-decide}

@@ -4,7 +4,8 @@ use mathlib.Core.Path.{sym}
 use Rattle.laws.specs.Lists.{firstFrom}
 use Rattle.laws.specs.Texts.{bytes}
 use Rattle.laws.proofs.Lists.{Absent.nowhere, Absent.past}
-use Rattle.form.specs.Names.{contextNames, packedOnto, packedAmong}
+use Rattle.form.specs.Names.{contextNames}
+use Rattle.form.specs.inner.Spelling.{packedOnto, packedAmong}
 use Rattle.form.proofs.Packing.{packedNames, packed-none}
 use Rattle.form.proofs.context.Context.packed.Statement.{statement}
 use Rattle.form.proofs.context.Context.packed.Tie as tie

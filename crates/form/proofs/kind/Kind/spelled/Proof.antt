@@ -6,7 +6,8 @@ use borrow.Author.Needs.{needs}
 use Rattle.laws.specs.Lists.{among}
 use Rattle.laws.specs.Texts.{bytes}
 use Rattle.laws.proofs.Lists.{every, Absent.nowhere, Absent.past}
-use Rattle.form.specs.Names.{kindNames, kindOf, spelledAmong}
+use Rattle.form.specs.Names.{kindNames, kindOf}
+use Rattle.form.specs.inner.Spelling.{spelledAmong}
 use Rattle.form.proofs.Spelling.{lengthAmong, no-length}
 use Rattle.form.proofs.kind.Kind.spelled.Statement.{statement}
 use Rattle.form.proofs.kind.Kind.spelled.Tie as tie

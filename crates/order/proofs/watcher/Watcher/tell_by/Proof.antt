@@ -2,7 +2,7 @@
 -- Assumes nothing.
 use borrow.Author.Needs.{needs}
 use mathlib.Core.Path.{sym, ap, _∙_}
-use Rattle.order.specs.Watcher.{followsBy}
+use Rattle.order.specs.inner.Telling.{followsBy}
 use Rattle.order.specs.declared.watcher.Watcher.{Watcher}
 use Rattle.order.specs.declared.watcher.Told.{Told}
 use mathlib.Core.Bool.{true}

@@ -2,7 +2,7 @@
 -- Assumes nothing.
 use borrow.Author.Needs.{needs}
 use borrow.Author.Tests.{eq-eqb, ne-eqb}
-use Rattle.read.specs.Laying.{nextLeaf}
+use Rattle.read.specs.inner.Laying.{nextLeaf}
 use Rattle.read.proofs.lay.Laying.next_leaf.Statement.{statement}
 use Rattle.read.proofs.lay.Laying.next_leaf.Tie as tie
 

@@ -2,7 +2,7 @@
 -- Assumes nothing.
 use mathlib.Core.Path.{refl}
 use borrow.Author.Needs.{needs}
-use Rattle.read.specs.Laying.{nextSegment}
+use Rattle.read.specs.inner.Laying.{nextSegment}
 use Rattle.read.proofs.lay.Laying.next_segment.Statement.{statement}
 use Rattle.read.proofs.lay.Laying.next_segment.Tie as tie
 

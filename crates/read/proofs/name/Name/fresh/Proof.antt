@@ -1,7 +1,7 @@
 -- `Name::fresh` meets its contract.
 -- Assumes nothing.
 use mathlib.Core.Path.{refl}
-use Rattle.read.specs.Naming.{fresh}
+use Rattle.read.specs.inner.Naming.{fresh}
 use Rattle.read.proofs.name.Name.fresh.Statement.{statement}
 use Rattle.read.proofs.name.Name.fresh.Tie as tie
 

@@ -5,7 +5,7 @@ use mathlib.Core.Path.{ap₂}
 use Rattle.order.specs.declared.watcher.Watcher.{Watcher}
 use Rattle.read.specs.declared.name.Name.{Name}
 use Rattle.read.specs.declared.survey.Survey.{Survey}
-use Rattle.read.specs.Seeing.{nothingSeen}
+use Rattle.read.specs.inner.Seeing.{nothingSeen}
 use Rattle.read.proofs.survey.Survey.begin.Statement.{statement}
 use Rattle.read.proofs.survey.Survey.begin.Tie as tie
 

@@ -4,7 +4,7 @@ use mathlib.Core.Path.{ap, _∙_}
 use Prim.Native.Nat.{ℕ, _-_}
 use lib.ListN.{set}
 use borrow.Author.Needs.{needs}
-use Rattle.order.specs.Watcher.{followsBy}
+use Rattle.order.specs.inner.Telling.{followsBy}
 use Rattle.read.proofs.Seeing.{closed-as}
 use Rattle.read.proofs.survey.Survey.closed.Statement.{statement}
 use Rattle.read.proofs.survey.Survey.closed.Tie as tie

@@ -8,7 +8,7 @@ use lib.Dec.{ltb}
 use lib.ListN.{getD, replicate}
 use lib.Seq.{sets}
 use Rattle.order.specs.Owners.{isC}
-use Rattle.order.specs.Levels.{topLevel}
+use Rattle.order.specs.inner.Levels.{topLevel}
 
 -- what is known: at place l, up to `topLevel`, the row of the nearest segment, C aside, with a level below l, or 0
 unfoldable pub noRows : List ℕ

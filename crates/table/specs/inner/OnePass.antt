@@ -7,8 +7,8 @@ use lib.ListN.{take, drop}
 use Rattle.form.specs.declared.separators.Separators.{Separators}
 use Rattle.form.specs.Header.{splitting}
 use Rattle.line.specs.Lines.{CR}
-use Rattle.table.specs.Flat.{leaf, glued, Pass, steps}
-use Rattle.table.specs.Filed.{headerBytes}
+use Rattle.table.specs.inner.Flat.{leaf, glued, Pass, steps}
+use Rattle.table.specs.inner.Filed.{headerBytes}
 
 -- "field 1 is `H`, field 2 is one leaf of the four bytes 2 to 5, and field 3 starts at byte 7"
 unfoldable pub headerPass : Separators → Pass

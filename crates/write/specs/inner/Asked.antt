@@ -10,15 +10,16 @@ use Rattle.form.specs.declared.separators.Separators.{Separators}
 use Rattle.form.specs.Limits.{Lawful}
 use Rattle.form.specs.Header.{splitting}
 use Rattle.line.specs.Lines.{CR}
-use Rattle.order.specs.Followers.{followers}
-use Rattle.order.specs.Levels.{LevelsBelow}
+use Rattle.order.specs.inner.Followers.{followers}
+use Rattle.order.specs.inner.Levels.{LevelsBelow}
 use Rattle.table.specs.declared.Card.{Card}
-use Rattle.table.specs.Rows.{Table, segmentRowSize, leafRowSize, FitsRows, segmentIn, fieldIn, startIn, lengthIn}
-use Rattle.write.specs.RowByRow.{Sized}
-use Rattle.write.specs.Tests.{groupsIn, InText, PlacesFollow, KindsStated, groupsStated, headerLeavesAt}
-use Rattle.write.specs.Filling.{Stand, Fits, InSegment, lineOpened}
-use Rattle.write.specs.Passing.{NextAfter, leading}
-use Rattle.write.specs.Answer.{Tested}
+use Rattle.table.specs.Rows.{Table, segmentRowSize, leafRowSize, segmentIn, fieldIn, startIn, lengthIn}
+use Rattle.table.specs.inner.Fitting.{FitsRows}
+use Rattle.write.specs.inner.RowByRow.{Sized}
+use Rattle.write.specs.inner.Tests.{groupsIn, InText, PlacesFollow, KindsStated, groupsStated, headerLeavesAt}
+use Rattle.write.specs.inner.Filling.{Stand, Fits, InSegment, lineOpened}
+use Rattle.write.specs.inner.Passing.{NextAfter, leading}
+use Rattle.write.specs.inner.Message.{Tested}
 use Rattle.write.specs.declared.lines.Going.{Going}
 
 -- the test of a lent table: numbers that fit the rows, levels that the owners' test knows

@@ -5,13 +5,15 @@ use mathlib.Core.List.{List}
 use Prim.Native.Nat.{ℕ, _+_}
 use lib.Dec.{eqb}
 use Rattle.laws.specs.Lists.{firstOf}
-use Rattle.form.specs.Names.{kindNames, contextNames, packedAmong}
-use Rattle.order.specs.Watcher.{begun, tellBy}
+use Rattle.form.specs.Names.{kindNames, contextNames}
+use Rattle.form.specs.inner.Spelling.{packedAmong}
+use Rattle.order.specs.Watcher.{begun}
+use Rattle.order.specs.inner.Telling.{tellBy}
 use Rattle.order.specs.declared.watcher.Watcher.{Watcher}
 use Rattle.order.specs.declared.watcher.Told.{Told}
 use Rattle.read.specs.declared.name.Name.{Name}
 use Rattle.read.specs.declared.survey.Survey.{Survey}
-use Rattle.read.specs.Naming.{fresh, withBytes}
+use Rattle.read.specs.inner.Naming.{fresh, withBytes}
 
 -- before the first line: its seven header bytes are known, so the open segment is an H
 abbrev pub nothingSeen : Survey

@@ -15,8 +15,8 @@ use Rattle.line.specs.Lines.{CR}
 use Rattle.line.specs.Cutting.{cuts, unlines}
 use Rattle.table.specs.Leaves.{split}
 use Rattle.table.specs.Back.{leafAt, between, unsplit}
-use Rattle.table.specs.RowTests.{nextPlace}
-use Rattle.write.specs.Filling.{InSegment}
+use Rattle.table.specs.inner.RowTests.{nextPlace}
+use Rattle.write.specs.inner.Filling.{InSegment}
 use Rattle.write.specs.declared.lines.Going.{Going}
 use Rattle.table.specs.Rows.{leafRowSize, placeIn, startIn, lengthIn}
 

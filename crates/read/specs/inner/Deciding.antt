@@ -11,13 +11,15 @@ use Rattle.form.specs.declared.separators.Separators.{Separators}
 use Rattle.form.specs.declared.separators.Header.the-variants.{Sound}
 use Rattle.form.specs.Header.{headerOf}
 use Rattle.form.specs.Numbers.{manySegments, unknownKind, noContext, misplacedKind, manyLeaves}
-use Rattle.order.specs.Levels.{levelIn, LevelsBelow}
-use Rattle.table.specs.Rows.{FitsRows, allLeaves, tableOf}
+use Rattle.order.specs.inner.Levels.{levelIn, LevelsBelow}
+use Rattle.table.specs.Rows.{allLeaves, tableOf}
+use Rattle.table.specs.inner.Fitting.{FitsRows}
 use Rattle.table.specs.Reading.{Outcome, refused, accepted}
 use Rattle.read.specs.declared.decide.Decision.{Decision}
 use Rattle.read.specs.declared.survey.Survey.{Survey}
-use Rattle.read.specs.Filling.{segmentsIn, Fillable}
-use Rattle.read.specs.Surveying.{placeSeen}
+use Rattle.read.specs.inner.Filling.{Fillable}
+use Rattle.read.specs.Sound.{segmentsIn}
+use Rattle.read.specs.inner.Surveying.{placeSeen}
 
 -- a decision that refuses, by its number and its place
 unfoldable pub refusedAt : ℕ → ℕ → Decision

@@ -3,7 +3,7 @@
 use mathlib.Core.Bool.{true, false}
 use mathlib.Core.List.{List, [], _∷_}
 use Prim.Native.Nat.{ℕ, suc}
-use Rattle.order.specs.Watcher.{tellOf}
+use Rattle.order.specs.inner.Telling.{tellOf}
 use Rattle.order.specs.declared.watcher.Watcher.{Watcher}
 
 -- the place, counted from `at`, of the first kind that the watcher says no to, or 0 where it says yes to all

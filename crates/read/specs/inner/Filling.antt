@@ -2,7 +2,7 @@
 -- Assumes nothing.
 use mathlib.Core.List.{List}
 use mathlib.Core.Path.{_≡_}
-use Prim.Native.Nat.{ℕ, _*_, _≤_, _<_}
+use Prim.Native.Nat.{ℕ, _*_, _≤_}
 use lib.ListN.{length}
 use lib.Seq.{sets}
 use Rattle.form.specs.declared.limits.Limits.{Limits}
@@ -10,15 +10,12 @@ use Rattle.form.specs.declared.separators.Separators.{Separators}
 use Rattle.form.specs.declared.separators.Header.the-variants.{Sound}
 use Rattle.form.specs.Header.{headerOf}
 use Rattle.line.specs.Lines.{walk, texts, faultNumber}
-use Rattle.line.specs.Joining.{joined}
-use Rattle.order.specs.Levels.{levelIn, LevelsBelow}
-use Rattle.table.specs.Rows.{FitsRows, Table, contextIn, allLeaves, tableOf, segmentRowSize, leafRowSize}
-use Rattle.table.specs.Classes.{classTable}
-use Rattle.read.specs.Noting.{Noted}
-
--- the joined segments of a message
-abbrev pub segmentsIn : Limits → Separators → List ℕ → List (List ℕ)
-segmentsIn L ps message = joined (ps .field) (texts (walk L message))
+use Rattle.order.specs.inner.Levels.{levelIn, LevelsBelow}
+use Rattle.table.specs.Rows.{Table, contextIn, allLeaves, tableOf, segmentRowSize, leafRowSize}
+use Rattle.table.specs.inner.Fitting.{FitsRows}
+use Rattle.table.specs.inner.Classes.{classTable}
+use Rattle.read.specs.Sound.{segmentsIn}
+use Rattle.read.specs.inner.Noting.{Noted}
 
 -- what deciding has shown of a message that it accepts: its numbers fit the rows, and its kinds are noted
 pub record Fillable (L : Limits) (class kinds : List ℕ) (ps : Separators) (context : ℕ) (message : List ℕ) : Type 0 where

@@ -4,7 +4,7 @@ use mathlib.Core.Bool.{true, false}
 use mathlib.Core.List.{List, [], _∷_}
 use Prim.Native.Nat.{ℕ, _+_, _*_, _-_}
 use lib.Dec.{eqb, ltb}
-use Rattle.form.specs.Names.{tooMany}
+use Rattle.form.specs.inner.Spelling.{tooMany}
 use Rattle.read.specs.declared.name.Name.{Name}
 
 -- nothing gathered yet of the field that `left` field separators end

@@ -16,10 +16,10 @@ use Rattle.table.specs.declared.Card.{Card}
 use Rattle.table.specs.Leaves.{Leaf}
 use Rattle.table.specs.Rows.{Table, segmentRowSize, leafRowSize, kindIn, ownerIn, firstIn, countIn, segmentIn, placeIn, width}
 use Rattle.table.specs.Back.{leafAt, separatorsAt}
-use Rattle.order.specs.Place.{misplaced}
-use Rattle.table.specs.BySegment.{bySegment, kindAmong, contextAmong, numberOfField}
-use Rattle.table.specs.RowTests.{endToEnd, nextPlace, goOnFrom}
-use Rattle.write.specs.Local.{thirdPlace}
+use Rattle.order.specs.inner.Place.{misplaced}
+use Rattle.table.specs.inner.BySegment.{bySegment, kindAmong, contextAmong, numberOfField}
+use Rattle.table.specs.inner.RowTests.{endToEnd, nextPlace, goOnFrom}
+use Rattle.write.specs.inner.Local.{thirdPlace}
 
 -- a test that is passed exactly where something holds
 abbrev pub Decides : Bool → Type 0 → Type 0

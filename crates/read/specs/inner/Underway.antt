@@ -9,16 +9,16 @@ use Rattle.form.specs.declared.limits.Limits.{Limits}
 use Rattle.form.specs.declared.separators.Separators.{Separators}
 use Rattle.line.specs.Lines.{Lines, line, walkFrom, walk, faultNumber, faultPlace}
 use Rattle.line.specs.Finding.{textRun}
-use Rattle.line.specs.Left.{SameFault, Left, LeftAt}
+use Rattle.line.specs.inner.Left.{SameFault, Left, LeftAt}
 use Rattle.order.specs.Watcher.{begun, watched}
-use Rattle.order.specs.Refusing.{firstNo}
+use Rattle.order.specs.inner.Refusing.{firstNo}
 use Rattle.table.specs.Rows.{kindsOf, contextIn, allLeaves}
-use Rattle.table.specs.Classes.{classTable}
+use Rattle.table.specs.inner.Classes.{classTable}
 use Rattle.table.specs.Reading.{firstUnknown}
 use Rattle.read.specs.declared.survey.Survey.{Survey}
 use Rattle.read.specs.declared.survey.Step.{Step}
 use Rattle.read.specs.declared.survey.Step.the-variants.{On, Fault}
-use Rattle.read.specs.Naming.{fresh, withBytes}
+use Rattle.read.specs.inner.Naming.{fresh, withBytes}
 
 -- what has been judged of closed segments: the first of unknown kind, the first that may not stand there, the watcher
 pub record JudgedSoFar (ps : Separators) (segments : List (List ℕ)) (s : Survey) : Type 0 where

@@ -12,12 +12,12 @@ use Rattle.form.specs.declared.separators.Separators.{Separators}
 use Rattle.form.specs.Header.{splitting}
 use Rattle.line.specs.Lines.{CR}
 use Rattle.table.specs.Leaves.{Leaf}
-use Rattle.table.specs.Flat.{Pass, steps}
+use Rattle.table.specs.inner.Flat.{Pass, steps}
 use Rattle.table.specs.Rows.{leafRowSize, width, leafRowsFrom, textOf}
 use Rattle.read.specs.declared.lay.Laying.{Laying}
 use Rattle.read.specs.declared.lay.Laid.{Laid}
-use Rattle.table.specs.Classes.{classTable}
-use Rattle.read.specs.Scanning.{run, marks}
+use Rattle.table.specs.inner.Classes.{classTable}
+use Rattle.read.specs.inner.Scanning.{run, marks}
 
 -- the five numbers of the place of the leaf begun
 unfoldable pub leafPlace : Laying → List ℕ

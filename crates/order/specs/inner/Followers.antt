@@ -10,7 +10,7 @@ use Rattle.laws.specs.Lists.{among}
 use Rattle.laws.specs.Tables.{values}
 use Rattle.order.specs.Grammar.{Shape, Begins}
 use Rattle.order.specs.Contexts.{grammar}
-use Rattle.order.specs.Place.{rowsTold, rowsAfter, someLeft, start}
+use Rattle.order.specs.inner.Place.{rowsTold, rowsAfter, someLeft, start}
 
 -- some order begun in context c has x, any number of C, and then k
 abbrev pub Follows : ℕ → ℕ → ℕ → Type 0

@@ -8,19 +8,19 @@ use lib.Seq.{sets}
 use Rattle.laws.specs.Every.{All}
 use Rattle.form.specs.declared.limits.Limits.{Limits}
 use Rattle.form.specs.declared.separators.Separators.{Separators}
-use Rattle.line.specs.Left.{LeftAt}
+use Rattle.line.specs.inner.Left.{LeftAt}
 use Rattle.line.specs.Finding.{lowRun}
-use Rattle.order.specs.Levels.{levelIn}
-use Rattle.order.specs.Owning.{noRows, owned, knownAfter, Owned}
+use Rattle.order.specs.inner.Levels.{levelIn}
+use Rattle.order.specs.inner.Owning.{noRows, owned, knownAfter, Owned}
 use Rattle.table.specs.Leaves.{messageLeaves}
 use Rattle.table.specs.Rows.{segmentRowSize, leafRowSize, segmentRow, segmentRowsOf, kindsOf, allLeaves}
-use Rattle.table.specs.Filed.{Filed}
-use Rattle.table.specs.OnePass.{headerPass, passOver}
+use Rattle.table.specs.inner.Filed.{Filed}
+use Rattle.table.specs.inner.OnePass.{headerPass, passOver}
 use Rattle.read.specs.declared.fill.Filling.{Filling}
 use Rattle.read.specs.declared.fill.Line.{Line}
-use Rattle.read.specs.Scanning.{run}
-use Rattle.read.specs.Laying.{rowOf, nextSegment, PlaceCounted, RowFits, Held, LaidBy}
-use Rattle.read.specs.Filling.{Prepared}
+use Rattle.read.specs.inner.Scanning.{run}
+use Rattle.read.specs.inner.Laying.{rowOf, nextSegment, PlaceCounted, RowFits, Held, LaidBy}
+use Rattle.read.specs.inner.Filling.{Prepared}
 
 -- the kind that is noted of the segment begun
 abbrev pub kindNoted : List ℕ → Filling → ℕ

@@ -13,15 +13,15 @@ use Rattle.form.specs.Header.{headerOf}
 use Rattle.form.specs.Limits.{Lawful}
 use Rattle.line.specs.Lines.{walk, texts, faultNumber, faultPlace}
 use Rattle.line.specs.Joining.{joined}
-use Rattle.order.specs.Followers.{followers}
-use Rattle.order.specs.Place.{misplaced}
+use Rattle.order.specs.inner.Followers.{followers}
+use Rattle.order.specs.inner.Place.{misplaced}
 use Rattle.table.specs.Rows.{kindsOf, contextIn, allLeaves}
 use Rattle.table.specs.Reading.{firstUnknown}
 use Rattle.read.specs.declared.survey.Survey.{Survey}
 use Rattle.read.specs.declared.survey.Surveyed.{Surveyed}
 use Rattle.read.specs.declared.survey.Surveyed.the-variants.{Whole, Fault}
-use Rattle.table.specs.Classes.{classTable}
-use Rattle.read.specs.Noting.{Noted}
+use Rattle.table.specs.inner.Classes.{classTable}
+use Rattle.read.specs.inner.Noting.{Noted}
 
 -- what the first pass may count on
 pub record Ready (L : Limits) (ps : Separators) (class followerTable message : List ℕ) : Type 0 where

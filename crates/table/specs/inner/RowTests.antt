@@ -10,8 +10,8 @@ use Rattle.line.specs.Lines.{space}
 use Rattle.order.specs.Owners.{owner}
 use Rattle.table.specs.Leaves.{Leaf}
 use Rattle.table.specs.Rows.{Next, noneBefore, nextAfter, rowNext, startIn, lengthIn}
-use Rattle.table.specs.Flat.{ones}
-use Rattle.table.specs.BySegment.{kindAmong}
+use Rattle.table.specs.inner.Flat.{ones}
+use Rattle.table.specs.inner.BySegment.{kindAmong}
 
 -- whether one place comes next after another: some number is one more, the coarser are the same and the finer are 1
 unfoldable pub nextPlace : List ℕ → List ℕ → Bool

@@ -8,18 +8,18 @@ use mathlib.Core.Path.{_≡_}
 use Prim.Native.Nat.{ℕ, _≤_}
 use lib.ListN.{length, drop}
 use Rattle.laws.specs.Every.{All}
-use Rattle.laws.specs.Sums.{sumOf}
+use Rattle.laws.specs.inner.Sums.{sumOf}
 use Rattle.form.specs.declared.limits.Limits.{Limits}
 use Rattle.form.specs.Header.{allAllowed, different, five, splitting}
 use Rattle.line.specs.Lines.{CR, space}
-use Rattle.order.specs.Place.{misplaced}
+use Rattle.order.specs.inner.Place.{misplaced}
 use Rattle.order.specs.Owners.{owners}
 use Rattle.table.specs.Leaves.{Leaf}
-use Rattle.table.specs.Flat.{leaf}
+use Rattle.table.specs.inner.Flat.{leaf}
 use Rattle.table.specs.Rows.{Table, segmentRowsOf, leafRowsFrom, textOf}
 use Rattle.table.specs.Back.{leafAt, leavesOf, separatorsIn}
-use Rattle.table.specs.Sound.{Sound}
-use Rattle.table.specs.BySegment.{bySegment, kindAmong, contextAmong, writtenBytes}
+use Rattle.table.specs.inner.Sound.{Sound}
+use Rattle.table.specs.inner.BySegment.{bySegment, kindAmong, contextAmong, writtenBytes}
 
 -- the leaves of each segment of a table, and the segments' kinds
 unfoldable pub groupsOf : Table → List (List Leaf)

@@ -9,8 +9,8 @@ use Rattle.form.specs.declared.limits.Limits.{Limits}
 use Rattle.form.specs.Header.{splitting}
 use Rattle.table.specs.Rows.{Table, segmentRowSize, leafRowSize}
 use Rattle.table.specs.Back.{leavesOf, separatorsIn}
-use Rattle.table.specs.RowTests.{endToEnd, goOnFrom, statedRows}
-use Rattle.write.specs.Local.{HeaderRows, KindRows, FewRows, groupsOf, thirdPlace}
+use Rattle.table.specs.inner.RowTests.{endToEnd, goOnFrom, statedRows}
+use Rattle.write.specs.inner.Local.{HeaderRows, KindRows, FewRows, groupsOf, thirdPlace}
 
 -- a table whose lists have the entries that its card counts, as those of a lent table within its buffers do
 pub record Sized (t : Table) : Type 0 where

@@ -7,7 +7,7 @@ use lib.ListN.{take, getD}
 use Rattle.laws.specs.Every.{All}
 use Rattle.form.specs.declared.separators.Separators.{Separators}
 use Rattle.line.specs.Lines.{CR}
-use Rattle.table.specs.Flat.{Without}
+use Rattle.table.specs.inner.Flat.{Without}
 
 -- "Byte 0 is `H`. Bytes 1 to 5 are the separators: field, subfield, repeater, escape, sub-subfield. Byte 6 is the field separator again."
 unfoldable pub headerBytes : Separators → List ℕ
