@@ -12,7 +12,7 @@ use Rattle.table.specs.declared.Card.{Card}
 use Rattle.table.specs.Lent.{Lent, lent}
 use Rattle.write.specs.declared.Written.{Written}
 use Rattle.write.specs.Writing.{Writing, refuses, writing}
-use Rattle.write.specs.Answer.{answer, outputAfter}
+use Rattle.write.specs.Answer.{answer, outputAfter, WroteAs}
 use Rattle.abi.specs.Putting.{putAll}
 use Rattle.abi.specs.Writing.{writeOutcome, writeNumbers, TellsWriting, WroteInto}
 use Rattle.abi.proofs.Puts.{put-short}
@@ -35,18 +35,17 @@ module _ (table : Lent) (output numbers : List ℕ) where
 -- the card that was written by is the one that came in
 module _ {card : Card} (taken : Card) (same : taken ≡ card) (segments leaves text output numbers : List ℕ) where
   pub write-whole : 3 ≤ length numbers → {r : Written} {output′ numbers′ : List ℕ}
-      → r ≡ answer (writing form level (lent taken segments leaves text) (length output))
-      → output′ ≡ outputAfter output (writing form level (lent taken segments leaves text) (length output))
+      → WroteAs form level (lent taken segments leaves text) output r output′
       → numbers′ ≡ putAll numbers (r .place ∷ r .bytes ∷ r .lines ∷ [])
       → WroteInto (lent card segments leaves text) output numbers (r .number) output′ numbers′
   unfolding writeNumbers
-  write-whole h {r} {output′} {numbers′} answers written stored =
+  write-whole h {r} {output′} {numbers′} wrote stored =
       let came : writing form level (lent taken segments leaves text) (length output) ≡ writeOutcome (lent card segments leaves text) output numbers =
       ap (λ (c : Card). writing form level (lent c segments leaves text) (length output)) same
       ∙ sym (write-whole-outcome (lent card segments leaves text) output numbers h) in
-      let told = answers ∙ ap answer came in
+      let told = wrote .answers ∙ ap answer came in
       record {
         number = ap (λ (w : Written). w .number) told;
         answers = stored ∙ ap (λ (w : Written). putAll numbers (w .place ∷ w .bytes ∷ w .lines ∷ [])) told;
-        message = written ∙ ap (outputAfter output) came;
+        message = wrote .message ∙ ap (outputAfter output) came;
       }

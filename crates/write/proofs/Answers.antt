@@ -17,7 +17,7 @@ use Rattle.write.specs.declared.lines.Going.{Going}
 use Rattle.table.specs.Lent.{Lent, counted, lent}
 use Rattle.write.specs.Writing.{writes, isTable, writing}
 use Rattle.write.specs.inner.Passing.{Writable, WrittenOut}
-use Rattle.write.specs.Answer.{answer, outputAfter}
+use Rattle.write.specs.Answer.{answer, outputAfter, GivesWriting}
 use Rattle.write.specs.inner.Message.{messageWritten, Tested}
 use Rattle.write.proofs.LentTables.{table-written-out}
 use Rattle.write.proofs.TablesWritten.{table-four, table-writable, table-message}
@@ -43,15 +43,15 @@ module _ {L : Limits} {card : Card} {rows text : List ℕ} (lawful : Lawful L) (
     tested-writable = table-writable L lawful (w .levels) (lent card (w .segmentRows) rows text) (w .passed) e
 
     pub tested-answer : {output output′ : List ℕ} {r : Going} → WrittenOut L ps rows (card .leaves) text output r output′
-        → (_≡_ {A = Written} (record { number = 0; place = 0; bytes = r .out; lines = r .lines }) (answer (messageWritten L card rows text)))
-        × (output′ ≡ outputAfter output (messageWritten L card rows text))
+        → GivesWriting (messageWritten L card rows text) output (record { number = 0; place = 0; bytes = r .out; lines = r .lines }) output′
     unfolding answer outputAfter
     tested-answer {output} v =
         let m = table-message L lawful (w .levels) (lent card (w .segmentRows) rows text) (w .passed) e v in
-        let same = message-by-leaves L card (w .segmentRows) rows text in (
-          ap₂ (λ (bytes lines : ℕ). record { number = 0; place = 0; bytes = bytes; lines = lines }) (m .1) (m .2) ∙ ap answer same,
-          m .0 ∙ ap (outputAfter output) same,
-        )
+        let same = message-by-leaves L card (w .segmentRows) rows text in
+        record {
+          answers = ap₂ (λ (bytes lines : ℕ). record { number = 0; place = 0; bytes = bytes; lines = lines }) (m .1) (m .2) ∙ ap answer same;
+          message = m .0 ∙ ap (outputAfter output) same;
+        }
 
 -- the answer of writing a lent table, by cases: each return of `write` is one of these
 module _ (L : Limits) (lawful : Lawful L) (levels : ℕ → ℕ → ℕ) (l : Lent) (output : ℕ) where

@@ -1,6 +1,7 @@
 -- What comes back from writing (document 01, "Numbers that come back"): number, place, bytes and lines, and what the output holds then.
 -- Assumes nothing.
 use mathlib.Core.List.{List}
+use mathlib.Core.Path.{_≡_}
 use Prim.Native.Nat.{ℕ}
 use lib.ListN.{length}
 use lib.Seq.{sets}
@@ -18,6 +19,15 @@ answer (writes bytes lines) = record { number = 0; place = 0; bytes = length byt
 unfoldable pub outputAfter : List ℕ → Writing → List ℕ
 outputAfter output (refuses number) = output
 outputAfter output (writes bytes lines) = sets output 0 bytes
+
+-- an outcome of writing, answered and put into the output
+pub record GivesWriting (w : Writing) (output : List ℕ) (r : Written) (output′ : List ℕ) : Type 0 where
+  pub answers : r ≡ answer w
+  pub message : output′ ≡ outputAfter output w
+
+-- the contract of the writer: what comes back and the output are those of the outcome that the rules give (N1 to N3, W1 to W4)
+abbrev pub WroteAs : Limits → (ℕ → ℕ → ℕ) → Lent → (output : List ℕ) → Written → (output′ : List ℕ) → Type 0
+WroteAs L levels table output r output′ = GivesWriting (writing L levels table (length output)) output r output′
 
 -- the bytes that are written for a lent table into an output of the stated size; 0 where it is refused
 unfoldable pub writtenSize : Limits → (ℕ → ℕ → ℕ) → Lent → ℕ

@@ -4,12 +4,11 @@ use form::number::Number;
 use table::Card;
 use table::rows::Entry;
 ghost use mathlib.Core.Path.{_≡_};
-ghost use lib.ListN.{length};
 ghost use Rattle.form.specs.Limits.{form};
 ghost use Rattle.order.specs.Owners.{level};
 ghost use Rattle.table.specs.Lent.{lent};
-ghost use Rattle.write.specs.Writing.{refuses, writing};
-ghost use Rattle.write.specs.Answer.{answer, outputAfter};
+ghost use Rattle.write.specs.Writing.{refuses};
+ghost use Rattle.write.specs.Answer.{answer, WroteAs};
 
 mod leaf_rows;
 mod leaves;
@@ -36,8 +35,7 @@ pub fn write(
     text: &[u8],
     output: &mut [u8],
 ) -> Written
-    ensures { λ r. ⌜ (r ≡ answer (writing form level (lent card (now (segments .entry)) (now (leaves .entry)) (now (text .entry))) (length (now (output .entry)))))
-        × (now (output .exit) ≡ outputAfter (now (output .entry)) (writing form level (lent card (now (segments .entry)) (now (leaves .entry)) (now (text .entry))) (length (now (output .entry))))) ⌝ }
+    ensures { λ r. ⌜ WroteAs form level (lent card (now (segments .entry)) (now (leaves .entry)) (now (text .entry))) (now (output .entry)) r (now (output .exit)) ⌝ }
 {
     if output.len() < Form::BYTES {
         return refusal(Number::SHORT_OUTPUT);

@@ -5,8 +5,7 @@ use crate::leaves::put_leaves;
 use form::limits::Limits;
 use table::Card;
 use table::rows::Entry;
-ghost use mathlib.Core.Path.{_≡_};
-ghost use Rattle.write.specs.Answer.{answer, outputAfter};
+ghost use Rattle.write.specs.Answer.{GivesWriting};
 ghost use Rattle.write.specs.inner.Message.{messageWritten};
 ghost use Rattle.write.specs.inner.Asked.{MessageFits};
 
@@ -19,8 +18,7 @@ pub(crate) fn write_message(
     output: &mut [u8],
 ) -> Written
     requires { ⌜ MessageFits limits card (now leaves) (now text) (now output) ⌝ }
-    ensures { λ r. ⌜ (r ≡ answer (messageWritten limits card (now (leaves .entry)) (now (text .entry))))
-        × (now (output .exit) ≡ outputAfter (now (output .entry)) (messageWritten limits card (now (leaves .entry)) (now (text .entry)))) ⌝ }
+    ensures { λ r. ⌜ GivesWriting (messageWritten limits card (now (leaves .entry)) (now (text .entry))) (now (output .entry)) r (now (output .exit)) ⌝ }
 {
     let separators = separators_at(card.separator, leaves, text);
     let going = put_leaves(limits, separators, leaves, card.leaves, text, output);

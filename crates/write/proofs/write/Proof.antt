@@ -42,7 +42,7 @@ unfolding outputAfter
 returns c =
     let start = c .before .before .before .before .before .before in
     let refused = short-refused form form-lawful level (table start) (room start) (lt-ltb (room start) (form .bytes) (c .before .if1 .taken)) in
-    (c .refusal .ensures ∙ ap answer (sym refused), sym (ap (outputAfter (start .args .output .now)) refused))
+    record { answers = c .refusal .ensures ∙ ap answer (sym refused); message = sym (ap (outputAfter (start .args .output .now)) refused) }
 
 write-message-requires : tie.Need-write-message-requires
 write-message-requires c κs =
@@ -66,7 +66,8 @@ returns-2 c =
     let a = start .args in
     let wrote = writing-message form form-lawful level (table start) (room start) (long (here .before .before)) (sym (here .before .is-table .ensures) ∙ here .if2 .taken) in
     let same = ap (λ (L : Limits). messageWritten L (a .card) (a .leaves .now) (a .text .now)) (made .limits .ensures) ∙ sym wrote in
-    (put .write-message .ensures .0 ∙ ap answer same, put .write-message .ensures .1 ∙ ap (outputAfter (a .output .now)) same)
+    let put-here = put .write-message .ensures in
+    record { answers = put-here .answers ∙ ap answer same; message = put-here .message ∙ ap (outputAfter (a .output .now)) same }
 
 returns-3 : tie.Need-returns-3
 unfolding outputAfter
@@ -74,7 +75,7 @@ returns-3 c =
     let none = c .before in
     let start = start-1 (none .before .before) in
     let refused = no-table-refused form form-lawful level (table start) (room start) (long (none .before .before)) (sym (none .before .is-table .ensures) ∙ none .if2 .left) in
-    (c .refusal2 .ensures ∙ ap answer (sym refused), sym (ap (outputAfter (start .args .output .now)) refused))
+    record { answers = c .refusal2 .ensures ∙ ap answer (sym refused); message = sym (ap (outputAfter (start .args .output .now)) refused) }
 
 pub write-spec : {M : Type 1} → statement M
 write-spec =

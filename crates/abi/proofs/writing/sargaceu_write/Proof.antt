@@ -38,7 +38,7 @@ returns-2 c =
     let roomy = taken .before in
     let a = roomy .before .before .before .before .before .before .before .args in
     write-whole (taken .card-of .result) (taken .card-of .ensures) (a .segments .now) (a .leaves .now) (a .text .now) (a .output .now)
-    (a .answer .now) (roomy .if1 .left) (wrote .write .ensures .0) (wrote .write .ensures .1) (put .put-numbers .ensures)
+    (a .answer .now) (roomy .if1 .left) (wrote .write .ensures) (put .put-numbers .ensures)
 
 pub sargaceu-write-spec : {M : Type 1} → statement M
 sargaceu-write-spec =
