@@ -31,3 +31,4 @@ pub mod Sizes
 pub mod TableTest
 pub mod LentTest
 pub mod ShutOut
+pub mod Contract
