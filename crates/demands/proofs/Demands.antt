@@ -24,16 +24,16 @@ use Rattle.order.specs.inner.Telling.{tellOf}
 use Rattle.order.proofs.OneTree.{one-derivation}
 use Rattle.order.proofs.Watched.{yes-exactly}
 use Rattle.table.specs.Lent.{Lent, withinBuffers, counted}
-use Rattle.table.specs.Rows.{Table, kindsOf, contextIn}
+use Rattle.table.specs.Rows.{Table, kindsOf, contextIn, RowOf}
 use Rattle.table.specs.Reading.{Room, Outcome, accepted, reading, stated}
 use Rattle.table.specs.Back.{linesOf, written}
 use Rattle.read.specs.declared.Answer.{Answer}
 use Rattle.read.specs.Answering.{ReadAs, noCard, roomOf}
 use Rattle.read.specs.Sound.{segmentsIn}
 use Rattle.read.specs.Sound.{SoundLines, SoundMessage}
+use Rattle.read.specs.Acceptance.{Read}
 use Rattle.read.proofs.OnlyOne.{only-one, refused-unchanged}
-use Rattle.read.proofs.Acceptance.{accepted-exactly, Read, accepted-read}
-use Rattle.table.proofs.SegmentColumns.{RowOf}
+use Rattle.read.proofs.Acceptance.{accepted-exactly, accepted-read}
 use Rattle.read.proofs.OwnersColumn.{owners-column}
 use Rattle.read.proofs.CutAnyhow.{same-joined}
 use Rattle.write.specs.Writing.{ReadTo, Writing, refuses, writes, writing}

@@ -30,8 +30,8 @@ use Rattle.table.specs.Reading.{Room, Outcome, refused, accepted, refuseIf, sho
 use Rattle.table.proofs.Accepting.{Known, Judged, judged-accepted, Accepted, accepting, refuse-passed}
 use Rattle.read.specs.declared.Answer.{Answer}
 use Rattle.read.specs.Answering.{answerOf, roomOf, Gives, ReadAs}
-use Rattle.read.specs.Sound.{segmentsIn}
-use Rattle.read.specs.Sound.{SoundLines, SoundMessage}
+use Rattle.read.specs.Sound.{segmentsIn, SoundLines, SoundMessage}
+use Rattle.read.specs.Acceptance.{Read}
 use Rattle.read.proofs.Deciding.{message-judged}
 use Rattle.read.proofs.OnlyOne.{Numbered, reading-numbered}
 
@@ -157,12 +157,6 @@ module _ (L : Limits) (levels : ℕ → ℕ → ℕ) (message : List ℕ) (ps : 
         λ e. let w = read .0 e in judges .0 (w .0, sym same ∙ w .1),
         λ d. let w = judges .1 d in read .1 (w .0, same ∙ w .1),
       )
-
--- what an accepted call says: the message passed every test, and its table is given
-pub record Read (L : Limits) (levels : ℕ → ℕ → ℕ) (message : List ℕ) (ps : Separators) (text segments leaves : List ℕ) (r : Answer) (text′ segments′ leaves′ : List ℕ) : Type 0 where
-  pub sound : SoundMessage L (roomOf text segments leaves) message ps
-  pub derived : Derives (grammar (contextIn ps (segmentsIn L ps message))) (kindsOf ps (segmentsIn L ps message))
-  pub given : Gives (accepted (tableOf levels ps (segmentsIn L ps message))) text segments leaves r text′ segments′ leaves′
 
 -- the separators of an accepted message are those of its header
 same-separators : {L : Limits} {levels : ℕ → ℕ → ℕ} {room : Room} {message : List ℕ} {t : Table} {ps : Separators}

@@ -10,9 +10,9 @@ use Rattle.form.specs.declared.limits.Limits.{Limits}
 use Rattle.form.specs.declared.separators.Separators.{Separators}
 use Rattle.form.specs.declared.separators.Header.the-variants.{Sound}
 use Rattle.form.specs.Header.{headerOf}
-use Rattle.table.specs.Rows.{tableOf}
+use Rattle.table.specs.Rows.{tableOf, RowOf}
 use Rattle.table.proofs.Room.{roomy-segments}
-use Rattle.table.proofs.SegmentColumns.{RowOf, table-rows, length-table-rows, front-row}
+use Rattle.table.proofs.SegmentColumns.{table-rows, length-table-rows, front-row}
 use Rattle.read.specs.declared.Answer.{Answer}
 use Rattle.read.specs.Answering.{answerOf, segmentsPut, roomOf, ReadAs}
 use Rattle.read.specs.Sound.{segmentsIn}

@@ -1,3 +1,4 @@
 pub mod Answering
 pub mod Sound
+pub mod Acceptance
 pub mod inner

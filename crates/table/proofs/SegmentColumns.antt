@@ -13,7 +13,7 @@ use Rattle.form.specs.declared.separators.Separators.{Separators}
 use Rattle.order.specs.Owners.{owner, owners}
 use Rattle.order.proofs.Owner.{owners-at, length-owners}
 use Rattle.table.specs.Leaves.{Leaf, kindOfSegment, messageLeaves}
-use Rattle.table.specs.Rows.{segmentRowSize, Next, noneBefore, nextAfter, rowNext, segmentRowsFrom, RowIs, kindsOf, contextIn, tableOf}
+use Rattle.table.specs.Rows.{segmentRowSize, Next, noneBefore, nextAfter, rowNext, segmentRowsFrom, RowIs, kindsOf, contextIn, tableOf, RowOf}
 use Rattle.table.proofs.RowsGrowing.{length-kinds, length-messageLeaves, length-segmentRows}
 use Rattle.table.proofs.Room.{front-at}
 
@@ -47,22 +47,6 @@ rows-at n (k ∷ ks) (o ∷ os) (l ∷ ls) (suc i) eo el h =
           ∙ omega (arith, length-append l (concat (take i ls)));
       count-is = past (suc i * segmentRowSize + 3) (i * segmentRowSize + 3) (omega arith) ∙ w .count-is;
     }
-
--- the owner of segment i: document 01's, by the kinds before it, the nearest first
-abbrev pub ownerOfSegment : (ℕ → ℕ → ℕ) → Separators → List (List ℕ) → ℕ → ℕ
-ownerOfSegment levels ps segs i = owner (levels (contextIn ps segs)) (reverse (take i (kindsOf ps segs))) (kindOfSegment ps (getD segs i []))
-
--- the first leaf of segment i, counted from 1: one more than the leaves of the segments before it; and how many leaves it has
-abbrev pub firstLeafOf : Separators → List (List ℕ) → ℕ → ℕ
-firstLeafOf ps segs i = 1 + length (concat (take i (messageLeaves ps segs)))
-
-abbrev pub leafCountOf : Separators → List (List ℕ) → ℕ → ℕ
-leafCountOf ps segs i = length (getD (messageLeaves ps segs) i [])
-
--- row i of rows is that of segment i
-abbrev pub RowOf : (ℕ → ℕ → ℕ) → Separators → List (List ℕ) → List ℕ → ℕ → Type 0
-RowOf levels ps segs rows i =
-    RowIs rows i (kindOfSegment ps (getD segs i [])) (ownerOfSegment levels ps segs i) (firstLeafOf ps segs i) (leafCountOf ps segs i)
 
 module _ (levels : ℕ → ℕ → ℕ) (ps : Separators) (segs : List (List ℕ)) where
   owners-count : length (owners (levels (contextIn ps segs)) (kindsOf ps segs)) ≡ length (kindsOf ps segs)

@@ -1,12 +1,12 @@
 -- Segment rows, leaf rows, text and card (document 01, "Segments, leaves and the table").
 -- Assumes nothing.
-use mathlib.Core.List.{List, [], _∷_, _++_, map}
+use mathlib.Core.List.{List, [], _∷_, _++_, map, reverse}
 use mathlib.Core.Path.{_≡_}
 use Prim.Native.Nat.{ℕ, _+_, _*_}
 use lib.ListN.{length, take, drop, getD}
 use Rattle.laws.specs.Lists.{concat}
 use Rattle.form.specs.declared.separators.Separators.{Separators}
-use Rattle.order.specs.Owners.{owners}
+use Rattle.order.specs.Owners.{owner, owners}
 use Rattle.table.specs.declared.Card.{Card}
 use Rattle.table.specs.Leaves.{Leaf, kindOfSegment, contextOfHeader, messageLeaves}
 
@@ -133,3 +133,19 @@ tableOf levels ps segments =
       leafRows = leafRowsFrom 0 (allLeaves ps segments);
       text = textOf (allLeaves ps segments);
     }
+
+-- the owner of segment i (O2, O3), by the kinds before it, the nearest first
+abbrev pub ownerOfSegment : (ℕ → ℕ → ℕ) → Separators → List (List ℕ) → ℕ → ℕ
+ownerOfSegment levels ps segs i = owner (levels (contextIn ps segs)) (reverse (take i (kindsOf ps segs))) (kindOfSegment ps (getD segs i []))
+
+-- the number of its first leaf, one more than the leaves of the segments before it, and how many leaves it has
+abbrev pub firstLeafOf : Separators → List (List ℕ) → ℕ → ℕ
+firstLeafOf ps segs i = 1 + length (concat (take i (messageLeaves ps segs)))
+
+abbrev pub leafCountOf : Separators → List (List ℕ) → ℕ → ℕ
+leafCountOf ps segs i = length (getD (messageLeaves ps segs) i [])
+
+-- row i of rows is that of segment i (T2), both counted from 0
+abbrev pub RowOf : (ℕ → ℕ → ℕ) → Separators → List (List ℕ) → List ℕ → ℕ → Type 0
+RowOf levels ps segs rows i =
+    RowIs rows i (kindOfSegment ps (getD segs i [])) (ownerOfSegment levels ps segs i) (firstLeafOf ps segs i) (leafCountOf ps segs i)
