@@ -2,33 +2,45 @@
 -- no message reads to the lent table, and a refusal leaves the output; what is written reads to the table, in the fewest bytes and lines.
 -- Assumes nothing.
 use mathlib.Core.Bool.{true, false, true≢false}
-use mathlib.Core.List.{List}
+use mathlib.Core.List.{List, _++_}
 use mathlib.Core.Logic.{_↔_}
-use mathlib.Core.Path.{_≡_, sym, ap, _∙_, subst⁻¹}
-use Prim.Native.Nat.{ℕ, _≤_, _<_}
+use mathlib.Core.Path.{_≡_, sym, ap, ap₂, _∙_, subst⁻¹}
+use Prim.Native.Nat.{ℕ, _+_, _≤_, _<_}
 use native.Mathlib.Omega.{arith}
 use lib.Dec.{ltb}
 use lib.ListN.{length, take, drop, length-take}
-use lib.Seq.{sets}
+use lib.Seq.{sets, sets-eq, take-append-seam, drop-append-seam}
 use borrow.Author.Tests.{ltb-true, ltb-false}
 use Rattle.laws.specs.Every.{All}
+use Rattle.laws.proofs.Every.{all-from}
 use Rattle.laws.proofs.Tests.{Tested, passed, failed, tested}
 use Rattle.form.specs.declared.limits.Limits.{Limits}
 use Rattle.form.specs.Limits.{Lawful}
 use Rattle.form.specs.Numbers.{shortOutput, noTable}
 use Rattle.line.specs.Lines.{walk, texts}
+use Rattle.line.proofs.Walking.{texts-sound}
 use Rattle.table.specs.Lent.{Lent, withinBuffers, counted}
 use Rattle.table.specs.Reading.{accepted, reading, stated}
 use Rattle.table.specs.Back.{linesOf, written}
 use Rattle.write.specs.declared.Written.{Written}
-use Rattle.write.specs.Writing.{ReadTo, Writing, refuses, writes, isTable, writing}
+use Rattle.write.specs.Writing.{ReadTo, refuses, writes, isTable, writing}
 use Rattle.write.specs.Answer.{answer, outputAfter, WroteAs}
 use Rattle.write.specs.Wrote.{WroteTable}
-use Rattle.write.specs.inner.RowByRow.{Sized}
 use Rattle.write.proofs.Fewest.{least-bytes, least-lines}
-use Rattle.write.proofs.LentTables.{Within, within-buffers, is-table, short-refused, no-table-refused, table-written-out, writes-back}
+use Rattle.write.proofs.LentTables.{within-buffers, is-table, short-refused, no-table-refused, table-written-out, writes-back}
 use Rattle.write.proofs.RoundTrip.{reads-back}
 use Rattle.write.proofs.RowByRow.{row-by-row}
+
+-- what is stored at the front of a list that has room for it, and what is left behind it
+stored-front : (l s : List ℕ) → length s ≤ length l → sets l 0 s ≡ s ++ drop (length s) l
+stored-front l s h =
+    let size : 0 + length s ≡ length s = omega arith in
+    sets-eq s l 0 (omega (arith, h)) ∙ ap (λ (n : ℕ). s ++ drop n l) size
+
+-- no line that a walk gives is too long
+walked-short : (L : Limits) → Lawful L → (s : List ℕ) → All (λ (t : List ℕ). length t ≤ L .line) (texts (walk L s))
+unfolding walk
+walked-short L lawful s = all-from (λ t line. line .short) (texts-sound L (omega (arith, lawful .header)) 0 s)
 
 module _ (L : Limits) (lawful : Lawful L) (levels : ℕ → ℕ → ℕ) (table : Lent) where
   -- entries that some message reads to are as many as the card counts, so the counts lie within the buffers
@@ -129,3 +141,49 @@ module _ (L : Limits) (lawful : Lawful L) (levels : ℕ → ℕ → ℕ) (table 
         by (short g e) = refusal-as-it-was e
         by (none g o e) = refusal-as-it-was e
         by (whole g o e) = absurd (h (written-number e))
+
+    -- what an accepted call says
+    front-written : L .bytes ≤ length output → ReadTo L levels (counted table)
+        → writing L levels table (length output) ≡ writes (written L (counted table)) (length (linesOf L (counted table)))
+        → WroteTable L levels table output r output′
+    unfolding answer outputAfter
+    front-written room to e =
+        let bytes = written L (counted table) in
+        let w = writes-back L lawful levels table (length output) bytes (length (linesOf L (counted table))) e in
+        let told : r ≡ answer (writes bytes (length (linesOf L (counted table)))) = wrote .answers ∙ ap answer e in
+        let size : r .bytes ≡ length bytes = ap (λ (a : Written). a .bytes) told in
+        let stored : output′ ≡ bytes ++ drop (length bytes) output =
+        wrote .message ∙ ap (outputAfter output) e ∙ stored-front output bytes (omega (arith, w .fits, room)) in
+        let front : take (r .bytes) output′ ≡ bytes = ap₂ take size stored ∙ take-append-seam bytes (drop (length bytes) output) in
+        record {
+          reads = ap (reading L levels (stated L)) front ∙ w .reads;
+          lines = ap (λ (a : Written). a .lines) told ∙ w .walked ∙ sym (ap (λ (s : List ℕ). length (texts (walk L s))) front);
+          short =
+              subst⁻¹ (λ (s : List ℕ). All (λ (t : List ℕ). length t ≤ L .line) (texts (walk L s))) front (walked-short L lawful bytes);
+          rest = ap₂ drop size stored ∙ drop-append-seam bytes (drop (length bytes) output) ∙ sym (ap (λ (n : ℕ). drop n output) size);
+        }
+
+    pub wrote-table : r .number ≡ 0 → WroteTable L levels table output r output′
+    wrote-table n = by (outcome (length output))
+      where
+        by : Outcome (length output) → WroteTable L levels table output r output′
+        by (short h e) = absurd (omega (arith, n, refused-number e))
+        by (none h g e) = absurd (omega (arith, n, refused-number e))
+        by (whole h to e) = front-written h to e
+
+    -- no message that reads to the table has fewer bytes, or fewer lines
+    pub fewest : r .number ≡ 0 → (message : List ℕ) → reading L levels (stated L) message ≡ accepted (counted table)
+        → (r .bytes ≤ length message) × (r .lines ≤ length (texts (walk L message)))
+    unfolding answer
+    fewest n message read = by (outcome (length output))
+      where
+        by : Outcome (length output) → (r .bytes ≤ length message) × (r .lines ≤ length (texts (walk L message)))
+        by (short h e) = absurd (omega (arith, n, refused-number e))
+        by (none h g e) = absurd (omega (arith, n, refused-number e))
+        by (whole h to e) =
+            let told = wrote .answers ∙ ap answer e in
+            let bytes : r .bytes ≡ length (written L (counted table)) = ap (λ (a : Written). a .bytes) told in
+            let lines : r .lines ≡ length (linesOf L (counted table)) = ap (λ (a : Written). a .lines) told in (
+              omega (arith, bytes, least-bytes L lawful levels (stated L) message (counted table) read),
+              omega (arith, lines, least-lines L lawful levels (stated L) message (counted table) read),
+            )
