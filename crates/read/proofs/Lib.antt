@@ -23,3 +23,4 @@ pub mod OwnersColumn
 pub mod CutLines
 pub mod CutAnyhow
 pub mod ShutOut
+pub mod Contract
