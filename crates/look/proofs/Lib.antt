@@ -5,3 +5,4 @@ pub mod Orders
 pub mod Entries
 pub mod ShutOut
 pub mod OnlyOne
+pub mod FirstMatch

@@ -1,2 +1,3 @@
 pub mod Looking
+pub mod Matches
 pub mod inner
