@@ -6,7 +6,7 @@ pub const MESSAGE: usize = 16384;
 /// The numbers of a segment row: kind, owner, first leaf, leaf count.
 pub const SEGMENT_ROW: usize = 4;
 
-/// The numbers of a leaf row: segment, field, repetition, subfield, sub-subfield, start, length.
+/// The numbers of a leaf row: the five of its place, then where its text starts and how long it is.
 pub const LEAF_ROW: usize = 7;
 
 /// The least bytes of a text area.

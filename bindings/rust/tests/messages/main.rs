@@ -1,5 +1,6 @@
 //! The calls that a results store makes, on small messages and on the sample report. What the tests count is counted from the message.
 
+mod any;
 mod leaves;
 mod names;
 mod orders;

@@ -16,11 +16,11 @@ fn a_message_is_filed() {
     let mut buffers = Buffers::new();
     let table = buffers.read(SMALL).unwrap();
     let card = Card {
-        separator: b'|',
-        context: Context::ORU,
         segments: 5,
         leaves: 24,
         text: 41,
+        separator: b'|',
+        context: Context::ORU,
     };
     assert_eq!(table.card(), card);
     let rows = [
