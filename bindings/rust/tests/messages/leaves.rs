@@ -1,9 +1,5 @@
-use crate::{REPORT, SMALL};
+use crate::{row, REPORT, SMALL};
 use sargaceu::{Buffers, Kind, Row};
-
-fn row(number: usize) -> Row {
-    Row::new(number).unwrap()
-}
 
 #[test]
 fn leaves_are_found_by_their_place() {

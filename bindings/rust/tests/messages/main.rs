@@ -10,6 +10,8 @@ mod walking;
 mod watching;
 mod writing;
 
+use sargaceu::Row;
+
 /// A patient with one order and one result.
 const SMALL: &[u8] = b"H|~^\\&|||LAB||ORU\rP|1||||DUPONT~JEAN\rOBR|1\rOBX|1|NM|GLY||1.2\rL|1\r";
 
@@ -36,4 +38,9 @@ fn leaves(segment: &[u8]) -> usize {
         Some(rest) => 3 + splits(rest),
         None => 1 + splits(segment),
     }
+}
+
+/// The row of a number that one can have.
+fn row(number: usize) -> Row {
+    Row::new(number).unwrap()
 }

@@ -1,8 +1,5 @@
-use sargaceu::{Buffers, Row};
-
-fn row(number: usize) -> Row {
-    Row::new(number).unwrap()
-}
+use crate::row;
+use sargaceu::Buffers;
 
 #[test]
 fn orders_are_the_same_by_their_number() {

@@ -41,7 +41,7 @@ fn the_card_counts_what_the_message_has() {
         assert_eq!(card.segments, segments.len());
         let counted: usize = segments.iter().map(|segment| leaves(segment)).sum();
         assert_eq!(card.leaves, counted);
-        // a splitting byte between two leaves, or the end of a segment after the last; the header's first separator splits too
+        // after each leaf stands one splitting byte, or its segment ends
         let bytes: usize = segments.iter().map(|segment| segment.len() + 1).sum();
         assert_eq!(card.text, bytes - counted);
     }

@@ -1,9 +1,5 @@
-use crate::{leaves, segments, REPORT, SMALL};
+use crate::{leaves, row, segments, REPORT, SMALL};
 use sargaceu::{Buffers, Kind, Row};
-
-fn row(number: usize) -> Row {
-    Row::new(number).unwrap()
-}
 
 #[test]
 fn a_row_says_its_kind_owner_and_leaves() {
