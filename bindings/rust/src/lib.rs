@@ -1,28 +1,73 @@
 //! Sargaceu for Rust: the reader, the writer and the lookups for laboratory messages in H.PR.I.M. Santé 2.4.
 //!
-//! The work is done by a library whose every function is proved to meet its contract for all inputs; this crate only lends it slices and
-//! names what comes back. `rt staticlib abi` writes that library, for x86-64 Linux.
+//! The work is done by a library whose every function is proved to meet its contract for all inputs; this crate lends it slices and
+//! names what comes back. `./archive` in the repository's folder makes that library, for x86-64 Linux.
 //!
 //! ```
+//! use sargaceu::{Buffers, Kind, Row};
+//!
 //! let message = b"H|~^\\&|||LAB||ORU\rP|1||||DUPONT~JEAN\rOBR|1\rOBX|1|NM|GLY||1.2\rL|1\r";
-//! let mut buffers = sargaceu::Buffers::new();
+//! let mut buffers = Buffers::new();
 //! let table = buffers.read(message)?;
-//! let order = table.next_row(0, sargaceu::Kind::OBR, 2).unwrap();
-//! let result = table.next_row(order, sargaceu::Kind::OBX, order as u16).unwrap();
-//! assert_eq!(table.find_leaf(sargaceu::Place::field(result as u16, 6)), Some(&b"1.2"[..]));
+//! for patient in table.children(Row::FIRST, Kind::P) {
+//!     for order in table.children(patient, Kind::OBR) {
+//!         for result in table.children(order, Kind::OBX) {
+//!             let value = table.leaf(result.field(6)).unwrap();
+//!             assert_eq!(value.to_string(), "1.2");
+//!         }
+//!     }
+//! }
 //! # Ok::<(), sargaceu::Refusal>(())
 //! ```
+//!
+//! - A message of any bytes is read to a [`Table`], into [`Buffers`] or by [`read`] into buffers of the caller's, or is refused with one
+//!   [`Number`] and one place, a [`Refusal`].
+//! - A table has its [`Card`], its [`rows`](Table::rows) (a [`Segment`] each, by its [`Row`]) and its [`leaves`](Table::leaves).
+//!   [`children`](Table::children) finds the rows that belong to a row, [`leaf`](Table::leaf) the text at a [`Place`],
+//!   [`same_order`](Table::same_order) compares two orders.
+//! - [`write`](Table::write) and [`to_message`](Table::to_message) give a message that reads to the same table.
+//! - [`lines`] walks the lines of a file, a [`Watcher`] says which [`Kind`] may come next in a [`Context`], and [`Buffers::list`] lists a
+//!   message.
+//!
+//! No function panics, whatever it is given. Where the crate asserts something, it is what the library promises.
 
+#![deny(missing_docs)]
+
+mod answer;
+mod card;
+mod children;
+mod context;
 mod ffi;
+mod kind;
+mod leaf;
 mod lines;
+mod listing;
 mod number;
+mod order;
+mod place;
+mod reading;
+mod row;
+mod segment;
+pub mod size;
 mod table;
+mod text;
+mod unknown;
 mod watcher;
+mod writing;
 
-pub use lines::{lines, Lines};
-pub use number::{Context, Kind, Number, Refusal};
-pub use table::{
-    read, Buffers, Card, Place, Table, Written, BYTES, LEAF_ROW, LEAVES, LISTING, SEGMENTS,
-    SEGMENT_ROW,
-};
+pub use card::Card;
+pub use children::Children;
+pub use context::Context;
+pub use kind::Kind;
+pub use leaf::{Leaf, Leaves};
+pub use lines::{lines, Line, Lines};
+pub use number::{Number, Refusal};
+pub use place::Place;
+pub use reading::{read, Buffers};
+pub use row::{Entry, Row};
+pub use segment::{Rows, Segment};
+pub use table::Table;
+pub use text::latin1;
+pub use unknown::Unknown;
 pub use watcher::Watcher;
+pub use writing::Written;

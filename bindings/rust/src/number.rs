@@ -1,121 +1,155 @@
-//! The numbers that come back where a call is refused, the kinds of segments and the contexts of messages.
+//! The numbers that come back where a call is refused, and the refusal itself.
 
+use crate::unknown::Unknown;
 use std::error::Error;
 use std::fmt;
 
 /// What a call is refused for.
-#[derive(Clone, Copy, Debug, PartialEq, Eq, Hash)]
+///
+/// ```
+/// use sargaceu::Number;
+/// assert_eq!(Number::OpenLine.to_string(), "the last line is not closed");
+/// assert_eq!(Number::OpenLine as u8, 6);
+/// assert_eq!(Number::try_from(6), Ok(Number::OpenLine));
+/// ```
+#[derive(Clone, Copy, Debug, PartialEq, Eq, PartialOrd, Ord, Hash)]
+#[non_exhaustive]
 #[repr(u8)]
 pub enum Number {
+    /// A lent buffer is under its stated size.
     ShortBuffer = 1,
+    /// The message has too many bytes.
     LongMessage = 2,
+    /// The message does not begin as the header rule asks.
     BrokenHeader = 3,
+    /// A control byte inside a line; the place is its offset.
     ControlByte = 4,
+    /// A line is too long; the place is the offset of its 220th byte.
     LongLine = 5,
+    /// The last line has no CR; the place is the message's length.
     OpenLine = 6,
+    /// The message has too many segments.
     ManySegments = 7,
+    /// A kind that is none of the twelve; the place is the first such segment.
     UnknownKind = 8,
+    /// The header names none of the seven contexts.
     NoContext = 9,
+    /// A kind stands where it may not; the place is the first such segment, or one past the last where the L is missing.
     Misplaced = 10,
+    /// The message has too many leaves.
     ManyLeaves = 11,
+    /// The output lent to the writer is under its stated size.
     ShortOutput = 12,
+    /// The numbers and the text are no table.
     NoTable = 13,
 }
 
-const NUMBERS: [Number; 13] = [
-    Number::ShortBuffer,
-    Number::LongMessage,
-    Number::BrokenHeader,
-    Number::ControlByte,
-    Number::LongLine,
-    Number::OpenLine,
-    Number::ManySegments,
-    Number::UnknownKind,
-    Number::NoContext,
-    Number::Misplaced,
-    Number::ManyLeaves,
-    Number::ShortOutput,
-    Number::NoTable,
-];
+impl Number {
+    const ALL: [Number; 13] = [
+        Number::ShortBuffer,
+        Number::LongMessage,
+        Number::BrokenHeader,
+        Number::ControlByte,
+        Number::LongLine,
+        Number::OpenLine,
+        Number::ManySegments,
+        Number::UnknownKind,
+        Number::NoContext,
+        Number::Misplaced,
+        Number::ManyLeaves,
+        Number::ShortOutput,
+        Number::NoTable,
+    ];
+
+    /// What the place counts that comes with this number, or nothing where the place is always 0.
+    fn counted(self) -> Option<&'static str> {
+        match self {
+            Number::ControlByte | Number::LongLine | Number::OpenLine => Some("offset"),
+            Number::UnknownKind | Number::Misplaced => Some("segment"),
+            _ => None,
+        }
+    }
+}
 
 impl fmt::Display for Number {
     fn fmt(&self, f: &mut fmt::Formatter<'_>) -> fmt::Result {
-        f.write_str(match self {
-            Number::ShortBuffer => "a lent buffer is shorter than the stated size",
-            Number::LongMessage => "the message is over 16,384 bytes",
-            Number::BrokenHeader => "the header rule is broken, or there are under 7 bytes",
-            Number::ControlByte => "a byte below 32, not CR, inside a line",
-            Number::LongLine => "a line of over 219 bytes",
-            Number::OpenLine => "bytes left without CR",
+        f.pad(match self {
+            Number::ShortBuffer => {
+                "a lent buffer is short: the text area has under 16,384 bytes, the segment rows under 1,024 numbers \
+                 or the leaf rows under 14,336"
+            }
+            Number::LongMessage => "the message has over 16,384 bytes",
+            Number::BrokenHeader => {
+                "the message does not begin with H, five different separators and the field separator again, \
+                 or there are under seven bytes"
+            }
+            Number::ControlByte => "a control byte inside a line",
+            Number::LongLine => "a line is too long",
+            Number::OpenLine => "the last line is not closed",
             Number::ManySegments => "over 256 segments",
-            Number::UnknownKind => "an unknown kind",
-            Number::NoContext => "field 7.7 is missing or names no context",
-            Number::Misplaced => "a kind that is not allowed there, or no L at the end",
+            Number::UnknownKind => "a kind that is unknown",
+            Number::NoContext => "no context, or no field 7 in the header",
+            Number::Misplaced => {
+                "a kind stands where it may not, or the order breaks off before L"
+            }
             Number::ManyLeaves => "over 2,048 leaves",
-            Number::ShortOutput => "the output is under 16,384 bytes",
-            Number::NoTable => "no message reads to this table",
+            Number::ShortOutput => "the output lent to the writer is under 16,384 bytes",
+            Number::NoTable => "the table is one that no message reads to",
         })
     }
 }
 
-/// A refused call: its number, and the place that goes with it. The place is a byte's offset from 0 for the faults of a line (a control
-/// byte, a long line, an open line), a segment from 1 for an unknown or a misplaced kind, and else 0.
+impl TryFrom<u8> for Number {
+    type Error = Unknown;
+
+    fn try_from(number: u8) -> Result<Number, Unknown> {
+        let stated = Number::ALL.iter().find(|&&stated| stated as u8 == number);
+        stated.copied().ok_or(Unknown { what: "refusal" })
+    }
+}
+
+impl From<Number> for u8 {
+    fn from(number: Number) -> u8 {
+        number as u8
+    }
+}
+
+/// A refused call: its number and the place that goes with it. Nothing that was lent has changed.
+///
+/// ```
+/// let refusal = sargaceu::Buffers::new().read(b"H|~^\\&|||LAB||ORU\rA\rL|1\r").unwrap_err();
+/// assert_eq!(refusal.number, sargaceu::Number::UnknownKind);
+/// assert_eq!(refusal.place, 2);
+/// assert_eq!(refusal.to_string(), "a kind that is unknown, at segment 2 (refusal 8)");
+/// ```
 #[derive(Clone, Copy, Debug, PartialEq, Eq, Hash)]
 pub struct Refusal {
+    /// What the call is refused for.
     pub number: Number,
+    /// A byte's offset from 0, a segment from 1, or 0: [`Number`] says which goes with it.
     pub place: usize,
 }
 
 impl Refusal {
-    /// The refusal that a number and its place say: none where the number is 0.
-    pub(crate) fn of(number: u8, place: usize) -> Option<Refusal> {
-        let at = usize::from(number).checked_sub(1)?;
-        Some(Refusal {
-            number: NUMBERS[at],
-            place,
-        })
+    /// What the library says by a number and a place: nothing is refused where the number is 0.
+    pub(crate) fn told(number: u8, place: usize) -> Result<(), Refusal> {
+        if number == 0 {
+            return Ok(());
+        }
+        // Every contract of the library states the numbers it answers, and these are all.
+        let number = Number::try_from(number).expect("the library answers a number that it states");
+        Err(Refusal { number, place })
     }
 }
 
 impl fmt::Display for Refusal {
     fn fmt(&self, f: &mut fmt::Formatter<'_>) -> fmt::Result {
-        write!(
-            f,
-            "{} (number {}, place {})",
-            self.number, self.number as u8, self.place
-        )
+        write!(f, "{}", self.number)?;
+        if let Some(counted) = self.number.counted() {
+            write!(f, ", at {counted} {}", self.place)?;
+        }
+        write!(f, " (refusal {})", self.number as u8)
     }
 }
 
 impl Error for Refusal {}
-
-/// The kind of a segment.
-#[derive(Clone, Copy, Debug, PartialEq, Eq, Hash)]
-#[repr(u8)]
-pub enum Kind {
-    H = 1,
-    P = 2,
-    AP = 3,
-    AC = 4,
-    OBR = 5,
-    OBX = 6,
-    FAC = 7,
-    REG = 8,
-    ACT = 9,
-    ERR = 10,
-    L = 11,
-    C = 12,
-}
-
-/// The context of a message, which its field 7.7 names.
-#[derive(Clone, Copy, Debug, PartialEq, Eq, Hash)]
-#[repr(u8)]
-pub enum Context {
-    ADM = 1,
-    ORM = 2,
-    ORA = 3,
-    REG = 4,
-    ERR = 5,
-    ORU = 6,
-    FAC = 7,
-}

@@ -1,242 +1,115 @@
-//! The table that a message is filed in: reading it, writing it back and looking things up in it.
+//! The table that a message is filed in.
 
+use crate::card::Card;
 use crate::ffi;
-use crate::number::{Kind, Refusal};
+use crate::number::{Number, Refusal};
+use crate::row::Entry;
+use crate::size;
+use std::fmt;
 
-/// How many bytes a text area and an output have at least.
-pub const BYTES: usize = 16384;
-/// How many numbers the segment rows have at least: 256 rows.
-pub const SEGMENTS: usize = 1024;
-/// How many numbers the leaf rows have at least: 2,048 rows.
-pub const LEAVES: usize = 14336;
-/// How many bytes every listing has room in.
-pub const LISTING: usize = 8448;
-/// How many numbers a segment row has: kind, owner (a row number, or 0), first leaf, leaf count.
-pub const SEGMENT_ROW: usize = 4;
-/// How many numbers a leaf row has: segment, field, repetition, subfield, sub-subfield, start, length.
-pub const LEAF_ROW: usize = 7;
-
-/// What a table's rows and text are counted by.
-#[derive(Clone, Copy, Debug, Default, PartialEq, Eq, Hash)]
-pub struct Card {
-    /// The field separator.
-    pub separator: u8,
-    /// The number of the message's [`Context`](crate::Context).
-    pub context: u8,
-    /// How many segment rows there are.
-    pub segments: usize,
-    /// How many leaf rows there are.
-    pub leaves: usize,
-    /// How many bytes of text there are.
-    pub text: usize,
-}
-
-impl Card {
-    fn numbers(&self) -> [usize; 5] {
-        [
-            self.separator.into(),
-            self.context.into(),
-            self.segments,
-            self.leaves,
-            self.text,
-        ]
-    }
-}
-
-/// The place of a leaf, as 10.4.1 in the segment of a row: every number counts from 1.
-#[derive(Clone, Copy, Debug, PartialEq, Eq, Hash)]
-pub struct Place {
-    pub segment: u16,
-    pub field: u16,
-    pub repetition: u16,
-    pub subfield: u16,
-    pub subsubfield: u16,
-}
-
-impl Place {
-    /// The first leaf of a field: repetition, subfield and sub-subfield 1.
-    pub fn field(segment: u16, field: u16) -> Place {
-        Place {
-            segment,
-            field,
-            repetition: 1,
-            subfield: 1,
-            subsubfield: 1,
-        }
-    }
-
-    /// The first leaf of a subfield in the field's first repetition.
-    pub fn subfield(segment: u16, field: u16, subfield: u16) -> Place {
-        Place {
-            subfield,
-            ..Place::field(segment, field)
-        }
-    }
-}
-
-/// Reads a message into lent buffers of at least [`BYTES`], [`SEGMENTS`] and [`LEAVES`]. A refusal changes none of them.
-pub fn read(
-    message: &[u8],
-    text: &mut [u8],
-    segments: &mut [u16],
-    leaves: &mut [u16],
-) -> Result<Card, Refusal> {
-    let mut answer = [0; 6];
-    let number = ffi::read(message, text, segments, leaves, &mut answer);
-    let [place, separator, context, segments, leaves, text] = answer;
-    match Refusal::of(number, place) {
-        Some(refusal) => Err(refusal),
-        // the separator and the context that are read are bytes
-        None => Ok(Card {
-            separator: separator as u8,
-            context: context as u8,
-            segments,
-            leaves,
-            text,
-        }),
-    }
-}
-
-/// Buffers of the stated sizes, to read one message after another into.
-#[derive(Clone, Debug)]
-pub struct Buffers {
-    text: Box<[u8]>,
-    segments: Box<[u16]>,
-    leaves: Box<[u16]>,
-}
-
-impl Buffers {
-    pub fn new() -> Buffers {
-        Buffers {
-            text: vec![0; BYTES].into_boxed_slice(),
-            segments: vec![0; SEGMENTS].into_boxed_slice(),
-            leaves: vec![0; LEAVES].into_boxed_slice(),
-        }
-    }
-
-    /// The listing of a message, as the program `list` prints it; a refused message has one of three lines.
-    pub fn list(&mut self, message: &[u8]) -> Vec<u8> {
-        let mut listing = vec![0; LISTING];
-        let bytes = ffi::list(
-            message,
-            &mut self.text,
-            &mut self.segments,
-            &mut self.leaves,
-            &mut listing,
-        );
-        listing.truncate(bytes);
-        listing
-    }
-
-    /// The table of a message, which stands in the buffers.
-    pub fn read(&mut self, message: &[u8]) -> Result<Table<'_>, Refusal> {
-        let card = read(
-            message,
-            &mut self.text,
-            &mut self.segments,
-            &mut self.leaves,
-        )?;
-        Ok(Table {
-            card,
-            segments: &self.segments,
-            leaves: &self.leaves,
-            text: &self.text,
-        })
-    }
-}
-
-impl Default for Buffers {
-    fn default() -> Buffers {
-        Buffers::new()
-    }
-}
-
-/// The bytes and the lines of a message that was written at the front of an output.
-#[derive(Clone, Copy, Debug, PartialEq, Eq, Hash)]
-pub struct Written {
-    pub bytes: usize,
-    pub lines: usize,
-}
-
-/// A card, and the buffers that its rows and its text stand at the front of. Any numbers may stand here: a table that no message reads to
-/// is refused by the writer, and the lookups answer it too.
-#[derive(Clone, Copy, Debug)]
+/// The table of a message: a card, segment rows, leaf rows and text.
+///
+/// It is always one that some message reads to: it comes from reading ([`Buffers::read`](crate::Buffers::read), [`read`](crate::read)),
+/// or [`Table::new`] has looked at it. Two tables are equal where their cards are, and their counted rows and texts.
+#[derive(Clone, Copy, PartialEq, Eq)]
 pub struct Table<'a> {
-    pub card: Card,
-    pub segments: &'a [u16],
-    pub leaves: &'a [u16],
-    pub text: &'a [u8],
+    card: Card,
+    segments: &'a [Entry],
+    leaves: &'a [Entry],
+    text: &'a [u8],
 }
 
 impl<'a> Table<'a> {
-    /// Writes the table's message at the front of an output of at least [`BYTES`]. A refusal changes no byte of it.
-    pub fn write(&self, output: &mut [u8]) -> Result<Written, Refusal> {
-        let mut answer = [0; 3];
-        let number = ffi::write(self.lent(&self.card.numbers()), output, &mut answer);
-        let [place, bytes, lines] = answer;
-        match Refusal::of(number, place) {
-            Some(refusal) => Err(refusal),
-            None => Ok(Written { bytes, lines }),
-        }
-    }
-
-    /// Whether some message reads to this table.
-    pub fn is_table(&self) -> bool {
-        ffi::is_table(self.lent(&self.card.numbers()))
-    }
-
-    /// The text of the leaf at a place: the first in row order that does not point past the card's text.
-    pub fn find_leaf(&self, place: Place) -> Option<&'a [u8]> {
-        let numbers = [
-            place.segment,
-            place.field,
-            place.repetition,
-            place.subfield,
-            place.subsubfield,
-        ];
-        let mut answer = [0; 2];
-        if ffi::find_leaf(self.lent(&self.card.numbers()), numbers, &mut answer) {
-            let [start, length] = answer;
-            Some(&self.text[start..start + length])
+    /// The table that a card, segment rows, leaf rows and text are, wherever they were kept. Entries past those that the card counts are
+    /// not looked at. Refused with [`Number::NoTable`] where no message reads to it.
+    ///
+    /// ```
+    /// # let message = b"H|~^\\&|||LAB||ORU\rP|1\rOBR|1\rOBX|1|NM|GLY||1.2\rL|1\r";
+    /// use sargaceu::{Buffers, Card, Number, Table};
+    /// let mut buffers = Buffers::new();
+    /// let table = buffers.read(message)?;
+    /// let kept = (table.segment_rows().to_vec(), table.leaf_rows().to_vec(), table.text().to_vec());
+    /// assert_eq!(Table::new(table.card(), &kept.0, &kept.1, &kept.2), Ok(table));
+    ///
+    /// let shorter = Card { text: table.card().text - 1, ..table.card() };
+    /// let refusal = Table::new(shorter, &kept.0, &kept.1, &kept.2).unwrap_err();
+    /// assert_eq!(refusal.number, Number::NoTable);
+    /// # Ok::<(), sargaceu::Refusal>(())
+    /// ```
+    pub fn new(
+        card: Card,
+        segments: &'a [Entry],
+        leaves: &'a [Entry],
+        text: &'a [u8],
+    ) -> Result<Table<'a>, Refusal> {
+        if is_table(card, segments, leaves, text) {
+            Ok(Table::counted(card, segments, leaves, text))
         } else {
-            None
+            Err(Refusal {
+                number: Number::NoTable,
+                place: 0,
+            })
         }
     }
 
-    /// The number of the first row after a given one (0 for the start) with a kind and an owner.
-    pub fn next_row(&self, after: usize, kind: Kind, owner: u16) -> Option<usize> {
-        match ffi::next_row(
-            &self.card.numbers(),
-            self.segments,
-            after,
-            kind as u16,
-            owner,
-        ) {
-            0 => None,
-            row => Some(row),
-        }
-    }
-
-    /// Whether a row of this table and a row of another are the same order: both OBR, and leaf 9.4.2 is there in both with the same
-    /// bytes. That both come from one laboratory is for the caller to compare.
-    pub fn same_order(&self, row: u16, other: &Table<'_>, other_row: u16) -> bool {
-        ffi::same_order(
-            self.lent(&self.card.numbers()),
-            row,
-            other.lent(&other.card.numbers()),
-            other_row,
-        )
-    }
-
-    fn lent<'b>(&self, card: &'b [usize]) -> ffi::Lent<'b>
-    where
-        'a: 'b,
-    {
-        ffi::Lent {
+    /// The table at the front of buffers that hold one: no count of its card goes past its buffer.
+    pub(crate) fn counted(
+        card: Card,
+        segments: &'a [Entry],
+        leaves: &'a [Entry],
+        text: &'a [u8],
+    ) -> Table<'a> {
+        Table {
             card,
-            segments: self.segments,
-            leaves: self.leaves,
-            text: self.text,
+            segments: &segments[..card.segments * size::SEGMENT_ROW],
+            leaves: &leaves[..card.leaves * size::LEAF_ROW],
+            text: &text[..card.text],
         }
+    }
+
+    /// The card.
+    pub fn card(&self) -> Card {
+        self.card
+    }
+
+    /// The numbers of all segment rows, [`SEGMENT_ROW`](size::SEGMENT_ROW) a row.
+    pub fn segment_rows(&self) -> &'a [Entry] {
+        self.segments
+    }
+
+    /// The numbers of all leaf rows, [`LEAF_ROW`](size::LEAF_ROW) a row.
+    pub fn leaf_rows(&self) -> &'a [Entry] {
+        self.leaves
+    }
+
+    /// The text of all leaves, one right behind the other.
+    pub fn text(&self) -> &'a [u8] {
+        self.text
+    }
+}
+
+impl fmt::Debug for Table<'_> {
+    fn fmt(&self, f: &mut fmt::Formatter<'_>) -> fmt::Result {
+        f.debug_struct("Table")
+            .field("card", &self.card)
+            .finish_non_exhaustive()
+    }
+}
+
+/// Whether some message reads to this.
+fn is_table(card: Card, segments: &[Entry], leaves: &[Entry], text: &[u8]) -> bool {
+    let card = card.numbers();
+    // SAFETY: each pointer and its count are those of a slice that lives on during the call, and nothing is written.
+    unsafe {
+        ffi::sargaceu_is_table(
+            card.as_ptr(),
+            card.len(),
+            segments.as_ptr(),
+            segments.len(),
+            leaves.as_ptr(),
+            leaves.len(),
+            text.as_ptr(),
+            text.len(),
+        )
     }
 }

@@ -1,0 +1,16 @@
+//! The sizes of the answers that are lent to the library, in numbers or bytes.
+
+/// The numbers that the reader answers: the place, then the card.
+pub const READ_ANSWER: usize = 6;
+
+/// The numbers that the writer answers: the place, the bytes, the lines.
+pub const WRITE_ANSWER: usize = 3;
+
+/// The numbers that the leaf lookup answers: start and length of the text.
+pub const LEAF_ANSWER: usize = 2;
+
+/// The numbers that the line walk answers: where the line ends, and where the next one begins.
+pub const LINE_ANSWER: usize = 2;
+
+/// The bytes of an order watcher.
+pub const WATCHER: usize = 2;

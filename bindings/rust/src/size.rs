@@ -1,0 +1,28 @@
+//! The sizes of the message form and of what is lent, in bytes or numbers. A longer buffer is used at its front.
+
+/// The most bytes that an accepted message has.
+pub const MESSAGE: usize = 16384;
+
+/// The numbers of a segment row: kind, owner, first leaf, leaf count.
+pub const SEGMENT_ROW: usize = 4;
+
+/// The numbers of a leaf row: the five of its place, then where its text starts and how long it is.
+pub const LEAF_ROW: usize = 7;
+
+/// The least bytes of a text area.
+pub const TEXT: usize = 16384;
+
+/// The least numbers of segment rows: room for 256 of them.
+pub const SEGMENTS: usize = 1024;
+
+/// The least numbers of leaf rows: room for 2,048 of them.
+pub const LEAVES: usize = 14336;
+
+/// The least bytes of an output.
+pub const OUTPUT: usize = 16384;
+
+/// The bytes that every listing has room in.
+pub const LISTING: usize = 8448;
+
+/// The numbers of a card.
+pub const CARD: usize = 5;

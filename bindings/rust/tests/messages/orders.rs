@@ -1,0 +1,28 @@
+use crate::row;
+use sargaceu::Buffers;
+
+#[test]
+fn orders_are_the_same_by_their_number() {
+    let (mut one, mut two) = (Buffers::new(), Buffers::new());
+    let asked = one
+        .read(b"H|~^\\&|||LAB||ORM\rP|1\rOBR|1||A~17\rL|1\r")
+        .unwrap();
+    let done = two
+        .read(b"H|~^\\&|||LAB||ORU\rP|1\rOBR|1||B~18\rOBX|1\rOBR|2||B~17\rOBX|1\rL|1\r")
+        .unwrap();
+    assert!(asked.same_order(row(3), &done, row(5)));
+    assert!(done.same_order(row(5), &asked, row(3)));
+    assert!(asked.same_order(row(3), &asked, row(3)));
+    assert!(!asked.same_order(row(3), &done, row(3)));
+    assert!(!asked.same_order(row(2), &done, row(5)));
+    assert!(!asked.same_order(row(3), &done, row(65535)));
+}
+
+#[test]
+fn an_order_without_a_number_is_not_the_same_as_itself() {
+    let mut buffers = Buffers::new();
+    let table = buffers
+        .read(b"H|~^\\&|||LAB||ORM\rP|1\rOBR|1||A\rL|1\r")
+        .unwrap();
+    assert!(!table.same_order(row(3), &table, row(3)));
+}

@@ -1,0 +1,57 @@
+//! From patient to orders to results, with the comments of each: takes a message from standard input and prints texts as they are.
+
+use sargaceu::{Buffers, Kind, Place, Row, Table};
+use std::io::{self, Read, Write};
+use std::process::ExitCode;
+
+fn main() -> io::Result<ExitCode> {
+    let mut message = Vec::new();
+    io::stdin().read_to_end(&mut message)?;
+    let mut buffers = Buffers::new();
+    match buffers.read(&message) {
+        Ok(table) => patients(&table).map(|()| ExitCode::SUCCESS),
+        Err(refusal) => {
+            println!("refused: {} at {}", refusal.number as u8, refusal.place);
+            Ok(ExitCode::FAILURE)
+        }
+    }
+}
+
+/// The header, which is the first row, owns every patient.
+fn patients(table: &Table) -> io::Result<()> {
+    for patient in table.children(Row::FIRST, Kind::P) {
+        show(table, "patient", patient.field(6))?;
+        comments(table, patient)?;
+        for order in table.children(patient, Kind::OBR) {
+            show(table, " order", order.field(4).subfield(2))?;
+            comments(table, order)?;
+            results(table, order)?;
+        }
+    }
+    Ok(())
+}
+
+fn results(table: &Table, order: Row) -> io::Result<()> {
+    for result in table.children(order, Kind::OBX) {
+        show(table, "  result", result.field(4))?;
+        show(table, "    value", result.field(6))?;
+        comments(table, result)?;
+    }
+    Ok(())
+}
+
+/// A comment belongs to the segment before it, so it is found under that row.
+fn comments(table: &Table, row: Row) -> io::Result<()> {
+    let mut comments = table.children(row, Kind::C);
+    comments.try_for_each(|comment| show(table, "    comment", comment.field(4)))
+}
+
+/// A line with the leaf at a place; a leaf that is not there is not shown.
+fn show(table: &Table, what: &str, place: Place) -> io::Result<()> {
+    match table.leaf(place) {
+        Some(leaf) => {
+            io::stdout().write_all(&[what.as_bytes(), b" ", leaf.bytes(), b"\n"].concat())
+        }
+        None => Ok(()),
+    }
+}

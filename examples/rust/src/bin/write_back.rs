@@ -1,0 +1,39 @@
+//! Reads a message from standard input, writes its table again and reads what was written.
+
+use sargaceu::{size, Buffers, Refusal};
+use std::io::{self, Read};
+use std::process::ExitCode;
+
+fn main() -> io::Result<ExitCode> {
+    let mut message = Vec::new();
+    io::stdin().read_to_end(&mut message)?;
+    match write_back(&message) {
+        Ok(()) => Ok(ExitCode::SUCCESS),
+        Err(refusal) => {
+            println!("refused: {} at {}", refusal.number as u8, refusal.place);
+            Ok(ExitCode::FAILURE)
+        }
+    }
+}
+
+fn write_back(message: &[u8]) -> Result<(), Refusal> {
+    let mut buffers = Buffers::new();
+    let table = buffers.read(message)?;
+
+    let mut output = [0; size::OUTPUT];
+    let written = table.write(&mut output)?;
+    println!("wrote {} bytes in {} lines", written.bytes, written.lines);
+
+    let mut others = Buffers::new();
+    let again = others.read(&output[..written.bytes])?;
+    let same = again == table;
+    println!(
+        "{}",
+        if same {
+            "the same table"
+        } else {
+            "another table"
+        }
+    );
+    Ok(())
+}
