@@ -1,119 +1,65 @@
--- The demands, sentence by sentence: each is a statement about the very predicates that the public contracts name (`ReadAs` of the
--- reader, `writing` of the writer, `tellOf` of the watcher), and each proof cites one law. Over any lawful limits and any levels; document
--- 01's are `form` and `level`.
+-- The three demands, proved: each statement by one law, over any lawful limits and any levels; then for the form's own limits and levels, a line each.
 -- Assumes nothing.
-use mathlib.Core.Bool.{true, false}
-use mathlib.Core.List.{List, [], _∷_, _++_}
-use mathlib.Core.Logic.{_↔_}
-use mathlib.Core.Path.{_≡_}
-use Prim.Native.Nat.{ℕ, _≤_, _<_}
-use lib.Dec.{ltb}
-use lib.ListN.{length}
-use Rattle.laws.specs.Every.{All}
+use mathlib.Core.Path.{refl}
+use Prim.Native.Nat.{ℕ}
 use Rattle.form.specs.declared.limits.Limits.{Limits}
-use Rattle.form.specs.declared.separators.Separators.{Separators}
-use Rattle.form.specs.declared.separators.Header.the-variants.{Sound}
-use Rattle.form.specs.Header.{headerOf}
-use Rattle.form.specs.Limits.{Lawful}
-use Rattle.form.specs.Numbers.{noTable}
-use Rattle.line.specs.Lines.{walk, texts}
-use Rattle.order.specs.Grammar.{Tree, word, Derives, Begins}
-use Rattle.order.specs.Contexts.{grammar}
-use Rattle.order.specs.Watcher.{begun, watched, said}
+use Rattle.form.specs.Limits.{form, Lawful}
+use Rattle.form.proofs.LineCount.{form-lawful}
+use Rattle.order.specs.Owners.{level}
 use Rattle.order.specs.inner.Telling.{tellOf}
-use Rattle.order.proofs.OneTree.{one-derivation}
-use Rattle.order.proofs.Watched.{yes-exactly}
-use Rattle.table.specs.Lent.{Lent, withinBuffers, counted}
-use Rattle.table.specs.Rows.{Table, kindsOf, contextIn, RowOf}
-use Rattle.table.specs.Reading.{Room, Outcome, accepted, reading, stated}
-use Rattle.table.specs.Back.{linesOf, written}
-use Rattle.read.specs.declared.Answer.{Answer}
-use Rattle.read.specs.Answering.{ReadAs, noCard, roomOf}
-use Rattle.read.specs.Sound.{segmentsIn}
-use Rattle.read.specs.Sound.{SoundLines, SoundMessage}
-use Rattle.read.specs.Acceptance.{Read}
-use Rattle.read.proofs.OnlyOne.{only-one, refused-unchanged}
-use Rattle.read.proofs.Acceptance.{accepted-exactly, accepted-read}
-use Rattle.read.proofs.OwnersColumn.{owners-column}
-use Rattle.read.proofs.CutAnyhow.{same-joined}
-use Rattle.write.specs.Writing.{ReadTo, Writing, refuses, writes, writing}
-use Rattle.write.proofs.RoundTrip.{round-trip}
-use Rattle.write.proofs.Fewest.{least-bytes, least-lines, lines-short}
-use Rattle.write.proofs.LentTables.{is-table, table-written-out, refused-none}
+use Rattle.order.proofs.OneTree as order
+use Rattle.order.proofs.ShutOut as refusals
+use Rattle.order.proofs.Watched as watcher
+use Rattle.read.proofs.OnlyOne as reader
+use Rattle.read.proofs.Acceptance as acceptance
+use Rattle.read.proofs.Contract as reads
+use Rattle.read.proofs.OwnersColumn as owners
+use Rattle.write.proofs.Contract as writes
+use Rattle.look.proofs.FirstMatch as looks
+use Rattle.demands.specs.Demands.{Demand1, Demand2, Demand3}
 
-module _ (L : Limits) (levels : ℕ → ℕ → ℕ) where
-  module _ (message : List ℕ) {text segments leaves : List ℕ} where
-    -- Demand 1. "Reader .. take every input of every length and come to an end. No caller has to have checked anything.": the reader has
-    -- no `requires` and is proved to end; its contract fixes the answer and every lent buffer
-    pub one-outcome : {r s : Answer} {text₁ segments₁ leaves₁ text₂ segments₂ leaves₂ : List ℕ}
-        → ReadAs L levels message text segments leaves r text₁ segments₁ leaves₁
-        → ReadAs L levels message text segments leaves s text₂ segments₂ leaves₂
-        → (r ≡ s) × (text₁ ≡ text₂) × (segments₁ ≡ segments₂) × (leaves₁ ≡ leaves₂)
-    one-outcome g h = only-one L levels message g h
+module _ (L : Limits) (lawful : Lawful L) (levels : ℕ → ℕ → ℕ) where
+  pub demand-1 : Demand1 L levels
+  demand-1 =
+      record {
+        one-reading = λ message g h. reader.only-one L levels message g h;
+        refused-reading = λ message g refused. reader.refused-unchanged L levels message g refused;
+        one-writing = λ table g h. writes.one-writing L lawful levels table g h;
+        refused-writing = λ table g refused. writes.refused-as-it-was L lawful levels table g refused;
+        leaf-found = looks.finds;
+        row-found = looks.finds-row;
+        orders-compared = looks.same-orders;
+      }
 
-    module _ {r : Answer} {text′ segments′ leaves′ : List ℕ} (read : ReadAs L levels message text segments leaves r text′ segments′ leaves′) where
-      -- "A refused call returns one number and one place, and each buffer it was lent holds the same bytes and numbers as before."
-      pub refused-changes-nothing : (r .number ≡ 0 → ⊥) → (text′ ≡ text) × (segments′ ≡ segments) × (leaves′ ≡ leaves) × (r .card ≡ noCard)
-      refused-changes-nothing h = refused-unchanged L levels message read h
+  pub demand-2 : Demand2 L levels
+  demand-2 =
+      record {
+        accepted-table = λ message g yes. reads.accepted-table L levels message g yes;
+        written-table = λ table g yes. writes.wrote-table L lawful levels table g yes;
+        written-exactly = λ table g. writes.written-exactly L lawful levels table g;
+        short-exactly = λ table g. writes.short-exactly L lawful levels table g;
+        none-exactly = λ table g. writes.none-exactly L lawful levels table g;
+        fewest = λ table g yes message read. writes.fewest L lawful levels table g yes message read;
+      }
 
-      module _ (ps : Separators) where
-        -- Demand 2. "An accepted message gives the table that the 2.4 recommendation, as document 01 condenses it, says it holds."
-        pub accepted-gives-its-table : headerOf message ≡ Sound ps → r .number ≡ 0
-            → Read L levels message ps text segments leaves r text′ segments′ leaves′
-        accepted-gives-its-table header e = accepted-read L levels message ps header read e
+  pub demand-3 : Demand3 L levels
+  demand-3 =
+      record {
+        accepted-exactly = λ message sound g. acceptance.accepted-exactly L levels message _ sound g;
+        misplaced-at = λ message sound g ten. reads.first-misplaced L levels message _ g sound ten;
+        one-derivation = order.one-derivation;
+        each-owner = λ message read i h. owners.owners-column read i h;
+        watcher-yes = watcher.yes-exactly;
+        watcher-no = refusals.changes-on-a-no tellOf (λ w k. refl);
+        cut-anyhow = λ message other one two same g h. reads.cut-anyhow L lawful levels message other one two same g h;
+      }
 
-        -- Demand 3. "For messages within the stated limits whose header and lines pass their rules, read into buffers of the stated
-        -- sizes: acceptance happens exactly when the context's grammar derives the order of the joined segments."
-        pub accepted-exactly-by-the-grammar : SoundMessage L (roomOf text segments leaves) message ps
-            → (r .number ≡ 0) ↔ Derives (grammar (contextIn ps (segmentsIn L ps message))) (kindsOf ps (segmentsIn L ps message))
-        accepted-exactly-by-the-grammar s = accepted-exactly L levels message ps s read
+-- the demands of the form itself
+pub form-demand-1 : Demand1 form level
+form-demand-1 = demand-1 form form-lawful level
 
-        -- ".. and each owner is the one document 01 gives."
-        pub each-owner : headerOf message ≡ Sound ps → r .number ≡ 0 → (i : ℕ) → i < r .card .segments
-            → RowOf levels ps (segmentsIn L ps message) segments′ i
-        each-owner header e i h = owners-column L levels message ps header read e i h
+pub form-demand-2 : Demand2 form level
+form-demand-2 = demand-2 form form-lawful level
 
-  module _ (lawful : Lawful L) where
-    -- Demand 2. "Writing a table gives lines of at most 220 characters", CR included: of any table
-    pub lines-of-220 : (t : Table) → All (λ (l : List ℕ). length l ≤ L .line) (linesOf L t)
-    lines-of-220 t = lines-short L lawful t
-
-    -- "that read back to the same table"
-    pub reads-back-to-the-same : (room : Room) (message : List ℕ) (t : Table) → reading L levels room message ≡ accepted t
-        → reading L levels room (written L t) ≡ accepted t
-    reads-back-to-the-same room message t e = round-trip L lawful levels room message t e
-
-    -- "and the writer refuses a table only when no message reads to it, or when its output buffer is short": 13 is
-    pub refused-only-where-none-reads : (l : Lent) (output : ℕ) → writing L levels l output ≡ refuses noTable → withinBuffers l ≡ true
-        → ReadTo L levels (counted l) → ⊥
-    refused-only-where-none-reads l output e within to = refused-none L lawful levels l output e within to
-
-    -- so the table of every accepted message is written, into an output that is not short
-    pub every-table-is-written : (l : Lent) (output : ℕ) → ltb output (L .bytes) ≡ false → withinBuffers l ≡ true → ReadTo L levels (counted l)
-        → writing L levels l output ≡ writes (written L (counted l)) (length (linesOf L (counted l)))
-    every-table-is-written l output h within to =
-        table-written-out L lawful levels l output h (is-table L lawful levels l .1 (within, to))
-
-    -- among all messages that read to a table ours has the fewest bytes, so that 'ours passes the limit' refuses soundly, and lines
-    pub fewest-bytes : (room : Room) (message : List ℕ) (t : Table) → reading L levels room message ≡ accepted t
-        → length (written L t) ≤ length message
-    fewest-bytes room message t e = least-bytes L lawful levels room message t e
-
-    pub fewest-lines : (room : Room) (message : List ℕ) (t : Table) → reading L levels room message ≡ accepted t
-        → length (linesOf L t) ≤ length (texts (walk L message))
-    fewest-lines room message t e = least-lines L lawful levels room message t e
-
-    -- Demand 3. "Two such messages with the same joined segments get the same answer, refusals included, and the same table, however
-    -- each was cut."
-    pub cut-anyhow : {ps qs : Separators} (m n : List ℕ) → SoundLines L m ps → SoundLines L n qs
-        → segmentsIn L ps m ≡ segmentsIn L qs n → (room : Room) → reading L levels room m ≡ reading L levels room n
-    cut-anyhow m n one two same room = same-joined L lawful m n one two same levels room
-
--- "That derivation is unique"
-pub unique-derivation : (c : ℕ) (s t : Tree (grammar c)) → word (grammar c) s [] ≡ word (grammar c) t [] → s ≡ t
-unique-derivation c s t e = one-derivation c s t e
-
--- "The order watcher says yes exactly by that grammar."
-pub watcher-by-the-grammar : (c : ℕ) (ks : List ℕ) (k : ℕ)
-    → (tellOf (watched (begun c) ks) k .yes ≡ true) ↔ Begins (grammar c) (said (begun c) ks ++ (k ∷ []))
-watcher-by-the-grammar c ks k = yes-exactly c ks k
+pub form-demand-3 : Demand3 form level
+form-demand-3 = demand-3 form form-lawful level

@@ -20,7 +20,7 @@ use Rattle.order.specs.Owners.{level}
 use Rattle.table.specs.Leaves.{onto, split}
 use Rattle.table.specs.Back.{leafAt, leavesOf, separatorsAt, between, unsplitFrom, unsplit, segmentsOf, linesOf, written}
 use Rattle.table.specs.Examples.{filed, k1}
-use Rattle.table.specs.Lent.{Lent, countsFit, withinBuffers, counted}
+use Rattle.table.specs.Lent.{Lent, counted}
 use Rattle.table.specs.Rows.{Table}
 use Rattle.table.specs.Reading.{Outcome, accepted, reading, stated}
 use Rattle.table.proofs.Room.{front-at}
@@ -28,15 +28,14 @@ use Rattle.read.proofs.ShutOut.{K1, k1-read}
 use Rattle.write.specs.declared.Written.{Written}
 use Rattle.write.specs.Writing.{ReadTo, Writing, refuses, writes, writing}
 use Rattle.write.specs.Answer.{answer, outputAfter, writtenSize}
-use Rattle.write.proofs.LentTables.{writes-back}
-use Rattle.demands.proofs.Demands.{every-table-is-written}
+use Rattle.write.proofs.LentTables.{table-written-out, writes-back}
+use Rattle.write.proofs.Contract.{table-exactly}
 
 module _ (L : Limits) (lawful : Lawful L) (levels : ℕ → ℕ → ℕ) (l : Lent) (output : ℕ) where
   -- one that refuses always
-  pub refuses-always : ltb output (L .bytes) ≡ false → withinBuffers l ≡ true → ReadTo L levels (counted l)
-      → (n : ℕ) → writing L levels l output ≡ refuses n → ⊥
-  refuses-always h within to n e =
-      let w = every-table-is-written L levels lawful l output h within to in
+  pub refuses-always : ltb output (L .bytes) ≡ false → ReadTo L levels (counted l) → (n : ℕ) → writing L levels l output ≡ refuses n → ⊥
+  refuses-always h to n e =
+      let w = table-written-out L lawful levels l output h (table-exactly L lawful levels l .1 to) in
       let z : _≡_ {A = ℕ} 0 1 = cc in omega arith
 
   -- one that drops fields, as empty ones at a segment's end: what it writes reads to a table of fewer leaves
@@ -57,16 +56,12 @@ k1-counted : counted K1-lent ≡ k1
 unfolding K1-lent counted k1 filed concat bytes
 k1-counted = refl
 
-k1-within : withinBuffers K1-lent ≡ true
-unfolding K1-lent countsFit k1 filed concat bytes
-k1-within = refl
-
 k1-to : ReadTo form level (counted K1-lent)
 k1-to = (K1, k1-read ∙ ap accepted (sym k1-counted))
 
 k1-written : writing form level K1-lent (form .bytes) ≡ writes (written form k1) (length (linesOf form k1))
 k1-written =
-    every-table-is-written form level form-lawful K1-lent (form .bytes) refl k1-within k1-to
+    table-written-out form form-lawful level K1-lent (form .bytes) refl (table-exactly form form-lawful level K1-lent .1 k1-to)
     ∙ ap (λ (t : Table). writes (written form t) (length (linesOf form t))) k1-counted
 
 -- its first byte is H, and there are 65
