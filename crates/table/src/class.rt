@@ -20,7 +20,7 @@ pub fn set_classes(class: &mut [u8; 256], separators: Separators)
     }
 }
 
-// A byte as an index.
+// A byte as an index: it is below 256.
 pub fn index(b: u8) -> usize
     ensures { λ r. ⌜ (r ≡ b) × (r < 256) ⌝ }
 {
