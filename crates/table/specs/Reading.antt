@@ -50,7 +50,8 @@ short L room =
 unfoldable pub firstUnknown : List ℕ → ℕ
 firstUnknown kinds = firstFrom (eqb 0) 1 kinds
 
--- the tests 7 to 11 (N2), on the joined segments alone (N4)
+-- the tests 7 to 11 (N2), on the joined segments alone (N4); `misplaced` is the place of number 10, which `misplaced-means`
+-- (order/proofs/Misplaced.antt) says by the grammar
 unfoldable pub judged : Limits → (ℕ → ℕ → ℕ) → Separators → List (List ℕ) → Outcome
 judged L levels ps segments =
     refuseIf (ltb (L .segments) (length segments)) manySegments

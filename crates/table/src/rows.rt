@@ -34,15 +34,15 @@ pub const START: usize = 5;
 
 pub const LENGTH: usize = 6;
 
-// A row's number as a count.
+// A number of a row as a count, which is below 65,536 (T1).
 pub fn wide(number: Entry) -> usize
     ensures { λ r. ⌜ (r ≡ number) × (r < width) ⌝ }
 {
     number as usize
 }
 
-// Whether the rows and the text that a card counts fit buffers of these lengths. The lengths are divided, since a count may be anything and
-// its product with a row's size may not fit a number.
+// Whether the rows and the text that a card counts fit buffers of these lengths (F1, W4). The lengths are divided, since a count may be
+// anything and its product with a row's size may not fit a number.
 pub fn counts_fit(card: Card, segments: usize, leaves: usize, text: usize) -> bool
     ensures { λ r. ⌜ r ≡ countsFit card segments leaves text ⌝ }
 {
