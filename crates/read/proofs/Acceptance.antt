@@ -1,5 +1,5 @@
--- The reader accepts exactly what the grammar derives: of messages within the limits whose header and lines pass their rules, those whose
--- kinds are derived by the grammar of their context, and each by one derivation (document 01, "The seven contexts").
+-- The reader accepts exactly what the grammar derives (C2, C3): of sound messages those whose kinds are derived by the grammar of their
+-- context, and each by one derivation.
 -- Assumes nothing.
 use mathlib.Core.Bool.{Bool, true, _&&_}
 use mathlib.Core.List.{List, [], _∷_}

@@ -1,5 +1,5 @@
--- How a message is cut into lines changes nothing (document 01, "Addendum" and "Lines"): messages with sound headers and lines that join to
--- the same segments have the same outcome, refusals included, whatever their lines and whatever low bytes follow their CRs.
+-- How a message is cut into lines changes nothing (A3, L2, N4): messages with sound headers and lines that join to the same segments have
+-- the same outcome, refusals included, whatever their lines and whatever low bytes follow their CRs.
 -- Assumes nothing.
 use mathlib.Core.List.{List, [], _∷_, _++_}
 use mathlib.Core.Logic.{⊎-elim}
@@ -115,7 +115,7 @@ cut-anywhere L levels room ps m n one two x l k y keeps whole cut =
     (ap (joined (ps .field)) whole ∙ addendum-put-in (ps .field) x l k y keeps ∙ ap (joined (ps .field)) (sym cut))
     ∙ sym (sound-lines-judged L levels room n ps two)
 
--- "Bytes below 32 that follow a CR, further CRs included, are ignored": a sound header lies before the first CR
+-- control bytes put in behind a CR change nothing (L2): a sound header lies before the first CR (H3), so it stays as it is
 module _ (ps : Separators) (a rest : List ℕ) (header : SoundHeader (a ++ CR ∷ rest) ps) where
   no-low-among : length a < 7 → ⊥
   unfolding headerBytes

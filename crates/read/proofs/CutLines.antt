@@ -1,5 +1,5 @@
--- Lines and the segments they join to (document 01, "Addendum"): there are as many segments as lines that are no addenda, and "the cut may
--- fall anywhere": an addendum put in at any place of a line changes no joined segment.
+-- Lines and the segments they join to (A1 to A3): there are as many segments as lines that are no addenda, and a line that is cut in two by
+-- an addendum joins to the same segments, where its first part is an addendum just where the line is.
 -- Assumes nothing.
 use mathlib.Core.Bool.{true, false, not}
 use mathlib.Core.List.{List, [], _∷_, _++_, append-assoc}
@@ -15,7 +15,7 @@ use Rattle.line.specs.Joining.{letterA, addendum, carried, joined}
 use Rattle.line.proofs.Joining.{addendum-line, addendum-long, carried-addendum, carried-segment, joined-addendum, joined-segment}
 
 module _ (f : ℕ) where
-  -- "Counting physical lines as rows" is wrong: addenda begin no segment
+  -- an addendum begins no segment, and every other line begins one
   pub segments-counted : (ls : List (List ℕ)) → length (joined f ls) ≡ count (λ (l : List ℕ). not (addendum f l)) ls
   unfolding joined count
   segments-counted [] = refl

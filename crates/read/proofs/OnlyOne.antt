@@ -1,5 +1,4 @@
--- The reader's contract has one outcome on all inputs, and a refused call changes nothing (document 01, "Numbers that come back" and
--- "How strong the statements are").
+-- The reader's contract has one outcome on all inputs (N1), and a refused call changes nothing (N3).
 -- Assumes nothing.
 use mathlib.Core.Bool.{Bool, true, false}
 use mathlib.Core.List.{List, [], _∷_, _++_}

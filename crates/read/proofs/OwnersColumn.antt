@@ -1,5 +1,5 @@
--- The columns of the segment rows as the reader leaves them: of an accepted message each row has its segment's kind, the owner that
--- document 01 gives it, its first leaf and its leaf count.
+-- The columns of the segment rows as the reader leaves them: of an accepted message each row has its segment's kind, its owner
+-- (O2, O3), the number of its first leaf and its leaf count.
 -- Assumes nothing.
 use mathlib.Core.List.{List}
 use mathlib.Core.Path.{_≡_, sym, ap, subst}

@@ -1,5 +1,4 @@
--- Readers that the contract shuts out (document 01, "How strong the statements are" and "Easy ways to get it wrong"), each by a message of
--- K1 to K12, read into any buffers that are not short.
+-- Readers that the contract shuts out, each by one of the worked examples K1 to K12, read into any buffers that are not short.
 -- Assumes nothing.
 use mathlib.Core.Bool.{false}
 use mathlib.Core.List.{List, _++_, map}
@@ -92,19 +91,19 @@ module _ (text segments leaves : List ℕ) {text′ segments′ leaves′ : List
   given m e g =
       subst (λ (o : Outcome). Gives o text segments leaves r text′ segments′ leaves′) (any-room (roomOf text segments leaves) m roomy ∙ e) g
 
-  -- "a reader that refuses always"
+  -- one that refuses everything: K1 is accepted
   pub refuses-always : ReadAs form level K1 text segments leaves r text′ segments′ leaves′ → (r .number ≡ 0 → ⊥) → ⊥
   unfolding answerOf
   refuses-always g h = h (ap (λ (a : Answer). a .number) (given K1 k1-read g .answer))
 
-  -- "one that returns K1's table always"
+  -- one that gives K1's table for everything: the context of K6 is another
   pub returns-k1-always : ReadAs form level K6 text segments leaves r text′ segments′ leaves′ → r .card ≡ k1 .card → ⊥
   unfolding answerOf k1 k6 filed
   returns-k1-always g h =
       let is : r .card .context ≡ 2 = ap (λ (a : Answer). a .card .context) (given K6 k6-read g .answer) in
       omega (arith, ap (λ (c : Card). c .context) h)
 
-  -- "a reader that fills the first segment and only counts the rest": H has seven leaf rows, and the eighth begins with its segment, 2
+  -- one that leaves the rows of all segments but the first as they were: H has seven leaf rows, and the eighth begins with its segment, 2
   pub fills-first-segment-only : ReadAs form level K1 text segments leaves r text′ segments′ leaves′ → segmentIn leaves 7 ≡ 0
       → segmentIn leaves′ 7 ≡ segmentIn leaves 7 → ⊥
   unfolding leavesPut k1 filed concat
@@ -123,35 +122,35 @@ module _ (text segments leaves : List ℕ) {text′ segments′ leaves′ : List
       ∙ front-at leaves (k1 .leafRows) (13 * leafRowSize + 4) (omega (arith, roomy-leaves form (roomOf text segments leaves) roomy)) (lit≤ tt) in
       omega arith
 
-  -- "invented leaf .. counts": one leaf too many
+  -- one that counts a leaf too many
   pub counts-one-more : ReadAs form level K1 text segments leaves r text′ segments′ leaves′ → r .card .leaves ≡ 25 → ⊥
   unfolding answerOf k1 filed
   counts-one-more g h =
       let is : r .card .leaves ≡ 24 = ap (λ (a : Answer). a .card .leaves) (given K1 k1-read g .answer) in
       omega arith
 
-  -- "Splitting field 7.2 at its own separators": K1 would have three leaves more
+  -- one that splits the header bytes (S4): K1 would have three leaves more
   pub splits-the-separators : ReadAs form level K1 text segments leaves r text′ segments′ leaves′ → r .card .leaves ≡ 27 → ⊥
   unfolding answerOf k1 filed
   splits-the-separators g h =
       let is : r .card .leaves ≡ 24 = ap (λ (a : Answer). a .card .leaves) (given K1 k1-read g .answer) in
       omega arith
 
-  -- "Counting the CR as character 221": a line of 220 bytes let through
+  -- one that lets a line of 220 bytes through (L3)
   pub lets-220-through : ReadAs form level K5 text segments leaves r text′ segments′ leaves′ → r .number ≡ 0 → ⊥
   unfolding answerOf
   lets-220-through g h =
       let is : r .number ≡ longLine = ap (λ (a : Answer). a .number) (given K5 k5-read g .answer) in
       omega arith
 
-  -- "Counting physical lines as rows"
+  -- one that gives each line a row: the addendum of K7 has none (A1)
   pub counts-lines-as-rows : ReadAs form level K7 text segments leaves r text′ segments′ leaves′ → r .card .segments ≡ 6 → ⊥
   unfolding answerOf k1 filed
   counts-lines-as-rows g h =
       let is : r .card .segments ≡ 5 = ap (λ (a : Answer). a .card .segments) (given K7 k7-read g .answer) in
       omega arith
 
-  -- "Making a C the owner of what follows it": the AP in row 4 belongs to the P in row 2, not to the C in row 3
+  -- one that lets a C own (O3): the AP in row 4 belongs to the P in row 2, not to the C in row 3
   pub makes-a-C-owner : ReadAs form level K10 text segments leaves r text′ segments′ leaves′ → ownerIn segments′ 3 ≡ 3 → ⊥
   unfolding segmentsPut k10 filed concat
   makes-a-C-owner g h =
@@ -160,7 +159,7 @@ module _ (text segments leaves : List ℕ) {text′ segments′ leaves′ : List
       ∙ front-at segments (k10 .segmentRows) (3 * segmentRowSize + 1) (omega (arith, roomy-segments form (roomOf text segments leaves) roomy)) (lit≤ tt) in
       omega arith
 
-  -- "Taking `AP|` or `ACT|` for an addendum because it begins with A": AP and AC of K10 have rows of their own, six in all
+  -- one that looks at the first letter of an addendum only (A2): AP and AC of K10 have rows of their own, six in all
   pub takes-AP-for-an-addendum : ReadAs form level K10 text segments leaves r text′ segments′ leaves′ → r .card .segments < 6 → ⊥
   unfolding answerOf k10 filed
   takes-AP-for-an-addendum g h =

@@ -1,4 +1,4 @@
--- The second pass line by line: tline-readable is room for a line and for the rows it closes; after it the pass stands at the next place, wline-readable an
+-- The second pass line by line: there is room for a line and for the rows it closes; after it the pass stands at the next place, where an
 -- addendum goes on with the segment begun, any other line with the next one, and at the message's end the buffers hold the table.
 -- Assumes nothing.
 use mathlib.Core.List.{List, [], _∷_, _++_, append-assoc}

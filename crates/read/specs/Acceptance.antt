@@ -12,7 +12,7 @@ use Rattle.read.specs.declared.Answer.{Answer}
 use Rattle.read.specs.Answering.{roomOf, Gives}
 use Rattle.read.specs.Sound.{segmentsIn, SoundMessage}
 
--- of a message with the separators ps, the answer and the buffers before and after: the message is sound, the grammar of its context derives
+-- of a message, its separators ps, the answer, and the buffers before and after: the message is sound, the grammar of its context derives
 -- the kinds of its joined segments (C2, C3), and the answer and the buffers are those of its table
 pub record Read (L : Limits) (levels : ℕ → ℕ → ℕ) (message : List ℕ) (ps : Separators) (text segments leaves : List ℕ) (r : Answer)
     (text′ segments′ leaves′ : List ℕ) : Type 0 where

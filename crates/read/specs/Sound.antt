@@ -1,5 +1,5 @@
--- The messages that the reader must judge by their order alone (demand 3): "messages within the stated limits whose header and lines pass
--- their rules, read into buffers of the stated sizes".
+-- The messages that the reader must judge by their order alone (demand 3): those that no test refuses but the tests of kinds, context and
+-- order (8, 9 and 10 of N2).
 -- Assumes nothing.
 use mathlib.Core.Bool.{false}
 use mathlib.Core.List.{List}
@@ -15,17 +15,17 @@ use Rattle.line.specs.Joining.{joined}
 use Rattle.table.specs.Rows.{allLeaves}
 use Rattle.table.specs.Reading.{Room, short}
 
--- the joined segments of a message
+-- the joined segments of a message (A1 to A3)
 abbrev pub segmentsIn : Limits → Separators → List ℕ → List (List ℕ)
 segmentsIn L ps message = joined (ps .field) (texts (walk L message))
 
--- a message within the limit of bytes "whose header and lines pass their rules": its header names the separators ps, and no line has a fault
+-- a message that is not too long (L5), whose header names the separators ps (H1, H2), and of whose lines none has a fault (L6)
 pub record SoundLines (L : Limits) (message : List ℕ) (ps : Separators) : Type 0 where
   pub fits : length message ≤ L .bytes
   pub header : headerOf message ≡ Sound ps
   pub lines : faultNumber (walk L message) ≡ 0
 
--- the same, with its segments and leaves "within the stated limits", and "buffers of the stated sizes"
+-- the same with no more segments and leaves than may be (T6), and read into buffers of which none is short (N1)
 pub record SoundMessage (L : Limits) (room : Room) (message : List ℕ) (ps : Separators) : Type 0 where
   pub sound : SoundLines L message ps
   pub roomy : short L room ≡ false

@@ -1,4 +1,4 @@
-// Deciding: tests 1 to 11 on a message, before anything is written but the classes of bytes and the kinds, which filling goes by.
+// Deciding: the tests 1 to 11 on a message (N2), before anything is written but the classes of bytes and the kinds, which filling goes by.
 use crate::survey::Survey;
 use crate::survey::Surveyed;
 use crate::survey::survey_message;
@@ -77,7 +77,8 @@ fn decide_sound(
     }
 }
 
-// Tests 7 to 11 by what was seen.
+// Tests 7 to 11 by what was seen. Each segment has one leaf more than separators were counted in it (S3), and the first has besides the two
+// leaves of the header bytes (S4).
 fn judge(limits: Limits, separators: Separators, seen: Survey) -> Decision
     requires { ⌜ FitsRows limits ⌝ }
     ensures { λ r. ⌜ r ≡ decisionOf limits separators seen ⌝ }
@@ -98,6 +99,7 @@ fn judge(limits: Limits, separators: Separators, seen: Survey) -> Decision
     if watcher.last != Kind::L {
         return refuse(Number::MISPLACED, seen.segments + 1);
     }
+    // `seen` may hold any count here, so the separators are held to the limit first: the sum below cannot then overflow
     if limits.leaves < seen.separators {
         return refuse(Number::MANY_LEAVES, 0);
     }

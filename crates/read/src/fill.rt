@@ -33,7 +33,7 @@ pub struct Line {
     pub next: usize,
 }
 
-// The row of a segment: kind, owner, first leaf, leaf count.
+// The row of a segment (T2): kind, owner, first leaf, leaf count.
 fn put_segment(
     segments: &mut [Entry],
     row: usize,
@@ -70,6 +70,7 @@ fn close_segment(
     let laying = filling.laying;
     put_leaf(laying, leaves);
     let row = laying.segment - 1;
+    // the number of the next segment's first leaf: behind the leaves closed before and this one, counted from 1
     let next = laying.row / rows::LEAF_ROW + 2;
     let kind = kinds[row];
     let owner = owner_of(
@@ -88,7 +89,7 @@ fn close_segment(
     );
 }
 
-// The first two leaves, `H` and the four bytes after the field separator; the third begins at byte 7.
+// The first two leaves, `H` and the four bytes after the field separator (S4), and the third begun, which has no text yet.
 fn put_header(separators: Separators, text: &mut [u8], leaves: &mut [Entry]) -> Filling
     requires { ⌜ (5 ≤ length (now text)) × (leafRowSize + leafRowSize ≤ length (now leaves)) ⌝ }
     ensures { λ r. ⌜ HeaderPut separators (now (text .entry)) (now (leaves .entry)) r (now (text .exit)) (now (leaves .exit)) ⌝ }
@@ -126,7 +127,7 @@ fn put_header(separators: Separators, text: &mut [u8], leaves: &mut [Entry]) -> 
     }
 }
 
-// The text of one line from `from` on, joined to the open segment.
+// The text of one line from `from` on, joined to the open segment (A1).
 fn fill_line(
     class: &[u8; 256],
     message: &[u8],
@@ -163,9 +164,10 @@ fn next_segment(filling: Filling) -> Filling
     }
 }
 
-// The whole message, whose survey refused nothing; answers how many bytes of text it has. Each turn fills one line, the header's rest
+// The whole message, which no test refused; answers how many bytes of text its leaves have. Each turn fills one line, the header's rest
 // the first: an addendum then carries the open segment on, anything else closes it. Lines are filled from this one place only, so that
-// the filling is compiled into the loop and its state is not carried through memory.
+// the filling is compiled into the loop and its state is not carried through memory. `limits` is there for the contract alone, which names
+// the message's segments by them: no line is measured again.
 pub(crate) fn fill(
     class: &[u8; 256],
     kinds: &[u8],

@@ -9,8 +9,8 @@ ghost use lib.Seq.{sets};
 ghost use Rattle.read.specs.inner.Scanning.{plainRun};
 ghost use Rattle.read.specs.inner.Laying.{rowOf, nextLeaf, nextSegment, NextFits, RowFits, Lays, LaidBy};
 
-// How far the pass has come: where the row of the leaf begun goes, behind a row for each leaf closed, the place of that leaf, and where
-// its text begins and ends so far.
+// How far the pass has come: where in the leaf rows the row of the leaf begun goes, behind a row for each leaf closed, the place of that
+// leaf (S5), and where its text begins in the text area and ends so far.
 pub struct Laying {
     pub row: usize,
     pub segment: usize,
@@ -92,7 +92,7 @@ fn copy_text(class: &[u8; 256], message: &[u8], from: usize, text: &mut [u8], ou
     n
 }
 
-// The row of the leaf begun, which is closed here.
+// Writes the row of the leaf begun (T3), whose text is whole.
 pub(crate) fn put_leaf(laying: Laying, leaves: &mut [Entry])
     requires { ⌜ RowFits laying (now leaves) ⌝ }
     ensures { λ _. ⌜ now (leaves .exit) ≡ sets (now (leaves .entry)) (laying .row) (rowOf laying) ⌝ }
@@ -107,7 +107,7 @@ pub(crate) fn put_leaf(laying: Laying, leaves: &mut [Entry])
     leaves[at + rows::LENGTH] = (laying.out - laying.begin) as Entry;
 }
 
-// The pass over a line from `from` on, up to its CR.
+// The pass over a line from `from` on, up to the first byte below 32: of a line without fault its CR.
 pub(crate) fn lay_line(
     class: &[u8; 256],
     message: &[u8],

@@ -23,15 +23,15 @@ mod scan;
 mod start;
 mod survey;
 
-// What comes back: a number, its place, and the card, which is all zero on a refusal.
+// What comes back (rules N1, N3): a number, its place, and the card, which is all zero on a refusal.
 pub struct Answer {
     pub number: u8,
     pub place: usize,
     pub card: Card,
 }
 
-// Reads a message into the three lent buffers: every message of every length, whatever the buffers hold. Buffers under the stated
-// sizes (16,384 bytes, 1,024 and 14,336 numbers) are refused with 1, longer ones are used at their front.
+// Reads a message into the three lent buffers: every message of every length, whatever the buffers hold (N1 to N3). Buffers under the
+// stated sizes (16,384 bytes, 1,024 and 14,336 numbers) are refused with 1, longer ones are used at their front (T7).
 pub fn read(message: &[u8], text: &mut [u8], segments: &mut [Entry], leaves: &mut [Entry]) -> Answer
     ensures { λ r. ⌜ ReadAs form level (now (message .entry)) (now (text .entry)) (now (segments .entry)) (now (leaves .entry))
         r (now (text .exit)) (now (segments .exit)) (now (leaves .exit)) ⌝ }
@@ -49,8 +49,8 @@ pub fn read(message: &[u8], text: &mut [u8], segments: &mut [Entry], leaves: &mu
     )
 }
 
-// The same under any limits whose numbers fit the rows, by any table of levels, with a lent buffer for the kinds: nothing is filled in
-// before all is decided.
+// The same under any limits whose numbers fit the rows, by any table of levels that are below 8, with a lent buffer for the kinds: nothing
+// is filled in before all is decided.
 fn read_within(
     limits: Limits,
     levels: &[u8; 84],
@@ -103,7 +103,7 @@ fn read_within(
     }
 }
 
-// A refusal, with a card that is all zero.
+// A refusal, with a card that is all zero (N3).
 fn refusal(number: u8, place: usize) -> Answer
     ensures { λ r. ⌜ r ≡ answerOf (refused number place) ⌝ }
 {

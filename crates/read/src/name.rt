@@ -1,16 +1,16 @@
-// The name in one field of a segment, packed into one number as its lines come: a name may be cut anywhere.
+// The name in one field of a segment, packed into one number as its lines come: a name may be cut anywhere (A3).
 ghost use mathlib.Core.Path.{_≡_};
 ghost use Prim.Native.Nat.{_≤_, _-_};
 ghost use lib.ListN.{length, take, drop};
 ghost use Rattle.read.specs.inner.Naming.{fresh, withLetter, withByte, withBytes};
 
-// No number of more than three letters is kept: this one stands for them all.
+// Fields of more than three letters are not told apart, since no kind and no context has so many: this number stands for them all.
 const TOO_MANY: u32 = 33554432;
 
 pub struct Name {
-    // field separators up to the end of the field: 1 in the field itself, 0 once no byte can matter
+    // field separators that are to come up to the one that ends the field: 1 in the field itself, 0 once it has ended
     pub left: usize,
-    // 1 and then the letters that the field has so far, as digits to base 256
+    // 1 and then the letters that the field has so far, as digits to base 256, or TOO_MANY
     pub packed: u32,
 }
 
@@ -22,7 +22,7 @@ impl Name {
         Name { left, packed: 1 }
     }
 
-    // The name with one more letter. None has more than three: from the fourth letter on the number stays.
+    // The name with one more letter, which is any byte but a field separator: three are kept, and a fourth makes it TOO_MANY for good.
     pub fn with_letter(self, b: u8) -> Name
         ensures { λ r. ⌜ r ≡ withLetter self b ⌝ }
     {
@@ -54,7 +54,8 @@ impl Name {
     }
 }
 
-// The name once the bytes from `from` up to `end` have come; it stops as soon as no byte can matter.
+// The name once the bytes from `from` up to `end` have come. It stops where the field has ended; in a field of too many letters it goes on
+// to that end, though the number changes no more.
 pub(crate) fn gather(name: Name, field: u8, message: &[u8], from: usize, end: usize) -> Name
     requires { ⌜ (from ≤ end) × (end ≤ length (now message)) ⌝ }
     ensures { λ r. ⌜ r ≡ withBytes field name (take (end - from) (drop from (now (message .entry)))) ⌝ }

@@ -10,7 +10,8 @@ pub struct Scanned {
     pub separators: usize,
 }
 
-// From `from` on up to the first byte below 32, and at most up to `stop`. Most bytes are text: only the others are asked what they are.
+// From `from` on up to the first byte below 32, which has class 5, and at most up to `stop`. Most bytes are text: only the others are asked
+// what they are.
 pub(crate) fn scan(class: &[u8; 256], message: &[u8], from: usize, stop: usize) -> Scanned
     requires { ⌜ (from ≤ stop) × (stop ≤ length (now message)) ⌝ }
     ensures { λ r. ⌜ (r .end ≡ from + run (now (class .entry)) (take (stop - from) (drop from (now (message .entry)))))

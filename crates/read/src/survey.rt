@@ -1,5 +1,5 @@
-// The first pass: every line is judged, segments and leaves are counted, kinds, context and order are looked at. Nothing is written but
-// the kinds, which it notes for the second pass.
+// The first pass: lines are judged up to the first fault, segments and separators are counted, kinds, context and order are looked at.
+// Nothing is written but the kinds, which it notes for the second pass.
 use crate::name::Name;
 use crate::name::gather;
 use crate::scan::scan;
@@ -25,7 +25,7 @@ ghost use Rattle.read.specs.inner.Surveying.{Ready, SurveyOf};
 pub struct Survey {
     // segments begun
     pub segments: usize,
-    // splitting separators, those of the seven header bytes aside
+    // splitting separators, those of the seven header bytes and of the addenda's first two bytes aside
     pub separators: usize,
     // the first closed segment of unknown kind, or 0
     pub unknown: usize,
@@ -33,7 +33,7 @@ pub struct Survey {
     pub misplaced: usize,
     // told the kinds of the closed segments
     pub watcher: Watcher,
-    // the kind of the open segment, and field 7.7 of the first one, as far as they have come
+    // the name of the open segment's kind (S1), and that of the context in field 7 of the first segment (C1), as far as they have come
     pub kind: Name,
     pub context: Name,
 }
@@ -61,11 +61,12 @@ impl Survey {
             unknown: 0,
             misplaced: 0,
             watcher: Watcher::begin(0),
-            // 256 and the letter H, and no byte can matter any more
+            // 1 and the letter H, which is 72; the field has ended
             kind: Name {
                 left: 0,
                 packed: 328,
             },
+            // field 3 begins behind the header bytes, and the fifth field separator ends field 7
             context: Name::fresh(5),
         }
     }
@@ -120,7 +121,7 @@ impl Survey {
         next
     }
 
-    // The watcher, which the first segment's field 7.7 begins.
+    // The watcher, which field 7 of the first segment begins (C1).
     fn watching(self) -> Watcher
         ensures { λ r. ⌜ r ≡ watching self ⌝ }
     {
@@ -143,7 +144,7 @@ impl Survey {
     }
 }
 
-// The kind of the segment with this number is noted, where there is room for it.
+// The kind of the segment with this number is noted, where there is room for it: a message with more segments is refused.
 fn note(kinds: &mut [u8], segment: usize, kind: u8)
     requires { ⌜ 1 ≤ segment ⌝ }
     ensures { λ _. ⌜ now (kinds .exit) ≡ set (now (kinds .entry)) (segment - 1) kind ⌝ }
@@ -184,6 +185,7 @@ fn see_line(
             seen: seen.with_text(separators.field, message, from, end, scanned.separators),
             at: next,
         },
+        // not among the answers of `ended_line`
         Found::End => Step::On { seen, at },
         Found::Fault { number, place } => Step::Fault { number, place },
     }

@@ -1,4 +1,4 @@
--- What an accepted message passed (document 01, "Numbers that come back"): each of the tests 1 to 11, as one record, and the converse.
+-- What an accepted message passed (N2): each of the tests 1 to 11, as one record, and the converse.
 -- Assumes nothing.
 use mathlib.Core.Bool.{Bool, true, false}
 use mathlib.Core.List.{List, [], _∷_}

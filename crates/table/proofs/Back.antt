@@ -1,4 +1,4 @@
--- Turning back (document 01, "Writing"): the leaves of a text give the text again, and the table of segments gives the segments.
+-- Turning back: the leaves of a text give the text again, and the table of segments gives the segments.
 -- Assumes nothing.
 use mathlib.Core.List.{List, [], _∷_, _++_, append-assoc, append-nil, nil≢cons}
 use mathlib.Core.Path.{_≡_, refl, sym, ap, ap₂, _∙_, subst}

@@ -1,4 +1,4 @@
--- Counting leaves: one more than there are separators (document 01, "Segments, leaves and the table").
+-- Counting leaves (S3): one more than there are separators, and of the first segment what S4 makes of it.
 -- Assumes nothing.
 use mathlib.Core.List.{List, [], _∷_, _++_, append-nil}
 use mathlib.Core.Path.{_≡_, refl, sym, ap, ap₂, _∙_}
@@ -43,7 +43,7 @@ pub length-segmentLeaves : (ps : Separators) (n : ℕ) (s : List ℕ) → length
 unfolding segmentLeaves
 length-segmentLeaves ps n s = length-leaves (splitting ps) (n ∷ []) s
 
--- the first H: two leaves, and then one more than separators from byte 7 on
+-- the first H: two leaves, and then one more than separators from the eighth byte on (S4)
 pub length-headerLeaves : (ps : Separators) (h : List ℕ) → length (headerLeaves ps h) ≡ 3 + count (among (splitting ps)) (drop 7 h)
 length-headerLeaves ps h =
     ap length (header-flat ps h)

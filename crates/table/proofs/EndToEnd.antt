@@ -1,4 +1,4 @@
--- Leaf texts lie end to end (document 01, "Segments, leaves and the table") exactly where each row starts where the one before it ends and
+-- Leaf texts lie end to end (T4) exactly where each row starts where the one before it ends and
 -- the last ends with the text.
 -- Assumes nothing.
 use mathlib.Core.Bool.{true}

@@ -1,4 +1,4 @@
--- K1 to K12 hold of the definitions: one table, one theorem, closed by computation.
+-- The worked examples K1 to K12 hold of the definitions: one list, one theorem, closed by computation.
 -- Assumes nothing.
 use mathlib.Core.List.{map}
 use mathlib.Core.Path.{_≡_, refl}

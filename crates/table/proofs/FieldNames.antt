@@ -1,4 +1,4 @@
--- Kinds and contexts by leaves (document 01, "Segments, leaves and the table"): a field that is a name is one leaf, since no separator is
+-- Kinds and contexts by leaves (S1, C1): a field that is a name is one leaf, since no separator is
 -- a capital letter. So a segment's kind and a message's context are known from their leaves as they are from the bytes.
 -- Assumes nothing.
 use mathlib.Core.Bool.{true, false}

@@ -1,5 +1,5 @@
 -- The segments of an accepted message can be filed: the first begins with the seven header bytes, none contains CR, none is empty and
--- none is an addendum (document 01, "Lines").
+-- none is an addendum (H1, L1, A1).
 -- Assumes nothing.
 use mathlib.Core.Bool.{false, _&&_}
 use mathlib.Core.List.{List, [], _∷_, _++_}

@@ -1,4 +1,4 @@
--- Nested and flat splitting agree (document 01, "Segments, leaves and the table"; the model is specs/Flat).
+-- Nested splitting (S2) and flat splitting in one pass (`specs/inner/Flat`) agree.
 -- Assumes nothing.
 use mathlib.Core.Bool.{true, false}
 use mathlib.Core.List.{List, [], _∷_, _++_, append-assoc, append-nil, head-eq-of-cons-eq, tail-eq-of-cons-eq}
@@ -127,7 +127,7 @@ pub segment-flat : (ps : Separators) (n : ℕ) (s : List ℕ)
 unfolding segmentLeaves splitting ones
 segment-flat ps n s = leaves-flat (splitting ps) (n ∷ []) s
 
--- the first two leaves of the H, and its others, which start at byte 7 and at field 3
+-- the first two leaves of the H, and its others, which start at the eighth byte and at field 3 (S4)
 abbrev pub headLeaf : List ℕ → Leaf
 headLeaf h = leaf (1 ∷ 1 ∷ 1 ∷ 1 ∷ 1 ∷ []) (take 1 h)
 

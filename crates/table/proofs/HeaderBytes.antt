@@ -1,4 +1,4 @@
--- The header rule by its seven bytes (document 01, "Header"): a header is sound exactly where the message begins with them.
+-- The header rule by its seven bytes (H1, H2): a header is sound exactly where the message begins with them.
 -- Assumes nothing.
 use mathlib.Core.Bool.{false}
 use mathlib.Core.List.{List, [], _∷_}

@@ -1,4 +1,4 @@
--- Leaf rows and text give the leaves that they were made of (document 01, "Segments, leaves and the table").
+-- Leaf rows (T3) and text area (T4) give the leaves that they were made of.
 -- Assumes nothing.
 use mathlib.Core.List.{List, [], _∷_, _++_, append-assoc}
 use mathlib.Core.Path.{_≡_, refl, sym, ap, ap₂, _∙_}

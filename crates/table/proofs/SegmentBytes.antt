@@ -1,4 +1,4 @@
--- Bytes by leaves (document 01, "Writing"): the bytes of each segment and those written for it, counted from its leaves; and a message's
+-- Bytes by leaves (S3, W1): the bytes of each segment and those written for it, counted from its leaves; and a message's
 -- bytes are all text exactly where its leaves' texts are.
 -- Assumes nothing.
 use mathlib.Core.List.{List, [], _∷_, _++_}

@@ -1,5 +1,5 @@
--- The columns of the segment rows (document 01, "Segments, leaves and the table"): each row of a table has its segment's kind, the owner
--- that document 01 gives it, its first leaf and its leaf count.
+-- The columns of the segment rows (T2): each row of a table has its segment's kind, its owner (O2, O3), the number of its first leaf and its
+-- leaf count.
 -- Assumes nothing.
 use mathlib.Core.List.{List, [], _∷_, _++_, map, reverse}
 use mathlib.Core.Path.{_≡_, refl, sym, ap, _∙_}

@@ -1,4 +1,4 @@
--- The converse for a table (document 01, "Writing"): rows whose leaves are sound are those of the segments that they turn back to.
+-- The converse for a table: rows whose leaves are sound are those of the segments that they turn back to.
 -- Assumes nothing.
 use mathlib.Core.List.{List, [], _∷_, _++_}
 use mathlib.Core.Path.{_≡_, refl, sym, ap, _∙_, subst}

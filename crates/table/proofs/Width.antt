@@ -1,4 +1,4 @@
--- Document 01's numbers fit the rows.
+-- The limits of the message form (T6) fit the rows.
 -- Assumes nothing.
 use native.Mathlib.Omega.{arith}
 use Rattle.form.specs.Limits.{form}

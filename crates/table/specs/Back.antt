@@ -1,5 +1,5 @@
--- From a table back to its message (document 01, "Writing"): between two neighbouring leaves stands exactly one separator, the one
--- that leads from the first place to the second.
+-- From a table back to its segments, and to the lines that it is written in (rules S3 and W1): between two neighbouring leaves stands
+-- exactly one separator, the one that leads from the first place to the second.
 -- Assumes nothing.
 use mathlib.Core.Bool.{true, false}
 use mathlib.Core.List.{List, [], _∷_, _++_}
@@ -23,7 +23,7 @@ leafAt rows text i = record { place = placeIn rows i; text = take (lengthIn rows
 unfoldable pub leavesOf : Table → List Leaf
 leavesOf t = values (leafAt (t .leafRows) (t .text)) 0 (t .card .leaves)
 
--- the separators that a field separator and the text of the second leaf, 7.2, name
+-- the separators (H1) by the field separator and the second leaf, whose text is the other four (S4)
 unfoldable pub separatorsAt : (field : ℕ) (rows text : List ℕ) → Separators
 separatorsAt field rows text =
     record {
@@ -34,7 +34,7 @@ separatorsAt field rows text =
       subsubfield = getD (leafAt rows text 1 .text) 3 0;
     }
 
--- those of a table, whose card has the field separator
+-- those of a table, whose card has the field separator (T5)
 abbrev pub separatorsIn : Table → Separators
 separatorsIn t = separatorsAt (t .card .separator) (t .leafRows) (t .text)
 
@@ -45,7 +45,7 @@ between (p ∷ ps) [] to = p
 between (p ∷ ps) (m ∷ from) [] = p
 between (p ∷ ps) (m ∷ from) (n ∷ to) = elim (eqb m n) [ true ↦ between ps from to | false ↦ p ]
 
--- the text that some leaves come from; CR is one more separator, the coarsest
+-- the text that leaves come from, of which the first is l; then of any leaves
 unfoldable pub unsplitFrom : List ℕ → Leaf → List Leaf → List ℕ
 unsplitFrom ps l [] = l .text
 unsplitFrom ps l (m ∷ ls) = l .text ++ between ps (l .place) (m .place) ∷ unsplitFrom ps m ls
@@ -54,11 +54,11 @@ unfoldable pub unsplit : List ℕ → List Leaf → List ℕ
 unsplit ps [] = []
 unsplit ps (l ∷ ls) = unsplitFrom ps l ls
 
--- the segments of a table
+-- the segments of a table: CR, which no segment has, stands for a separator coarser than the four and parts them
 unfoldable pub segmentsOf : Table → List (List ℕ)
 segmentsOf t = split CR (unsplit (CR ∷ splitting (separatorsIn t)) (leavesOf t))
 
--- the lines that a table is written in, and the bytes
+-- the lines that a table is written in (W1), and the bytes, each line with its CR
 unfoldable pub linesOf : Limits → Table → List (List ℕ)
 linesOf L t = cuts L (t .card .separator) (segmentsOf t)
 

@@ -1,5 +1,5 @@
--- K1 to K12 (document 01, "The listing" and "Examples at the edges"): each message and what reading it gives, as one table.
--- Where document 01 gives no place, the place follows from its table of numbers.
+-- The worked examples K1 to K12: each message and what reading it gives, as one list. Where an example names no place, the place is the
+-- one that N1 gives to its number.
 -- Assumes nothing.
 use mathlib.Core.List.{List, [], _∷_, _++_, map}
 use Prim.Native.Nat.{ℕ}
@@ -18,7 +18,7 @@ pub data Says : Type 0 where
   refuses : (number place : ℕ) → Says
   files : Table → (bytes : ℕ) (lines : List ℕ) → Says
 
--- what reading a message gives, in the same terms
+-- what an outcome gives, in the same terms; and what reading a message does
 unfoldable pub says : Outcome → Says
 says (refused number place) = refuses number place
 says (accepted t) = files t (length (written form t)) (map (λ (s : List ℕ). length (cut form (t .card .separator) s)) (segmentsOf t))
@@ -41,7 +41,7 @@ pub record Example : Type 0 where
   pub message : List ℕ
   pub expected : Says
 
--- K1: the listing of document 01
+-- the table of K1: its counts and its segment rows are those of K1's listing (G1)
 unfoldable pub k1 : Table
 k1 =
     filed 6 5 24 41
@@ -78,7 +78,7 @@ k1 =
     ∷ [])
     (bytes "H~^\\&LABORUP1DUPONTJEANOBR1OBX1NMGLY1.2L1")
 
--- K5, 219: header line of 219 bytes passes the line rule
+-- the table of K5 with a first line of 219 bytes
 unfoldable pub k5 : Table
 k5 =
     filed 6 5 25 242
@@ -116,7 +116,7 @@ k5 =
     ∷ [])
     (bytes "H~^\\&LABORU" ++ replicate 201 120 ++ bytes "P1DUPONTJEANOBR1OBX1NMGLY1.2L1")
 
--- K6, ORM: H, P, OBR, L: accepted in ORM
+-- the table of K6 in ORM
 unfoldable pub k6 : Table
 k6 =
     filed 2 4 13 19
@@ -141,7 +141,7 @@ k6 =
     ∷ [])
     (bytes "H~^\\&LABORMP1OBR1L1")
 
--- K10: ADM with H, P, C, AP, AC, L: owners 0, 1, 2, 2, 4, 0
+-- the table of K10: the AP behind the C is owned by the P, since a C owns nothing (O3)
 unfoldable pub k10 : Table
 k10 =
     filed 1 6 17 23
@@ -172,7 +172,7 @@ k10 =
     ∷ [])
     (bytes "H~^\\&LABADMP1C1AP1AC1L1")
 
--- K11: ORA with H, P, AP, AC, AC, OBR, L: OBR's owner is 5
+-- the table of K11: the OBR is owned by the last AC before it (O2)
 unfoldable pub k11 : Table
 k11 =
     filed 3 7 19 28
@@ -206,7 +206,7 @@ k11 =
     ∷ [])
     (bytes "H~^\\&LABORAP1AP1AC1AC2OBR1L1")
 
--- K12: segments of 219, 220, 436, 437 bytes: 1, 2, 2, 3 lines (rows 2 to 5; with H and L 10 lines)
+-- the table of K12
 unfoldable pub k12 : Table
 k12 =
     filed 5 6 17 1321
@@ -237,37 +237,43 @@ k12 =
     ∷ [])
     (bytes "H~^\\&LABERRERR" ++ replicate 215 97 ++ bytes "ERR" ++ replicate 216 98 ++ bytes "ERR" ++ replicate 432 99 ++ bytes "ERR" ++ replicate 433 100 ++ bytes "L1")
 
--- the examples
+-- the examples, each with its message and what it says
 unfoldable pub examples : List Example
 examples =
-    -- K1: the listing of document 01
+    -- K1: a patient, an order and one result, in ORU
     record { message = bytes "H|~^\\&|||LAB||ORU\rP|1||||DUPONT~JEAN\rOBR|1\rOBX|1|NM|GLY||1.2\rL|1\r"; expected = files k1 65 (1 ∷ 1 ∷ 1 ∷ 1 ∷ 1 ∷ []) }
-    -- K2: no bytes: 3
+    -- K2: nothing at all is no header
     ∷ record { message = []; expected = refuses 3 0 }
-    -- K3: H(ORU), P, OBX, L: 10 at 3
+    -- K3: in ORU no OBX follows a P
     ∷ record { message = bytes "H|~^\\&|||LAB||ORU\rP|1\rOBX|1\rL|1\r"; expected = refuses 10 3 }
-    -- K4: K1 without L: 10 at 5
+    -- K4: K1 breaks off before its L, so the place is one past its last segment
     ∷ record { message = bytes "H|~^\\&|||LAB||ORU\rP|1||||DUPONT~JEAN\rOBR|1\rOBX|1|NM|GLY||1.2\r"; expected = refuses 10 5 }
-    -- K5, 219: header line of 219 bytes passes the line rule
+    -- K5: a first line of 219 bytes is not too long (L3)
     ∷ record { message = bytes "H|~^\\&|||LAB||ORU|" ++ replicate 201 120 ++ bytes "\rP|1||||DUPONT~JEAN\rOBR|1\rOBX|1|NM|GLY||1.2\rL|1\r"; expected = files k5 267 (1 ∷ 1 ∷ 1 ∷ 1 ∷ 1 ∷ []) }
-    -- K5, 220: of 220: 5 at 219
+    -- and one of 220 is
     ∷ record { message = bytes "H|~^\\&|||LAB||ORU|" ++ replicate 202 120 ++ bytes "\rP|1||||DUPONT~JEAN\rOBR|1\rOBX|1|NM|GLY||1.2\rL|1\r"; expected = refuses 5 219 }
-    -- K6, ORM: H, P, OBR, L: accepted in ORM
+    -- K6: an order with no result stands in ORM
     ∷ record { message = bytes "H|~^\\&|||LAB||ORM\rP|1\rOBR|1\rL|1\r"; expected = files k6 32 (1 ∷ 1 ∷ 1 ∷ 1 ∷ []) }
-    -- K6, ORU: 10 at 4 in ORU
+    -- and not in ORU, where the L comes too early
     ∷ record { message = bytes "H|~^\\&|||LAB||ORU\rP|1\rOBR|1\rL|1\r"; expected = refuses 10 4 }
-    -- K7: OB, CR, A|R|1 is OBR|1: the table is K1's
+    -- K7: K1 with its OBR cut inside the name (A3): the table is the same
     ∷ record { message = bytes "H|~^\\&|||LAB||ORU\rP|1||||DUPONT~JEAN\rOB\rA|R|1\rOBX|1|NM|GLY||1.2\rL|1\r"; expected = files k1 65 (1 ∷ 1 ∷ 1 ∷ 1 ∷ 1 ∷ []) }
-    -- K8: A, CR with no addendum after it, else sound: 8
+    -- K8: in K1 a line that is `A` alone: a segment (A2), and of unknown kind
     ∷ record { message = bytes "H|~^\\&|||LAB||ORU\rP|1||||DUPONT~JEAN\rOBR|1\rOBX|1|NM|GLY||1.2\rA\rL|1\r"; expected = refuses 8 5 }
-    -- K9, C: C after L: 10
+    -- K9: no C follows the L (C3)
     ∷ record { message = bytes "H|~^\\&|||LAB||ORU\rP|1||||DUPONT~JEAN\rOBR|1\rOBX|1|NM|GLY||1.2\rL|1\rC|1\r"; expected = refuses 10 6 }
-    -- K9, A: A| after L: accepted; the table is K1's
+    -- but an addendum does, here an empty one: the table is that of K1
     ∷ record { message = bytes "H|~^\\&|||LAB||ORU\rP|1||||DUPONT~JEAN\rOBR|1\rOBX|1|NM|GLY||1.2\rL|1\rA|\r"; expected = files k1 65 (1 ∷ 1 ∷ 1 ∷ 1 ∷ 1 ∷ []) }
-    -- K10: ADM with H, P, C, AP, AC, L: owners 0, 1, 2, 2, 4, 0
+    -- K10: in ADM, with a C behind the P
     ∷ record { message = bytes "H|~^\\&|||LAB||ADM\rP|1\rC|1\rAP|1\rAC|1\rL|1\r"; expected = files k10 40 (1 ∷ 1 ∷ 1 ∷ 1 ∷ 1 ∷ 1 ∷ []) }
-    -- K11: ORA with H, P, AP, AC, AC, OBR, L: OBR's owner is 5
+    -- K11: in ORA, with two AC before the OBR
     ∷ record { message = bytes "H|~^\\&|||LAB||ORA\rP|1\rAP|1\rAC|1\rAC|2\rOBR|1\rL|1\r"; expected = files k11 47 (1 ∷ 1 ∷ 1 ∷ 1 ∷ 1 ∷ 1 ∷ 1 ∷ []) }
-    -- K12: segments of 219, 220, 436, 437 bytes: 1, 2, 2, 3 lines (rows 2 to 5; with H and L 10 lines)
-    ∷ record { message = bytes "H|~^\\&|||LAB||ERR\rERR|" ++ replicate 215 97 ++ bytes "\rERR|" ++ replicate 215 98 ++ bytes "\rA|b\rERR|" ++ replicate 215 99 ++ bytes "\rA|" ++ replicate 217 99 ++ bytes "\rERR|" ++ replicate 215 100 ++ bytes "\rA|" ++ replicate 217 100 ++ bytes "\rA|d\rL|1\r"; expected = files k12 1350 (1 ∷ 1 ∷ 2 ∷ 2 ∷ 3 ∷ 1 ∷ []) }
+    -- K12: in ERR, the rows 2 to 5 are segments of 219, 220, 436 and 437 bytes, which take 1, 2, 2 and 3 lines (W2)
+    ∷ record {
+      message =
+          bytes "H|~^\\&|||LAB||ERR\rERR|" ++ replicate 215 97
+          ++ bytes "\rERR|" ++ replicate 215 98 ++ bytes "\rA|b\rERR|" ++ replicate 215 99 ++ bytes "\rA|" ++ replicate 217 99
+          ++ bytes "\rERR|" ++ replicate 215 100 ++ bytes "\rA|" ++ replicate 217 100 ++ bytes "\rA|d\rL|1\r";
+      expected = files k12 1350 (1 ∷ 1 ∷ 2 ∷ 2 ∷ 3 ∷ 1 ∷ []);
+    }
     ∷ []

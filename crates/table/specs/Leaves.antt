@@ -1,4 +1,4 @@
--- Fields, repetitions, subfields, sub-subfields and leaves (document 01, "Segments, leaves and the table").
+-- The leaves of segments (rules S2, S4 and S5), and what two of their fields name: the kind (S1) and the context (C1).
 -- Assumes nothing.
 use mathlib.Core.Bool.{true, false}
 use mathlib.Core.List.{List, [], _∷_, _++_}
@@ -15,18 +15,18 @@ unfoldable pub onto : ℕ → List (List ℕ) → List (List ℕ)
 onto b [] = (b ∷ []) ∷ []
 onto b (t ∷ ts) = (b ∷ t) ∷ ts
 
--- the parts of a text between the separators p: one more than there are separators, empty ones included
+-- the parts of a text between the bytes p: one more than there are such bytes, empty ones included
 unfoldable pub split : ℕ → List ℕ → List (List ℕ)
 split p [] = [] ∷ []
 split p (b ∷ s) = elim (eqb b p) [ true ↦ [] ∷ split p s | false ↦ onto b (split p s) ]
 
--- a leaf: its place (segment, field, repetition, subfield, sub-subfield) and its text
+-- a leaf: its text, and its place (S5): segment, field, repetition, subfield, sub-subfield
 pub record Leaf : Type 0 where
   pub place : List ℕ
   pub text : List ℕ
 
--- "A segment splits into fields, a field into repetitions, a repetition into subfields, a subfield into sub-subfields. The last
--- are the leaves": by each separator in turn, the coarsest first, the parts numbered from 1; `place` is what has been numbered so far
+-- the leaves of a text under some separators, the coarsest first (S2): split by the first, each part by the others, the parts numbered
+-- from 1; `place` holds the numbers of the parts that the text stands in
 unfoldable pub leaves : List ℕ → List ℕ → List ℕ → List Leaf
 leaves [] place s = record { place = place; text = s } ∷ []
 leaves (p ∷ finer) place s = numbered (λ n part. leaves finer (place ++ (n ∷ [])) part) 1 (split p s)
@@ -35,14 +35,14 @@ leaves (p ∷ finer) place s = numbered (λ n part. leaves finer (place ++ (n �
 unfoldable pub segmentLeaves : Separators → ℕ → List ℕ → List Leaf
 segmentLeaves ps n s = leaves (splitting ps) (n ∷ []) s
 
--- "Exception: in the first H, field 1 is `H`, field 2 is one leaf of the four bytes 2 to 5, and field 3 starts at byte 7."
+-- those of the first segment (S4): its letter, the four separators behind the first, and from the eighth byte on fields that count from 3
 unfoldable pub headerLeaves : Separators → List ℕ → List Leaf
 headerLeaves ps s =
     record { place = 1 ∷ 1 ∷ 1 ∷ 1 ∷ 1 ∷ []; text = take 1 s }
     ∷ record { place = 1 ∷ 2 ∷ 1 ∷ 1 ∷ 1 ∷ []; text = take 4 (drop 2 s) }
     ∷ numbered (λ n part. leaves (drop 1 (splitting ps)) (1 ∷ n ∷ []) part) 3 (split (ps .field) (drop 7 s))
 
--- the leaves of each segment of a message: the first is the H, the others count from 2
+-- the leaves of each of some segments, the first of which has the number n; and of each segment of a message, the first of which is the H
 unfoldable pub leavesFrom : Separators → ℕ → List (List ℕ) → List (List Leaf)
 leavesFrom ps n [] = []
 leavesFrom ps n (s ∷ ss) = segmentLeaves ps n s ∷ leavesFrom ps (suc n) ss
@@ -51,10 +51,10 @@ unfoldable pub messageLeaves : Separators → List (List ℕ) → List (List Lea
 messageLeaves ps [] = []
 messageLeaves ps (h ∷ ss) = headerLeaves ps h ∷ leavesFrom ps 2 ss
 
--- "A kind is the bytes before the first field separator, or the whole segment."
+-- the kind of a segment by number, 0 where it is unknown: its first field names it (S1)
 unfoldable pub kindOfSegment : Separators → List ℕ → ℕ
 kindOfSegment ps s = kindOf (getD (split (ps .field) s) 0 [])
 
--- "The whole of field 7.7 names the context": field 7 of H, the fifth from byte 7 on; no text where it is missing
+-- the context that the first segment names, or 0 (C1): by its field 7, the fifth from the eighth byte on, and no text where that is missing
 unfoldable pub contextOfHeader : Separators → List ℕ → ℕ
 contextOfHeader ps h = contextOf (getD (split (ps .field) (drop 7 h)) 4 [])

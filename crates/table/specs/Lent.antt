@@ -1,4 +1,4 @@
--- A table as a caller lends it: a card and three buffers, whatever they hold (document 01, "Numbers that come back").
+-- A table as a caller lends it: a card and three buffers, whatever they hold (rules T5 to T7, W4).
 -- Assumes nothing.
 use mathlib.Core.Bool.{Bool, _&&_}
 use mathlib.Core.List.{List}
@@ -10,6 +10,7 @@ use Rattle.form.specs.declared.limits.Limits.{Limits}
 use Rattle.table.specs.declared.Card.{Card}
 use Rattle.table.specs.Rows.{Table, segmentRowSize, leafRowSize}
 
+-- the card and the buffers; and the same from its four parts
 pub record Lent : Type 0 where
   pub card : Card
   pub segmentRows : List ℕ
@@ -19,7 +20,7 @@ pub record Lent : Type 0 where
 abbrev pub lent : Card → (segmentRows leafRows text : List ℕ) → Lent
 lent card segmentRows leafRows text = record { card = card; segmentRows = segmentRows; leafRows = leafRows; text = text }
 
--- whether a card's counts keep to the limits; whether its rows and its text fit buffers of these lengths
+-- whether a card's counts keep to the limits (T6); whether its rows and its text fit buffers of these lengths
 unfoldable pub withinLimits : Limits → Card → Bool
 withinLimits L c = leb (c .segments) (L .segments) && leb (c .leaves) (L .leaves) && leb (c .text) (L .bytes)
 
@@ -31,7 +32,7 @@ countsFit c segmentRows leafRows text =
 abbrev pub withinBuffers : Lent → Bool
 withinBuffers l = countsFit (l .card) (length (l .segmentRows)) (length (l .leafRows)) (length (l .text))
 
--- the table that the card counts: entries past the counted ones do not belong to it
+-- the table that the card counts: entries past the counted ones do not belong to it (T7)
 unfoldable pub counted : Lent → Table
 counted l =
     record {

@@ -1,4 +1,4 @@
--- The outcome of reading a message (document 01, "Numbers that come back"): accepted with its table, or one number and one place.
+-- The outcome of reading a message (rules N1, N2 and N4): accepted with its table, or one number and one place.
 -- Assumes nothing.
 use mathlib.Core.Bool.{Bool, true, false, _||_}
 use mathlib.Core.List.{List}
@@ -22,6 +22,7 @@ pub record Room : Type 0 where
   pub segmentRows : ℕ
   pub leafRows : ℕ
 
+-- what reading comes to: a refusal with its number and its place, or the table
 pub data Outcome : Type 0 where
   refused : (number place : ℕ) → Outcome
   accepted : Table → Outcome
@@ -34,22 +35,23 @@ refuseIf false number else = else
 unfoldable pub refuseAt : ℕ → ℕ → Outcome → Outcome
 refuseAt place number else = elim (eqb place 0) [ true ↦ else | false ↦ refused number place ]
 
--- buffers of the stated sizes
+-- the least buffers that are not short (N1)
 unfoldable pub stated : Limits → Room
 stated L = record { text = L .bytes; segmentRows = L .segments * segmentRowSize; leafRows = L .leaves * leafRowSize }
 
--- whether one of the buffers is under its stated size
+-- whether one of the buffers is short (N1)
 unfoldable pub short : Limits → Room → Bool
 short L room =
     ltb (room .text) (L .bytes)
     || ltb (room .segmentRows) (L .segments * segmentRowSize)
     || ltb (room .leafRows) (L .leaves * leafRowSize)
 
--- "unknown kind", the "first such segment", or 0
+-- the number of the first segment whose kind is unknown (S1), or 0 where there is none
 unfoldable pub firstUnknown : List ℕ → ℕ
 firstUnknown kinds = firstFrom (eqb 0) 1 kinds
 
--- tests 7 to 11, on the joined segments alone
+-- the tests 7 to 11 (N2), on the joined segments alone (N4); `misplaced` is the place of number 10, which `misplaced-means`
+-- (order/proofs/Misplaced.antt) says by the grammar
 unfoldable pub judged : Limits → (ℕ → ℕ → ℕ) → Separators → List (List ℕ) → Outcome
 judged L levels ps segments =
     refuseIf (ltb (L .segments) (length segments)) manySegments
@@ -59,7 +61,7 @@ judged L levels ps segments =
     (refuseIf (ltb (L .leaves) (length (allLeaves ps segments))) manyLeaves
     (accepted (tableOf levels ps segments))))))
 
--- "then 4, 5, 6 by whichever lies first; then 7 to 11"
+-- what follows the test of the header: the first fault of the lines refuses (L6), else the tests 7 to 11 decide
 unfoldable pub ofMessage : Limits → (ℕ → ℕ → ℕ) → List ℕ → Separators → Outcome
 ofMessage L levels message ps =
     elim (eqb (faultNumber (walk L message)) 0) [
@@ -67,7 +69,7 @@ ofMessage L levels message ps =
       | false ↦ refused (faultNumber (walk L message)) (faultPlace (walk L message))
     ]
 
--- "The reader tests 1, 2, 3"
+-- all tests in their turn (N2): of the buffers, of the message's length, of its header, and those that follow
 unfoldable pub reading : Limits → (ℕ → ℕ → ℕ) → Room → List ℕ → Outcome
 reading L levels room message =
     refuseIf (short L room) shortBuffer

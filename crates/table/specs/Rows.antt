@@ -1,4 +1,4 @@
--- Segment rows, leaf rows, text and card (document 01, "Segments, leaves and the table").
+-- The table of joined segments (rules T1 to T5): card, segment rows, leaf rows, text area; and the row of each segment.
 -- Assumes nothing.
 use mathlib.Core.List.{List, [], _∷_, _++_, map, reverse}
 use mathlib.Core.Path.{_≡_}
@@ -10,18 +10,18 @@ use Rattle.order.specs.Owners.{owner, owners}
 use Rattle.table.specs.declared.Card.{Card}
 use Rattle.table.specs.Leaves.{Leaf, kindOfSegment, contextOfHeader, messageLeaves}
 
--- how many numbers a segment row and a leaf row have
+-- how many numbers a segment row (T2) and a leaf row (T3) have
 abbrev pub segmentRowSize : ℕ
 segmentRowSize = 4
 
 abbrev pub leafRowSize : ℕ
 leafRowSize = 7
 
--- every number of a row is below this
+-- every number of a row is below this: it is 16 bits wide (T1)
 abbrev pub width : ℕ
 width = 65536
 
--- a segment's row: its kind, its owner (a row number, or 0), its first leaf, its leaf count
+-- a segment's row (T2): its kind, its owner (a row's number, or 0), the number of its first leaf, its leaf count
 abbrev pub segmentRow : (kind owner first count : ℕ) → List ℕ
 segmentRow kind owner first count = kind ∷ owner ∷ first ∷ count ∷ []
 
@@ -45,7 +45,7 @@ pub record RowIs (rows : List ℕ) (i kind owner first count : ℕ) : Type 0 whe
   pub first-is : firstIn rows i ≡ first
   pub count-is : countIn rows i ≡ count
 
--- a leaf's row: the five numbers of its place, then the start and the length of its text; the columns in row i of the leaf rows
+-- the columns of a leaf's row (T3), in row i of the leaf rows, counted from 0: segment and field, the whole place, start and length of the text
 abbrev pub segmentIn : List ℕ → ℕ → ℕ
 segmentIn rows i = getD rows (i * leafRowSize) 0
 
@@ -61,7 +61,7 @@ startIn rows i = getD rows (i * leafRowSize + 5) 0
 abbrev pub lengthIn : List ℕ → ℕ → ℕ
 lengthIn rows i = getD rows (i * leafRowSize + 6) 0
 
--- a table: its card, the counted entries of its three buffers
+-- a table (T1): its card, and the counted entries of its three buffers
 pub record Table : Type 0 where
   pub card : Card
   pub segmentRows : List ℕ
@@ -94,7 +94,7 @@ segmentRowsFrom n (k ∷ ks) (o ∷ os) (l ∷ ls) =
 abbrev pub segmentRowsOf : (kinds owners : List ℕ) (leaves : List (List Leaf)) → List ℕ
 segmentRowsOf kinds owners leaves = segmentRowsFrom noneBefore kinds owners leaves
 
--- the leaf rows: texts lie end to end in the text area, without separators
+-- the rows of leaves (T3) whose texts stand one behind the other from `start` on, and the text area that these texts make (T4)
 unfoldable pub leafRowsFrom : ℕ → List Leaf → List ℕ
 leafRowsFrom start [] = []
 leafRowsFrom start (l ∷ ls) = l .place ++ (start ∷ length (l .text) ∷ leafRowsFrom (start + length (l .text)) ls)
@@ -103,19 +103,19 @@ unfoldable pub textOf : List Leaf → List ℕ
 textOf [] = []
 textOf (l ∷ ls) = l .text ++ textOf ls
 
--- the kinds of joined segments
+-- the kinds of joined segments (S1)
 unfoldable pub kindsOf : Separators → List (List ℕ) → List ℕ
 kindsOf ps segments = map (kindOfSegment ps) segments
 
--- the context that joined segments name, or 0
+-- the context that joined segments name, or 0 (C1)
 unfoldable pub contextIn : Separators → List (List ℕ) → ℕ
 contextIn ps segments = contextOfHeader ps (getD segments 0 [])
 
--- all leaves of joined segments
+-- all leaves of joined segments (S2)
 unfoldable pub allLeaves : Separators → List (List ℕ) → List Leaf
 allLeaves ps segments = concat (messageLeaves ps segments)
 
--- the table of joined segments; `levels` gives each context's levels of kinds
+-- the table of joined segments; `levels` gives the level of a kind in a context (O1)
 unfoldable pub tableOf : (ℕ → ℕ → ℕ) → Separators → List (List ℕ) → Table
 tableOf levels ps segments =
     record {

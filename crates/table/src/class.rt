@@ -4,8 +4,8 @@ ghost use mathlib.Core.Path.{_≡_};
 ghost use Prim.Native.Nat.{_<_};
 ghost use Rattle.table.specs.inner.Classes.{classesOver};
 
-// The classes under these separators, set in a lent table, whose other entries stay: 1 to 4 the splitting separators, the coarsest first,
-// 5 below 32. The finest is set first, so that of two that are the same byte the coarser counts. Over zeros, 0 is text.
+// The classes under these separators, set in a lent table, whose other entries stay: 1 to 4 the splitting separators (S2), the coarsest
+// first, 5 below 32. The finest is set first, so that of two that are the same byte the coarser counts. Over zeros, 0 is text.
 pub fn set_classes(class: &mut [u8; 256], separators: Separators)
     ensures { λ _. ⌜ now (class .exit) ≡ classesOver separators (now (class .entry)) ⌝ }
 {
@@ -20,7 +20,7 @@ pub fn set_classes(class: &mut [u8; 256], separators: Separators)
     }
 }
 
-// A byte as an index.
+// A byte as an index: it is below 256.
 pub fn index(b: u8) -> usize
     ensures { λ r. ⌜ (r ≡ b) × (r < 256) ⌝ }
 {

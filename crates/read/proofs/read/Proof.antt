@@ -1,4 +1,4 @@
--- `read::read` meets its contract: document 01's limits and levels.
+-- `read::read` meets its contract: the limits (T6) and the levels (O1) of the message form.
 -- Assumes nothing.
 use mathlib.Core.Path.{subst⁻¹}
 use Prim.Native.Nat.{_≤_}

@@ -1,4 +1,4 @@
--- Deciding, tests 1 to 11: what it comes to, which outcome that stands for, and what filling may then count on.
+-- Deciding, the tests 1 to 11 (N2): what it comes to, which outcome that stands for, and what filling may then count on.
 -- Assumes nothing.
 use mathlib.Core.Bool.{Bool, true, false}
 use mathlib.Core.List.{List}
@@ -93,7 +93,7 @@ pub record HeaderPassed (L : Limits) (ps : Separators) (message class kinds : Li
   pub header : headerOf message ≡ Sound ps
   pub bytes : length message ≤ L .bytes
 
--- what reading asks: limits that fit the rows, levels below the place above all levels, and room to note the kinds
+-- what reading asks: limits that fit the rows, levels below the number above all levels, and room to note the kinds
 pub record ReadsWithin (L : Limits) (levels kinds : List ℕ) : Type 0 where
   pub fits : FitsRows L
   pub below : LevelsBelow (levelIn levels)

@@ -1,4 +1,4 @@
--- The name in one field of a segment, packed byte by byte (the executable side of "kinds are judged after joining").
+-- The name in one field of a segment, packed byte by byte as its lines come, since a name may be cut anywhere (A3).
 -- Assumes nothing.
 use mathlib.Core.Bool.{true, false}
 use mathlib.Core.List.{List, [], _∷_}
@@ -11,7 +11,7 @@ use Rattle.read.specs.declared.name.Name.{Name}
 unfoldable pub fresh : ℕ → Name
 fresh left = record { left = left; packed = 1 }
 
--- one more letter of the field: three are kept, and no name has a fourth
+-- one more letter of the field: three are kept, and one number stands for all fields with more, since no kind or context has a fourth
 unfoldable pub withLetter : Name → ℕ → Name
 withLetter l b =
     elim (ltb (l .packed) 16777216) [
@@ -19,7 +19,7 @@ withLetter l b =
       | false ↦ record { left = l .left; packed = tooMany }
     ]
 
--- one more byte of the segment
+-- one more byte of the segment, and some more: none changes anything once the field has ended
 unfoldable pub withByte : ℕ → Name → ℕ → Name
 withByte field l b =
     elim (eqb (l .left) 0) [

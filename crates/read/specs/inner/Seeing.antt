@@ -51,7 +51,7 @@ kindSeen s = packedAmong kindNames (s .kind .packed)
 abbrev pub contextSeen : Survey → ℕ
 contextSeen s = packedAmong contextNames (s .context .packed)
 
--- the watcher that is told the open segment's kind: the first segment's field 7.7 begins it
+-- the watcher that is told the open segment's kind: field 7 of the first segment begins it (C1)
 unfoldable pub watching : Survey → Watcher
 watching s = elim (eqb (s .segments) 1) [ true ↦ begun (contextSeen s) | false ↦ s .watcher ]
 

@@ -50,7 +50,7 @@ pub record ClosedBy (f : Filling) (kind : ℕ) (levels : List ℕ) (context : �
 abbrev pub begunAfter : Filling → Filling
 begunAfter f = record { laying = nextSegment (f .laying); first = f .laying .row / leafRowSize + 2 }
 
--- the first two leaves of the H: of a message that begins with the bytes of these separators
+-- the first two leaves (S4), of a message that begins with the bytes of these separators
 pub record HeaderPut (ps : Separators) (text leaves : List ℕ) (r : Filling) (text′ leaves′ : List ℕ) : Type 0 where
   pub held : Held text leaves (headerPass ps) (r .laying) text′ leaves′
   pub counted : PlaceCounted (r .laying)
@@ -95,7 +95,7 @@ pub record Begun
   pub rows : segments ≡ sets segments₀ 0 (closedRows lv ps done)
   pub known : nearest ≡ knownAfter lv noRows 1 (kindsOf ps done)
 
--- the form's limits, and the three buffers as they came
+-- the limits, and the three buffers as they came
 pub record Came : Type 0 where
   pub limits : Limits
   pub text : List ℕ

@@ -1,4 +1,4 @@
--- Where the text of a line begins that is joined to its segment (document 01, "Addendum").
+-- Where the text of a line begins that is joined to its segment: behind the first two bytes of an addendum (A1).
 -- Assumes nothing.
 use mathlib.Core.Bool.{true, false}
 use mathlib.Core.List.{List}

@@ -1,4 +1,4 @@
--- What the first pass comes to (the executable side of tests 4 to 11): a line's fault, or what is known of the joined segments.
+-- What the first pass comes to (by which the tests 4 to 11 are made): a line's fault, or what is known of the joined segments.
 -- Assumes nothing.
 use mathlib.Core.Bool.{true, false}
 use mathlib.Core.List.{List}

@@ -1,5 +1,5 @@
--- What the leaves of all segments say of each segment (document 01, "Segments, leaves and the table"): its leaves, its kind, its context
--- and its bytes, with no segment turned back to text. Each is found leaf by leaf, with a look at the next one.
+-- What the leaves of all segments say of each segment: its leaves, its kind (S1), the context (C1) and its bytes (S3, W2), with no segment
+-- turned back to text. Each is found leaf by leaf, with a look at the next one.
 -- Assumes nothing.
 use mathlib.Core.Bool.{Bool, true, false}
 use mathlib.Core.List.{List, [], _∷_}
@@ -52,10 +52,10 @@ kindAmong ls = numberOfField kindNames 1 ls
 unfoldable pub contextAmong : List (List Leaf) → ℕ
 contextAmong groups = numberOfField contextNames 7 (getD groups 0 [])
 
--- "a segment has one leaf more than it has separators": its bytes are its leaves' texts and its separators
+-- a segment's bytes: the texts of its leaves, and its separators, one fewer than leaves (S3)
 unfoldable pub segmentBytes : List Leaf → ℕ
 segmentBytes ls = length (textOf ls) + (length ls - 1)
 
--- the bytes that are written for it: its own, a CR for each line, and `A` and separator for each line but the first
+-- the bytes that are written for it (W1): its own, a CR for each line, and `A` and separator for each line but the first
 unfoldable pub writtenBytes : Limits → List Leaf → ℕ
 writtenBytes L ls = segmentBytes ls + 3 * lineCount L (segmentBytes ls) - 2

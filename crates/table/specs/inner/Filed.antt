@@ -1,4 +1,5 @@
--- Segments that can be filed and turned back: what the lines and the header rule leave of any message (document 01, "Lines", "Header").
+-- Segments that can be filed and turned back: what the rules of lines and header (L1, H1) say of the segments of a message that
+-- keeps to them.
 -- Assumes nothing.
 use mathlib.Core.List.{List, [], _∷_}
 use mathlib.Core.Path.{_≡_}
@@ -9,7 +10,7 @@ use Rattle.form.specs.declared.separators.Separators.{Separators}
 use Rattle.line.specs.Lines.{CR}
 use Rattle.table.specs.inner.Flat.{Without}
 
--- "Byte 0 is `H`. Bytes 1 to 5 are the separators: field, subfield, repeater, escape, sub-subfield. Byte 6 is the field separator again."
+-- the seven bytes that a message with these separators begins with (H1)
 unfoldable pub headerBytes : Separators → List ℕ
 headerBytes ps =
     72 ∷ ps .field ∷ ps .subfield ∷ ps .repeater ∷ ps .escape ∷ ps .subsubfield ∷ ps .field ∷ []

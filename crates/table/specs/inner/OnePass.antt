@@ -1,5 +1,5 @@
--- One pass over a whole message (a model of its leaves): the first two leaves of the H are given, then the pass goes over the glued
--- segments from byte 7 on.
+-- One pass over a whole message (a model of its leaves): the first two leaves are given, then the pass goes over the glued
+-- segments from the eighth byte on.
 -- Assumes nothing.
 use mathlib.Core.List.{List, [], _∷_}
 use Prim.Native.Nat.{ℕ}
@@ -10,7 +10,7 @@ use Rattle.line.specs.Lines.{CR}
 use Rattle.table.specs.inner.Flat.{leaf, glued, Pass, steps}
 use Rattle.table.specs.inner.Filed.{headerBytes}
 
--- "field 1 is `H`, field 2 is one leaf of the four bytes 2 to 5, and field 3 starts at byte 7"
+-- the pass behind the header (S4): two leaves closed, and the third begun, which is field 3
 unfoldable pub headerPass : Separators → Pass
 headerPass ps =
     record {

@@ -1,4 +1,4 @@
--- Leaves that come from a text (document 01, "Writing"): what a writer asks of rows, of each leaf and its neighbour alone.
+-- Leaves that come from a text (S2, S3): what the writer asks of rows, of each leaf and its neighbour alone.
 -- Assumes nothing.
 use mathlib.Core.Bool.{Bool, true, false, _&&_}
 use mathlib.Core.List.{List, [], _∷_}

@@ -1,4 +1,4 @@
--- `Survey::begin` meets its contract: the watcher begins with no context, and field 7.7 with no letter.
+-- `Survey::begin` meets its contract: the watcher begins with no context, and the name in field 7 of the first segment with no letter.
 -- Assumes nothing.
 use borrow.Author.Needs.{needs}
 use mathlib.Core.Path.{ap₂}

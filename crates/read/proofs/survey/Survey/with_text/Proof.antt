@@ -1,4 +1,4 @@
--- `Survey::with_text` meets its contract: the letters of the kind, and on the first segment those of field 7.7, are gathered on.
+-- `Survey::with_text` meets its contract: the letters of the kind, and on the first segment those of the context, are gathered on.
 -- Assumes nothing.
 use borrow.Author.Needs.{needs}
 use Prim.Native.Nat.{_-_}
