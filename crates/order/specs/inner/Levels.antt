@@ -1,4 +1,4 @@
--- Levels as one table of numbers (document 01, "The seven contexts"), for any levels of contexts and kinds.
+-- Levels (rule O1) as one table of numbers, for any levels of contexts and kinds.
 -- Assumes nothing.
 use mathlib.Core.Bool.{true, false, _&&_}
 use mathlib.Core.List.{List}
