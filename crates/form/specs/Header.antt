@@ -18,7 +18,7 @@ within low high b = leb low b && leb b high
 unfoldable pub allowed : ℕ → Bool
 allowed b = within 33 126 b && not (within 65 90 b) && not (within 97 122 b) && not (within 48 57 b)
 
--- whether all of some bytes may
+-- whether each of some bytes may be one (H2)
 unfoldable pub allAllowed : List ℕ → Bool
 allAllowed [] = true
 allAllowed (b ∷ s) = allowed b && allAllowed s

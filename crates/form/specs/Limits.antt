@@ -1,5 +1,5 @@
--- The limits of a message form (rules L3, L5 and T6) and its line counts (rule W2). Every definition and law takes a form's limits as
--- a parameter.
+-- The limits of a message form (rules L3, L5 and T6) and its line counts (rule W2). Definitions and laws take the limits as a parameter;
+-- what the contract of a public function cites is at `form`.
 -- Assumes nothing.
 use mathlib.Core.Bool.{true, false, _&&_}
 use mathlib.Core.Path.{_≡_}

@@ -45,7 +45,7 @@ foundFrom most at (b ∷ s) =
 abbrev pub foundAt : Limits → List ℕ → ℕ → Found
 foundAt L message at = foundFrom (L .line) at (drop at message)
 
--- the part of a lent message that a line found at `at` is, without its CR (P1); at the end or a fault the first no bytes of it
+-- the part of a lent message that a line found at `at` is, without its CR (P1); at the end or a fault the empty part at its start
 unfoldable pub partFound : RefT (List ℕ) → ℕ → Found → Part
 partFound message at (Line e n) = partOf message at (e - at)
 partFound message at End = partOf message 0 0

@@ -129,7 +129,7 @@ pub fn next_place(message: &[u8], at: usize) -> usize
 }
 
 // The part of the message that is the line at a place, without its CR (P1): the lent bytes themselves, by block, offset and bytes. At an end or
-// a fault it is the message's first no bytes.
+// a fault it is the empty part at the message's start.
 pub fn line_part(message: &[u8], at: usize) -> &[u8]
     ensures { λ r. ⌜ wholeOf r ≡ partAt form (message .entry) at ⌝ }
 {

@@ -29,7 +29,7 @@ pub fn look<'a>(walk: Walk<'a>) -> Found
     line_at(walk.message, walk.at)
 }
 
-// The line itself, the part of the lent message without its CR (P1); at the end or a fault the message's first no bytes.
+// The line itself, the part of the lent message without its CR (P1); at the end or a fault the empty part at the message's start.
 pub fn part<'a>(walk: Walk<'a>) -> &'a [u8]
     ensures { λ r. ⌜ wholeOf r ≡ partAt form (walk .entry .message) (walk .entry .at) ⌝ }
 {

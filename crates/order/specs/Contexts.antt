@@ -45,15 +45,15 @@ ERR = segment 10
 unfoldable pub L : Shape
 L = only 11
 
--- (OBR OBX*)+
+-- orders: (OBR OBX*)+
 unfoldable pub orders : Shape
 orders = plus (OBR ▸ any OBX)
 
--- (AP AC*)?
+-- cover: (AP AC*)?
 unfoldable pub cover : Shape
 cover = maybe (AP ▸ any AC)
 
--- (FAC REG* ACT*)+
+-- invoices: (FAC REG* ACT*)+
 unfoldable pub invoices : Shape
 invoices = plus (FAC ▸ any REG ▸ any ACT)
 

@@ -104,7 +104,7 @@ fn may_be_next(followers: &[u8; 847], context: u8, last: u8, kind: u8) -> bool
     is_listed(followers, context, last, kind)
 }
 
-// Whether C may stand after the last kind (C3): where there is one, and it is no L.
+// Whether C may stand after the last kind (C3): after each of the kinds from H to ERR, the numbers 1 to 10.
 fn may_have_c(last: u8) -> bool
     ensures { λ r. ⌜ r ≡ allowsC last ⌝ }
 {

@@ -21,7 +21,7 @@ levelTableOf lv = values (λ i. lv (i / 12 + 1) (i % 12)) 0 84
 unfoldable pub levelTable : List ℕ
 levelTable = levelTableOf level
 
--- the number above all levels, and that levels are below it: all that the laws of owners ask of levels
+-- the number above all levels, and that levels are below it: so a kind's level is a place in what is known of the rows so far
 abbrev pub topLevel : ℕ
 topLevel = 8
 

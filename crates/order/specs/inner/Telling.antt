@@ -23,7 +23,7 @@ pub record InTable (c x k : ℕ) : Type 0 where
   pub kind-from : 1 ≤ k
   pub kind-to : k ≤ 11
 
--- whether C may stand after the last kind, C left out (C3): there is one, and it is no L
+-- whether C may stand after the last kind (C3): after each of the kinds from H to ERR, the numbers 1 to 10
 unfoldable pub allowsC : ℕ → Bool
 allowsC x = leb 1 x && ltb x 11
 
