@@ -18,7 +18,7 @@ use Rattle.form.specs.declared.separators.Separators.{Separators}
 use Rattle.form.specs.declared.separators.Header.{Header}
 use Rattle.form.specs.declared.separators.Header.the-variants.{Sound, Broken}
 
--- a byte that may be a separator: 33 to 126, no letter, no digit
+-- what H2 says of a byte that may be a separator
 pub record Allowed (b : ℕ) : Type 0 where
   pub low : 33 ≤ b
   pub high : b ≤ 126

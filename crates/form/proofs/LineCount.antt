@@ -1,4 +1,4 @@
--- Line counts: the step equations of `lineCount`, and that document 01's limits are lawful.
+-- Line counts (rule W2): the step equations of `lineCount`, and that the form's limits are lawful.
 -- Assumes nothing.
 use mathlib.Core.Bool.{Bool, true, false}
 use mathlib.Core.Path.{_≡_, refl, ap}

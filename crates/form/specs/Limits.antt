@@ -1,5 +1,5 @@
--- The limits of a message form (document 01, "Segments, leaves and the table": "belong to the message form itself") and
--- its line counts ("Writing"). Every definition and law takes a form's limits as a parameter.
+-- The limits of a message form (rules L3, L5 and T6) and its line counts (rule W2). Definitions and laws take the limits as a parameter;
+-- what the contract of a public function cites is at `form`.
 -- Assumes nothing.
 use mathlib.Core.Bool.{true, false, _&&_}
 use mathlib.Core.Path.{_≡_}
@@ -7,7 +7,7 @@ use Prim.Native.Nat.{ℕ, _+_, _-_, _/_, _≤_}
 use lib.Dec.{leb, eqb}
 use Rattle.form.specs.declared.limits.Limits.{Limits}
 
--- document 01's form: line text, addendum text, segments, leaves, message bytes
+-- the limits in force (T6): `line` counts the bytes of a line's text, `more` those that an addendum carries
 abbrev pub form : Limits
 form = record { line = 219; more = 217; segments = 256; leaves = 2048; bytes = 16384 }
 
@@ -20,7 +20,7 @@ pub record Lawful (L : Limits) : Type 0 where
 unfoldable pub roundedUp : ℕ → ℕ → ℕ
 roundedUp a b = (a + (b - 1)) / b
 
--- "A segment of n bytes takes 1 line up to 219, else 1 + (n - 219)/217 rounded up."
+-- how many lines a segment of n bytes takes (W2): its first, and what is left in addenda
 unfoldable pub lineCount : Limits → ℕ → ℕ
 lineCount L n = elim (leb n (L .line)) [ true ↦ 1 | false ↦ 1 + roundedUp (n - L .line) (L .more) ]
 

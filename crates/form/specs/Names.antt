@@ -1,15 +1,15 @@
--- Kinds and contexts by name and number (document 01, "Segments, leaves and the table" and "The seven contexts").
+-- Kinds and contexts by name and number (rules S1 and C1).
 -- Assumes nothing.
 use mathlib.Core.List.{List, [], _∷_, map}
 use Prim.Native.Nat.{ℕ}
 use Rattle.laws.specs.Lists.{same, firstFrom}
 use Rattle.laws.specs.Texts.{bytes}
 
--- "Kind numbers: 1 H, 2 P, 3 AP, 4 AC, 5 OBR, 6 OBX, 7 FAC, 8 REG, 9 ACT, 10 ERR, 11 L, 12 C."
+-- the names of the twelve kinds, in the order of their numbers (S1)
 unfoldable pub kindNames : List (List ℕ)
 kindNames = map bytes ("H" ∷ "P" ∷ "AP" ∷ "AC" ∷ "OBR" ∷ "OBX" ∷ "FAC" ∷ "REG" ∷ "ACT" ∷ "ERR" ∷ "L" ∷ "C" ∷ [])
 
--- "context (1 ADM, 2 ORM, 3 ORA, 4 REG, 5 ERR, 6 ORU, 7 FAC)"
+-- the names of the seven contexts, in the order of their numbers (C1)
 unfoldable pub contextNames : List (List ℕ)
 contextNames = map bytes ("ADM" ∷ "ORM" ∷ "ORA" ∷ "REG" ∷ "ERR" ∷ "ORU" ∷ "FAC" ∷ [])
 

@@ -1,4 +1,4 @@
--- The numbers that come back (document 01, "Numbers that come back").
+-- The numbers that come back, by name (rule N1, which says when each is given and with which place).
 -- Assumes nothing.
 use Prim.Native.Nat.{ℕ}
 

@@ -1,4 +1,4 @@
-// The seven contexts: their numbers, and the number of a name.
+// The seven contexts (C1): their numbers, and the number of a name.
 ghost use mathlib.Core.Path.{_≡_};
 ghost use mathlib.Core.List.{[], _∷_};
 ghost use Rattle.form.specs.Names.{contextNames, contextOf};
@@ -23,8 +23,8 @@ impl Context {
 
     pub const FAC: u8 = 7;
 
-    // The context of a name of so many letters, the first three by value: a reader gathers them across cut lines. 0 where
-    // no context has that name.
+    // The context of a name of so many letters, by its first three, as `named` takes them from a text. 0 where no context has
+    // that name.
     pub fn spelled(length: usize, first: u8, second: u8, third: u8) -> u8
         ensures { λ r. ⌜ r ≡ spelledAmong contextNames length first second third ⌝ }
     {
@@ -35,7 +35,8 @@ impl Context {
         }
     }
 
-    // The context of a name that was packed into one number: 1 and then its letters, as digits to base 256. 0 where no context has it.
+    // The context of a name that was packed into one number: 1 and then its letters, as digits to base 256. A reader packs a name as it
+    // goes over the lines that the name may be cut across (A3). 0 where no context has it.
     pub fn packed(name: u32) -> u8
         ensures { λ r. ⌜ r ≡ packedAmong contextNames name ⌝ }
     {
@@ -51,7 +52,7 @@ impl Context {
         }
     }
 
-    // The context of a name, or 0 where no context has it.
+    // The context of a name that stands in one piece, or 0 where no context has it (C1).
     pub fn named(text: &[u8]) -> u8
         ensures { λ r. ⌜ r ≡ contextOf (now (text .entry)) ⌝ }
     {

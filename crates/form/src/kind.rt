@@ -1,4 +1,4 @@
-// The twelve kinds of segment: their numbers, and the number of a name.
+// The twelve kinds of segment (S1): their numbers, and the number of a name.
 ghost use mathlib.Core.Path.{_≡_};
 ghost use mathlib.Core.List.{[], _∷_};
 ghost use Rattle.form.specs.Names.{kindNames, kindOf};
@@ -33,8 +33,8 @@ impl Kind {
 
     pub const C: u8 = 12;
 
-    // The kind of a name of so many letters, the first three by value: a reader gathers them across cut lines. 0 where
-    // no kind has that name; letters past the length do not count.
+    // The kind of a name of so many letters, by its first three, as `named` takes them from a text. 0 where no kind has that
+    // name; letters past the length do not count.
     pub fn spelled(length: usize, first: u8, second: u8, third: u8) -> u8
         ensures { λ r. ⌜ r ≡ spelledAmong kindNames length first second third ⌝ }
     {
@@ -46,7 +46,8 @@ impl Kind {
         }
     }
 
-    // The kind of a name that was packed into one number: 1 and then its letters, as digits to base 256. 0 where no kind has it.
+    // The kind of a name that was packed into one number: 1 and then its letters, as digits to base 256. A reader packs a name as it goes
+    // over the lines that the name may be cut across (A3). 0 where no kind has it.
     pub fn packed(name: u32) -> u8
         ensures { λ r. ⌜ r ≡ packedAmong kindNames name ⌝ }
     {
@@ -67,7 +68,7 @@ impl Kind {
         }
     }
 
-    // The kind of a name, or 0 where no kind has it.
+    // The kind of a name that stands in one piece, or 0 where no kind has it (S1).
     pub fn named(text: &[u8]) -> u8
         ensures { λ r. ⌜ r ≡ kindOf (now (text .entry)) ⌝ }
     {

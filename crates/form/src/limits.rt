@@ -1,8 +1,9 @@
-// The numbers that belong to the message form itself, and what follows from them.
+// The limits of a message form (L3, L5, T6), and how many lines a segment takes under them (W2).
 ghost use mathlib.Core.Path.{_≡_};
 ghost use Rattle.form.specs.Limits.{form, lineCount, linesUnder, Lawful};
 
-// A form's limits, by value: inner functions take these, and only the public layer names a form.
+// A form's limits, by value: inner functions take these, and only the public layer names a form. The reader's `fill` takes them for its
+// contract alone, which says by which limits the table is that of the message.
 pub struct Limits {
     // bytes of a line before its CR
     pub line: usize,
@@ -14,7 +15,7 @@ pub struct Limits {
     pub bytes: usize,
 }
 
-// Document 01's form.
+// The form in force: H.PR.I.M. Santé 2.4 with the limits of T6.
 pub struct Form {}
 
 impl Form {
@@ -41,7 +42,8 @@ impl Form {
         }
     }
 
-    // How many lines a segment of so many bytes takes, for every number of bytes.
+    // How many lines a segment of so many bytes takes, for every number of bytes (W2). The writer, which has its limits by value, goes by
+    // `Limits::lines`.
     pub fn lines(bytes: usize) -> usize
         ensures { λ r. ⌜ r ≡ lineCount form bytes ⌝ }
     {
@@ -50,7 +52,8 @@ impl Form {
 }
 
 impl Limits {
-    // The same under any limits; 0 lines under limits that no form has.
+    // The same under any limits: of these it reads `line` and `more` alone. 0 where they are not lawful: a line has no room for the seven
+    // header bytes, or an addendum with its two bytes more is not as long as a line.
     pub fn lines(self, bytes: usize) -> usize
         ensures { λ r. ⌜ r ≡ linesUnder self bytes ⌝ }
     {
@@ -64,7 +67,7 @@ impl Limits {
     }
 }
 
-// The same for any lawful limits. The sum stays below the number of bytes: more is less than line.
+// The same under lawful limits. No sum passes the number of bytes, since more is less than line.
 fn line_count(limits: Limits, bytes: usize) -> usize
     requires { ⌜ Lawful limits ⌝ }
     ensures { λ r. ⌜ r ≡ lineCount limits bytes ⌝ }

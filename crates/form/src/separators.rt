@@ -1,4 +1,4 @@
-// The five separators and the header rule.
+// The five separators and the header rule (H1, H2).
 ghost use mathlib.Core.Bool.{_&&_};
 ghost use mathlib.Core.Path.{_≡_};
 ghost use Rattle.form.specs.Header.{within, allowed, allAllowed, different, five, headerOf};
@@ -19,7 +19,7 @@ pub enum Header {
 }
 
 impl Header {
-    // What the header of a message says: the separators of a sound one, for every list of bytes.
+    // What the header of a message says, for any bytes: the separators, where H1 and H2 hold.
     pub fn of(message: &[u8]) -> Header
         ensures { λ r. ⌜ r ≡ headerOf (now (message .entry)) ⌝ }
     {
@@ -50,7 +50,7 @@ impl Header {
 }
 
 impl Separators {
-    // Whether the five keep the header rule.
+    // Whether the five may be the separators of a message (H2).
     pub fn sound(self) -> bool
         ensures { λ r. ⌜ r ≡ (allAllowed (five self) && different (five self)) ⌝ }
     {
@@ -114,7 +114,7 @@ impl Separators {
     }
 }
 
-// Whether a byte may be a separator: visible, no letter, no digit.
+// Whether a byte may be a separator (H2).
 fn allowed(b: u8) -> bool
     ensures { λ r. ⌜ r ≡ allowed b ⌝ }
 {

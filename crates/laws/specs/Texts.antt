@@ -1,4 +1,4 @@
--- Texts as the bytes that they are in a file: one character is one byte of ISO 8859-1 (document 01, "Lines").
+-- Texts as the bytes that they are in a file: the byte of a character is its code in ISO 8859-1.
 -- Assumes nothing.
 use mathlib.Core.List.{List, [], _∷_}
 use Prim.Native.Nat.{ℕ}

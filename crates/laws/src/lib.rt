@@ -1,1 +1,1 @@
-// Definitions and laws that several crates cite: lists, texts, tests and computed tables. No code.
+// Definitions and laws that several crates cite: lists, texts, tests, computed tables and parts of what is lent. No code.

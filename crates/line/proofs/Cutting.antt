@@ -1,4 +1,4 @@
--- Cutting (document 01, "Writing"): joining what was cut gives the segments, and how many lines and bytes are written.
+-- Cutting (rules W1 to W3): joining what was cut gives the segments, and how many lines and bytes are written.
 -- Assumes nothing.
 use mathlib.Core.Bool.{false}
 use mathlib.Core.Path.{_≡_, refl, sym, ap, ap₂, _∙_, subst}
@@ -146,7 +146,7 @@ module _ (L : Limits) (lawful : Lawful L) (f : ℕ) where
   unfolding carriedPieces
   length-carried s = length-pieces (L .more) (addendaCount L (length s)) (drop (L .line) s)
 
-  -- "A segment of n bytes takes .. lines"
+  -- a segment takes as many lines as W2 says
   pub length-cut : (s : List ℕ) → length (cut L f s) ≡ lineCount L (length s)
   unfolding addendaCount
   length-cut s =
@@ -217,7 +217,7 @@ module _ (L : Limits) (f : ℕ) where
   cuts-cons s ss = refl
 
 module _ (L : Limits) (lawful : Lawful L) (f : ℕ) where
-  -- "The answer gives bytes and lines written"
+  -- how many lines and bytes all segments take, which the writer answers (W3)
   pub length-cuts : (ss : List (List ℕ)) → length (cuts L f ss) ≡ sumOf (λ (s : List ℕ). lineCount L (length s)) ss
   unfolding sumOf
   length-cuts [] = rw (cuts-nil L f)

@@ -170,7 +170,7 @@ module _ (L : Limits) (k : ℕ) where
 abbrev pub Low : List ℕ → Type 0
 Low s = All (λ (b : ℕ). b < space) s
 
--- "Bytes below 32 that follow a CR, further CRs included, are ignored"
+-- control bytes behind a CR are skipped (L2)
 pub between-lows : (L : Limits) (at : ℕ) (low s : List ℕ) → Low low → between L at (low ++ s) ≡ between L (at + length low) s
 between-lows L at [] s h = ap (λ (p : ℕ). between L p s) (omega arith)
 between-lows L at (b ∷ low) s (also h hs) =

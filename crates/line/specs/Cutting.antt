@@ -1,4 +1,4 @@
--- Writing segments as lines (document 01, "Writing").
+-- Writing segments as lines (rules W1 and W2).
 -- Assumes nothing.
 use mathlib.Core.List.{List, [], _∷_, _++_, map}
 use Prim.Native.Nat.{ℕ, zero, suc, pred}
@@ -9,16 +9,16 @@ use Rattle.form.specs.Limits.{lineCount}
 use Rattle.line.specs.Lines.{CR}
 use Rattle.line.specs.Joining.{letterA}
 
--- n pieces of a text, of k bytes each, "each filled before the next begins"
+-- n pieces of a text: of k bytes each, as long as so many are left (W1)
 unfoldable pub pieces : ℕ → ℕ → List ℕ → List (List ℕ)
 pieces k zero s = []
 pieces k (suc n) s = take k s ∷ pieces k n (drop k s)
 
--- "lines of `A`, separator, up to 217 bytes"
+-- pieces as addenda: each behind `A` and the field separator (A1)
 unfoldable pub addenda : ℕ → List (List ℕ) → List (List ℕ)
 addenda separator ts = map (λ (t : List ℕ). letterA ∷ separator ∷ t) ts
 
--- "Each segment becomes its first 219 bytes and CR; what remains goes in lines of `A`, separator, up to 217 bytes, CR"
+-- the lines of one segment (W1): what fits its first, and the rest in as many addenda as W2 counts
 unfoldable pub cut : Limits → ℕ → List ℕ → List (List ℕ)
 cut L separator s =
     take (L .line) s ∷ addenda separator (pieces (L .more) (pred (lineCount L (length s))) (drop (L .line) s))
@@ -27,7 +27,7 @@ cut L separator s =
 unfoldable pub cuts : Limits → ℕ → List (List ℕ) → List (List ℕ)
 cuts L separator segments = concat (map (cut L separator) segments)
 
--- lines as bytes: each ends with CR
+-- lines as bytes, each closed by its CR
 unfoldable pub unlines : List (List ℕ) → List ℕ
 unlines [] = []
 unlines (l ∷ ls) = l ++ CR ∷ unlines ls

@@ -1,4 +1,4 @@
--- Going on (document 01, "Line walk"): the places that a walk comes to, and what is left of its lines.
+-- Going on (rule P1): the places that a walk comes to, and what is left of its lines.
 -- Assumes nothing.
 use mathlib.Core.List.{List}
 use Prim.Native.Nat.{ℕ, zero, suc}
@@ -27,7 +27,7 @@ unfoldable pub placeAfter : Limits → List ℕ → ℕ → ℕ
 placeAfter L message zero = 0
 placeAfter L message (suc k) = nextOf (placeAfter L message k) (foundAt L message (placeAfter L message k))
 
--- what is left of a walk after k lines: "after the end or a fault it gets the same again"
+-- what is left of a walk after k lines; an end or a fault stays (P1)
 unfoldable pub after : ℕ → Lines → Lines
 after zero ls = ls
 after (suc k) end = end

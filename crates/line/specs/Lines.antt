@@ -1,4 +1,4 @@
--- Lines and their faults (document 01, "Lines"; "Line walk" under "Looking and watching"; numbers 4, 5 and 6).
+-- Lines and their faults (rules L1 to L4 and L6; P1 and P2): the walk over a message, byte by byte.
 -- Assumes nothing.
 use mathlib.Core.Bool.{true, false}
 use mathlib.Core.List.{List, [], _∷_, _++_}
@@ -8,23 +8,23 @@ use lib.ListN.{length}
 use Rattle.form.specs.declared.limits.Limits.{Limits}
 use Rattle.form.specs.Numbers.{controlByte, longLine, openLine}
 
--- what a walk over a message gives: a line and what follows it, the end, or a fault with its number and its place
+-- what a walk over a message gives (P1): a line and what follows it, the end, or a fault with its number and its place
 pub data Lines : Type 0 where
   end : Lines
   fault : (number place : ℕ) → Lines
   line : List ℕ → Lines → Lines
 
--- CR ends a line
+-- the byte that ends a line (L1)
 abbrev pub CR : ℕ
 CR = 13
 
--- bytes below this are no text
+-- bytes below this are control bytes, the others text
 abbrev pub space : ℕ
 space = 32
 
--- `inside`: in a line that has `text` so far, `at` bytes into the message.
---   "byte below 32, not CR, inside a line"; "a line's 220th byte is 32 or more"; "bytes left without CR".
--- `between`: after a CR. "Bytes below 32 that follow a CR, further CRs included, are ignored up to the next byte of 32 or more".
+-- `inside`: in a line that has `text` so far, `at` bytes into the message. A CR gives the line (L1); the message's end is fault 6, another
+--   control byte fault 4, and a byte of text that finds the line full fault 5 (L6).
+-- `between`: behind a CR, where control bytes are skipped until text begins the next line (L2).
 unfoldable mutual
   pub inside : Limits → ℕ → List ℕ → List ℕ → Lines
   inside L at text [] = fault openLine at
@@ -42,7 +42,7 @@ unfoldable mutual
   between L at [] = end
   between L at (b ∷ s) = elim (ltb b space) [ true ↦ between L (suc at) s | false ↦ inside L (suc at) (b ∷ []) s ]
 
--- the lines of a message that begins at the place `at`: "A first byte below 32, here CR too, is 4 at 0; no bytes is the end."
+-- the lines of a message that begins at the place `at`: no bytes are the end, and a first control byte is fault 4 (P2)
 unfoldable pub walkFrom : Limits → ℕ → List ℕ → Lines
 walkFrom L at [] = end
 walkFrom L at (b ∷ s) = elim (ltb b space) [ true ↦ fault controlByte at | false ↦ inside L (suc at) (b ∷ []) s ]
@@ -57,7 +57,7 @@ texts end = []
 texts (fault n p) = []
 texts (line t ls) = t ∷ texts ls
 
--- the fault that a walk ends in, as number and place: 0 and 0 where it ends in none
+-- the fault that a walk ends in, as number and place: 0 and 0 where it ends in none (L6)
 unfoldable pub faultNumber : Lines → ℕ
 faultNumber end = 0
 faultNumber (fault n p) = n

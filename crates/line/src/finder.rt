@@ -1,30 +1,31 @@
-// Where the line lies that begins at a place of a message.
+// Where the line lies that begins at a place of a message (L1 to L4, L6, P1).
 use form::limits::Form;
 use form::number::Number;
 ghost use mathlib.Core.Path.{_≡_};
 ghost use Prim.Native.Nat.{_+_, _-_, _≤_, min};
 ghost use lib.ListN.{length, drop};
 ghost use Rattle.form.specs.Limits.{form};
-ghost use Rattle.line.specs.Finding.{textRun, lowRun, foundFrom, foundAt, nextOf, partFound};
+ghost use Rattle.laws.specs.Parts.{wholeOf};
+ghost use Rattle.line.specs.Finding.{textRun, lowRun, foundFrom, foundAt, nextOf, partAt};
 ghost use Rattle.line.specs.inner.Ending.{endedLine};
 
-// CR ends a line.
+// The byte that ends a line (L1).
 const CR: u8 = 13;
 
-// Bytes below this are no text.
+// Bytes below this are control bytes, the others text.
 const SPACE: u8 = 32;
 
 // What stands at a place where a line may begin.
 pub enum Found {
-    // the place of its CR, and the place after the bytes below 32 that follow
+    // the place of its CR, and the place behind the control bytes that follow (L2)
     Line { end: usize, next: usize },
     // at or past the last byte
     End,
-    // 4, 5 or 6 of the numbers that come back, and its place in the message
+    // 4, 5 or 6, and its place in the message (L6)
     Fault { number: u8, place: usize },
 }
 
-// By the rule of a message that begins there: a first byte below 32, CR too, is the fault 4. For any place of any message.
+// What stands at any place of any message, by the rules of a message that begins there: a control byte there, a CR too, is fault 4 (P2).
 pub fn line_at(message: &[u8], at: usize) -> Found
     ensures { λ r. ⌜ r ≡ foundAt form (now (message .entry)) at ⌝ }
 {
@@ -42,7 +43,7 @@ fn find_line(line: usize, message: &[u8], at: usize) -> Found
     ended_line(message, at, text_end(message, at, stop))
 }
 
-// What a line is that begins at `at` and whose text goes up to `end`, by what stands there. For any two places of any message.
+// What a line is that begins at `at` and whose text goes up to `end`, by what stands there (L1, L6). For any two places of any message.
 pub fn ended_line(message: &[u8], at: usize, end: usize) -> Found
     ensures { λ r. ⌜ r ≡ endedLine (now (message .entry)) at end ⌝ }
 {
@@ -73,7 +74,7 @@ pub fn ended_line(message: &[u8], at: usize, end: usize) -> Found
     }
 }
 
-// The last place where the CR of a line that begins at `at` may stand, or the message's end where that comes first; `at` itself from
+// The last place where the CR of a line that begins at `at` may stand (L3), or the message's end where that comes first; `at` itself from
 // the message's end on.
 pub fn text_stop(line: usize, at: usize, end: usize) -> usize
     ensures { λ r. ⌜ r ≡ at + min line (end - at) ⌝ }
@@ -99,7 +100,7 @@ fn text_end(message: &[u8], from: usize, stop: usize) -> usize
     stop
 }
 
-// Where the bytes below 32 end that begin at `from`.
+// Where the control bytes end that begin at `from` (L2).
 pub fn low_end(message: &[u8], from: usize) -> usize
     ensures { λ r. ⌜ r ≡ from + lowRun (drop from (now (message .entry))) ⌝ }
 {
@@ -113,7 +114,7 @@ pub fn low_end(message: &[u8], from: usize) -> usize
     i
 }
 
-// The place of the next line, and `at` itself where there is an end or a fault.
+// The place of the next line, and `at` itself where there is an end or a fault (P1).
 pub fn next_place(message: &[u8], at: usize) -> usize
     ensures { λ r. ⌜ r ≡ nextOf at (foundAt form (now (message .entry)) at) ⌝ }
 {
@@ -127,9 +128,10 @@ pub fn next_place(message: &[u8], at: usize) -> usize
     }
 }
 
-// The part of the message that is the line at a place, without its CR, and an empty part where there is an end or a fault.
+// The part of the message that is the line at a place, without its CR (P1): the lent bytes themselves, by block, offset and bytes. At an end or
+// a fault it is the empty part at the message's start.
 pub fn line_part(message: &[u8], at: usize) -> &[u8]
-    ensures { λ r. ⌜ now r ≡ partFound (now (message .entry)) at (foundAt form (now (message .entry)) at) ⌝ }
+    ensures { λ r. ⌜ wholeOf r ≡ partAt form (message .entry) at ⌝ }
 {
     match line_at(message, at) {
         Found::Line { end, next: _ } => &message[at..end],

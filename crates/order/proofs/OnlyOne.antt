@@ -1,4 +1,4 @@
--- Each public function's contract has one answer: two that satisfy it, at the only-one arguments, are equal, and so is all that is lent.
+-- Each public function's contract has one answer: two that satisfy it, at the same arguments, are equal, and so is all that is lent.
 -- Assumes nothing.
 use mathlib.Core.List.{List}
 use mathlib.Core.Path.{_≡_}

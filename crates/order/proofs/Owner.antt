@@ -1,4 +1,4 @@
--- Owners as rows are read are the owners of document 01: for every order of kinds and all levels below `topLevel`.
+-- Owners as rows are read are the owners by O2 and O3: for every order of kinds and all levels below `topLevel`.
 -- Assumes nothing.
 use mathlib.Core.Bool.{Bool, true, false, not, _&&_, and-true}
 use mathlib.Core.List.{List, [], _∷_, reverse, reverseAux, reverse-append}
@@ -67,7 +67,7 @@ module _ (lv : ℕ → ℕ) (few : (j : ℕ) → lv j < topLevel) where
         let n = eqb-false k 12 e in
         ap (λ (m : ℕ). getD near m 0) (place-level k (lv k) n (few k)) ∙ known .rows (lv k) (let h = few k in omega arith) ∙ sym (rw (C-is-not k n, owner))
 
-    -- the owner that comes back is document 01's
+    -- the owner that comes back is the one by O2 and O3
     pub owner-right : getD near (levelPlace k (lv k)) 0 ≡ owner lv before k
     owner-right = owner-by (eqb k 12) refl
 

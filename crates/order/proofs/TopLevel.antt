@@ -1,4 +1,4 @@
--- H and L have 0 (document 01, "The seven contexts"), for any levels that pass the computed tests of `Topped`: every kind that may come in
+-- H and L have no owner (rule O2), for any levels that pass the computed tests of `Topped`: every kind that may come in
 -- a context is C or has a level, and H and L have level 1, below which there is none. The levels in force pass.
 -- Assumes nothing.
 use mathlib.Core.Bool.{Bool, true, false, not, _&&_, _||_}
@@ -87,7 +87,7 @@ levels-topped : Topped level
 unfolding comesPlaced placed isC follows states level levels everyFrom
 levels-topped = record { H = refl; L = refl; others = refl }
 
--- "H and L have 0", in every begun order
+-- H and L have no owner in any begun order (O2)
 pub H-and-L-have-0 : (c : ℕ) → isContext c ≡ true → (w : List ℕ) → Begins (grammar c) w → (i : ℕ) → i < length w
     → (getD w i 0 ≡ 1) ⊎ (getD w i 0 ≡ 11) → getD (owners (level c) w) i 0 ≡ 0
 H-and-L-have-0 = top-has-0 level levels-topped

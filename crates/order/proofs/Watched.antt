@@ -1,5 +1,4 @@
--- The watcher's theorem (document 01, "Looking and watching"): "Yes is said exactly when the kinds it has said yes to, with this one
--- put after them, begin some order that the context's grammar, C included, derives."
+-- The watcher's theorem (rules V1 and V2): it answers yes where its earlier yeses and the kind behind them begin a derived order, and nowhere else.
 -- Assumes nothing.
 use mathlib.Core.Bool.{Bool, true, false}
 use mathlib.Core.List.{List, [], _∷_, _++_, append-assoc, append-nil}
@@ -34,7 +33,7 @@ says w k = by (allows follows (w .context) (w .last) k) refl
     by true e = ap (λ (r : Told). r .yes) (says-yes w k follows e) ∙ sym e
     by false e = ap (λ (r : Told). r .yes) (says-no w k follows e) ∙ sym e
 
--- "A refused kind changes nothing in it"
+-- after a no it is what it was (V2)
 pub stays : (w : Watcher) (k : ℕ) → tellOf w k .yes ≡ false → tellOf w k .watcher ≡ w
 unfolding tellOf
 stays w k e = ap (λ (r : Told). r .watcher) (says-no w k follows (sym (says w k) ∙ e))
@@ -155,12 +154,11 @@ never-begins c e w b = (subst (λ (r : Shape). Begins r w) e b) .1 .0
 pub no-to-all : (w : Watcher) (k : ℕ) → isContext (w .context) ≡ false → tellOf w k .yes ≡ false
 no-to-all w k e = says w k ∙ no-context-no follows (w .context) (w .last) k e
 
--- "a watcher begun with a bad context says no to all"
+-- begun with a number that is no context, a watcher never says yes (V2)
 pub bad-context-no : (c : ℕ) → isContext c ≡ false → (ks : List ℕ) (k : ℕ) → tellOf (watched (begun c) ks) k .yes ≡ false
 bad-context-no c e ks k = no-to-all (watched (begun c) ks) k (ap isContext (same-context (begun c) ks) ∙ e)
 
--- "Yes is said exactly when the kinds it has said yes to, with this one put after them, begin some order that the context's grammar,
--- C included, derives", for every context number, all kinds told before and every kind number
+-- V1, for every number that it was begun with, all kinds told before and every kind number
 pub yes-exactly : (c : ℕ) (ks : List ℕ) (k : ℕ) → (tellOf (watched (begun c) ks) k .yes ≡ true) ↔ Begins (grammar c) (said (begun c) ks ++ (k ∷ []))
 yes-exactly c ks k = by (isContext c) refl
   where

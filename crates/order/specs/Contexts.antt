@@ -1,4 +1,4 @@
--- The seven contexts (document 01, "The seven contexts").
+-- The seven contexts (rules C2 and C3): the grammar of each.
 -- Assumes nothing.
 use mathlib.Core.Bool.{Bool, _&&_}
 use mathlib.Core.List.{List, [], _∷_, map}
@@ -7,11 +7,11 @@ use lib.Dec.{leb}
 use lib.ListN.{getD}
 use Rattle.order.specs.Grammar.{Shape, never, only, _▸_, any, plus, maybe}
 
--- "Any number of C may stand after each segment that is neither C nor L."
+-- a segment of kind k that is neither C nor L, with the C behind it (C3)
 unfoldable pub segment : ℕ → Shape
 segment k = only k ▸ any (only 12)
 
--- the kinds by their names
+-- the kinds by their names; behind an L there is no C (C3)
 unfoldable pub H : Shape
 H = segment 1
 
@@ -45,31 +45,31 @@ ERR = segment 10
 unfoldable pub L : Shape
 L = only 11
 
--- "orders, one or more: OBR, any number of OBX"
+-- orders: (OBR OBX*)+
 unfoldable pub orders : Shape
 orders = plus (OBR ▸ any OBX)
 
--- "nothing, or one AP with any AC"
+-- cover: (AP AC*)?
 unfoldable pub cover : Shape
 cover = maybe (AP ▸ any AC)
 
--- "invoices, one or more: FAC, any REG, any ACT"
+-- invoices: (FAC REG* ACT*)+
 unfoldable pub invoices : Shape
 invoices = plus (FAC ▸ any REG ▸ any ACT)
 
--- the bodies of the seven contexts, in the order of their numbers
+-- the bodies of the seven contexts, in the order of their numbers (C2)
 unfoldable pub bodies : List Shape
 bodies =
-    plus (P ▸ cover)  -- ADM: one or more: P, then nothing, or one AP with any AC
-    ∷ plus (P ▸ orders)  -- ORM: patients, one or more: P, then orders, one or more: OBR, any number of OBX
-    ∷ plus (P ▸ AP ▸ any AC ▸ orders)  -- ORA: patients, one or more: P, one AP, any AC, then orders as in ORM
-    ∷ plus (P ▸ plus REG)  -- REG: one or more: P, then one or more REG
-    ∷ plus ERR  -- ERR: one or more ERR
-    ∷ plus (P ▸ plus (OBR ▸ plus OBX))  -- ORU: the same as ORM, but each OBR has at least one OBX
-    ∷ plus (P ▸ cover ▸ invoices)  -- FAC: one or more: P, cover as in ADM, then invoices, one or more: FAC, any REG, any ACT
+    plus (P ▸ cover)  -- ADM
+    ∷ plus (P ▸ orders)  -- ORM
+    ∷ plus (P ▸ AP ▸ any AC ▸ orders)  -- ORA
+    ∷ plus (P ▸ plus REG)  -- REG
+    ∷ plus ERR  -- ERR
+    ∷ plus (P ▸ plus (OBR ▸ plus OBX))  -- ORU: no OBR without an OBX
+    ∷ plus (P ▸ cover ▸ invoices)  -- FAC
     ∷ []
 
--- "C left aside, a message is H, a body, L"
+-- a message of a body: an H before it, an L behind it (C2)
 unfoldable pub messageShape : Shape → Shape
 messageShape body = H ▸ body ▸ L
 
@@ -77,6 +77,6 @@ messageShape body = H ▸ body ▸ L
 unfoldable pub grammar : ℕ → Shape
 grammar c = getD (never ∷ map messageShape bodies) c never
 
--- "a context number 1 to 7 in the order listed above"
+-- whether a number is one of a context (C1)
 unfoldable pub isContext : ℕ → Bool
 isContext c = leb 1 c && leb c 7

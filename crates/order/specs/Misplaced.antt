@@ -1,4 +1,4 @@
--- What the place of refusal 10 means, in words of derivations alone (document 01, "Numbers that come back").
+-- What the place of refusal 10 means (rule N1), in words of derivations alone.
 -- Assumes nothing.
 use mathlib.Core.List.{List}
 use mathlib.Core.Logic.{_⊎_}

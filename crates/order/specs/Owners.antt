@@ -1,4 +1,4 @@
--- Levels and owners (document 01, "The seven contexts").
+-- Levels and owners (rules O1 to O3).
 -- Assumes nothing.
 use mathlib.Core.Bool.{Bool, true, false, not, _&&_}
 use mathlib.Core.List.{List, [], _∷_}
@@ -10,8 +10,7 @@ use lib.ListN.{length, getD}
 abbrev pub levelBy : List (List ℕ) → ℕ → ℕ → ℕ
 levelBy rows context kind = getD (getD rows context []) kind 0
 
--- "Levels: H and L 1, P 2, ERR 2; OBR 3, OBX 4 in ORM and ORU; AP 3, AC 4, OBR 5, OBX 6 in ORA; AP 3, AC 4 in ADM;
--- AP 3, AC 4, FAC 5, REG 6, ACT 7 in FAC; REG 3 in REG."
+-- the rows of levels in force (O1); 0 where a context has no such kind
 unfoldable pub levels : List (List ℕ)
 levels =
     --      H   P   AP  AC  OBR OBX FAC REG ACT ERR L
@@ -38,8 +37,8 @@ nearest p (k ∷ before) = elim (p k) [ true ↦ suc (length before) | false ↦
 unfoldable pub isC : ℕ → Bool
 isC k = eqb k 12
 
--- "The owner of a segment is the nearest earlier one, C aside, with a smaller level; H and L have 0. The owner of a C is the
--- nearest earlier segment that is no C." Over any levels lv of kinds; H and L have 0 since no level is below theirs.
+-- the owner of a segment of kind k after those before it, the nearest first, by levels lv of kinds: of a C the nearest that is no C (O3), of
+-- any other the nearest, C left out, of a lower level (O2). H and L have 0 by their level 1: in an order of the context no kind but C has a lower one.
 unfoldable pub owner : (ℕ → ℕ) → List ℕ → ℕ → ℕ
 owner lv before k =
     elim (isC k) [

@@ -1,4 +1,4 @@
--- The order watcher (document 01, "Looking and watching"), at every state and every number.
+-- The order watcher (rules V1 and V2): how it begins, what it is after some kinds, and which of them it said yes to.
 -- Assumes nothing.
 use mathlib.Core.Bool.{true, false}
 use mathlib.Core.List.{List, [], _∷_}
@@ -6,7 +6,7 @@ use Prim.Native.Nat.{ℕ}
 use Rattle.order.specs.inner.Telling.{tellOf}
 use Rattle.order.specs.declared.watcher.Watcher.{Watcher}
 
--- "begun with a context number", told nothing yet
+-- a watcher that was begun with a number and told nothing yet (V1)
 abbrev pub begun : ℕ → Watcher
 begun c = record { context = c; last = 0 }
 
@@ -15,7 +15,7 @@ unfoldable pub watched : Watcher → List ℕ → Watcher
 watched w [] = w
 watched w (k ∷ ks) = watched (tellOf w k .watcher) ks
 
--- "the kinds it has said yes to"
+-- those of the kinds told that it says yes to, in their order
 unfoldable pub said : Watcher → List ℕ → List ℕ
 said w [] = []
 said w (k ∷ ks) = elim (tellOf w k .yes) [ true ↦ k ∷ said (tellOf w k .watcher) ks | false ↦ said (tellOf w k .watcher) ks ]

@@ -1,4 +1,4 @@
-// The follower table: "A follower table of 7 contexts by 11 kinds by 11 kinds (847 entries) says which kind may come next."
+// The follower table (C4): in each context, which kind may come after which, C left out.
 ghost use mathlib.Core.Path.{_≡_};
 ghost use Rattle.order.specs.inner.Followers.{followers};
 

@@ -1,4 +1,4 @@
-// The level tables: one level for each context and kind.
+// The level table (O1): one level for each context and kind.
 
 // How many entries a context has.
 pub const PER_CONTEXT: usize = 12;

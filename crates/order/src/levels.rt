@@ -1,4 +1,4 @@
-// The levels of kinds: "H and L 1, P 2, ERR 2; OBR 3, OBX 4 in ORM and ORU; .."
+// The levels of kinds (O1).
 use crate::level_table::LEVELS;
 use crate::level_table::PER_CONTEXT;
 use form::context::Context;
@@ -13,7 +13,8 @@ pub fn table() -> [u8; 84]
     LEVELS
 }
 
-// The level of a kind in a context by a table of levels; 0 for C and for a number that is no context or no kind.
+// The level of a kind in a context by a table of levels (O1); 0 for C, for every greater number, and where there is no such context. The
+// number 0, which is no kind, has an entry in each context: in the table in force it is 0.
 pub fn level_of(levels: &[u8; 84], context: u8, kind: u8) -> u8
     ensures { λ r. ⌜ r ≡ levelIn (now (levels .entry)) context kind ⌝ }
 {

@@ -1,5 +1,4 @@
-// Owners, row by row as rows are read: "The owner of a segment is the nearest earlier one, C aside, with a smaller level; H and L have
-// 0. The owner of a C is the nearest earlier segment that is no C."
+// Owners (O2, O3), row by row as rows are read.
 use form::kind::Kind;
 ghost use mathlib.Core.Path.{_≡_};
 ghost use Prim.Native.Nat.{_≤_};
@@ -8,7 +7,7 @@ ghost use Rattle.order.specs.inner.Owning.{levelPlace, noRows, Owned};
 // The number of a row, or 0: one number of a table's rows, which takes its width from here.
 pub type Row = u16;
 
-// What is known of the rows so far has a place for each level, and one above all levels.
+// What is known of the rows so far has a place for each level from 0 to 7, and one above all levels.
 pub const PLACES: usize = 9;
 
 const ABOVE: usize = 8;
@@ -21,7 +20,7 @@ pub fn no_rows() -> [Row; PLACES]
     [0; PLACES]
 }
 
-// The owner of the next row, by what is known of the rows before it, which the row is then added to. A level over 8 counts as 8. The
+// The owner of the next row (O2, O3), by what is known of the rows before it, which the row is then added to. A level over 8 counts as 8. The
 // loop goes over all places, whatever the row's own is: with a fixed number of turns it is compiled to straight code.
 pub fn owner_of(nearest: &mut [Row; PLACES], row: Row, kind: u8, level: u8) -> Row
     ensures { λ r. ⌜ Owned (now (nearest .entry)) (now (nearest .exit)) row kind level r ⌝ }

@@ -1,5 +1,5 @@
-// The order watcher: "begun with a context number 1 to 7 in the order listed above (field 7.7), told one kind number at a time, it
-// hands itself back with yes or no."
+// The order watcher (V1, V2): a value that begins with a context's number and is told kind after kind; each time the next watcher comes
+// back, and whether the kind may stand there.
 use form::context::Context;
 use form::kind::Kind;
 ghost use mathlib.Core.Path.{_≡_};
@@ -10,6 +10,7 @@ use crate::followers::PER_CONTEXT;
 use crate::followers::PER_KIND;
 
 pub struct Watcher {
+    // the number that it was begun with, be it a context's or not
     pub context: u8,
     // the last kind that it said yes to, C aside; 0 before there is one
     pub last: u8,
@@ -22,14 +23,14 @@ pub struct Told {
 }
 
 impl Watcher {
-    // A watcher that was told nothing yet. With a number that is no context it says no to all.
+    // A watcher that was told nothing yet. Begun with a number that is no context, it never says yes (V2).
     pub fn begin(context: u8) -> Watcher
         ensures { λ r. ⌜ r ≡ begun context ⌝ }
     {
         Watcher { context, last: 0 }
     }
 
-    // Yes where the kind may come next; a refused kind changes nothing.
+    // Yes where the kind may come next (V1); after a no the watcher is what it was (V2).
     pub fn tell(self, kind: u8) -> Told
         ensures { λ r. ⌜ r ≡ tellOf self kind ⌝ }
     {
@@ -103,7 +104,7 @@ fn may_be_next(followers: &[u8; 847], context: u8, last: u8, kind: u8) -> bool
     is_listed(followers, context, last, kind)
 }
 
-// Whether C may stand after the last kind: after all but L.
+// Whether C may stand after the last kind (C3): after each of the kinds from H to ERR, the numbers 1 to 10.
 fn may_have_c(last: u8) -> bool
     ensures { λ r. ⌜ r ≡ allowsC last ⌝ }
 {

@@ -24,6 +24,6 @@ packed t = packedOnto 1 t
 unfoldable pub packedAmong : List (List ℕ) → ℕ → ℕ
 packedAmong names n = firstFrom (λ (t : List ℕ). eqb n (packed t)) 1 names
 
--- and the number that stands for every longer text: 2 and then three digits
+-- and the number that stands for every text of more than three letters: 2 and then three digits 0
 abbrev pub tooMany : ℕ
 tooMany = 33554432

@@ -1,4 +1,4 @@
--- Sound lines and walks that end well (document 01, "Lines").
+-- Sound lines (rules L1 to L3) and walks that end well.
 -- Assumes nothing.
 use mathlib.Core.List.{List, [], _∷_}
 use Prim.Native.Nat.{ℕ, _+_, _≤_}
@@ -11,7 +11,7 @@ use Rattle.line.specs.Lines.{Lines, end, fault, line, space}
 abbrev pub Text : List ℕ → Type 0
 Text t = All (λ (b : ℕ). space ≤ b) t
 
--- a sound line: blank lines vanish, "a line has at most 219 bytes before its CR", and none of them is below 32
+-- a sound line: it is not empty (L2), not too long (L3), and all its bytes are text (L1)
 pub record SoundLine (L : Limits) (t : List ℕ) : Type 0 where
   pub some : 1 ≤ length t
   pub short : length t ≤ L .line

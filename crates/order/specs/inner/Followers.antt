@@ -1,5 +1,4 @@
--- The follower table (document 01, "The seven contexts"): "A follower table of 7 contexts by 11 kinds by 11 kinds (847 entries)
--- says which kind may come next." What it says is meant by `Follows`; `follows` computes it from the grammar.
+-- The follower table (rule C4). What an entry means is `Follows`; `follows` computes it from the grammar.
 -- Assumes nothing.
 use mathlib.Core.Bool.{Bool, true, false}
 use mathlib.Core.List.{List, [], _∷_, _++_}

@@ -1,4 +1,4 @@
--- Levels as one table of numbers (document 01, "The seven contexts"), for any levels of contexts and kinds.
+-- Levels (rule O1) as one table of numbers, for any levels of contexts and kinds.
 -- Assumes nothing.
 use mathlib.Core.Bool.{true, false, _&&_}
 use mathlib.Core.List.{List}
@@ -21,7 +21,7 @@ levelTableOf lv = values (λ i. lv (i / 12 + 1) (i % 12)) 0 84
 unfoldable pub levelTable : List ℕ
 levelTable = levelTableOf level
 
--- the number above all levels, and that levels are below it: all that the laws of owners ask of levels
+-- the number above all levels, and that levels are below it: so a kind's level is a place in what is known of the rows so far
 abbrev pub topLevel : ℕ
 topLevel = 8
 

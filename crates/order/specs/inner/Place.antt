@@ -1,5 +1,5 @@
--- The place of refusal 10 (document 01, "Numbers that come back"), computed by derivatives of the grammar: what may still
--- follow once a kind has been told. A derivative is a list of alternatives, and each of these a row of shapes that are still to come.
+-- The place of refusal 10 (rule N1), computed by derivatives of the grammar: what may still follow once a kind has been told. A derivative
+-- is a list of alternatives, and each of these a row of shapes that are still to come.
 -- Assumes nothing.
 use mathlib.Core.Bool.{Bool, true, false, _&&_, _||_}
 use mathlib.Core.List.{List, [], _∷_, _++_}
@@ -65,6 +65,6 @@ unfoldable pub placeFrom : ℕ → List (List Shape) → List ℕ → ℕ
 placeFrom at rows [] = elim (rowsEmpty rows) [ true ↦ 0 | false ↦ at ]
 placeFrom at rows (k ∷ w) = elim (rowsTold k rows) [ [] ↦ at | row ∷ more ↦ placeFrom (suc at) (row ∷ more) w ]
 
--- "kind not allowed there, or no L at the end": "first such segment, or segments + 1"; 0 where it is neither
+-- the place of refusal 10 for the kinds of a message in a context (N1); 0 where there is none
 unfoldable pub misplaced : ℕ → List ℕ → ℕ
 misplaced c kinds = placeFrom 1 (start (grammar c)) kinds

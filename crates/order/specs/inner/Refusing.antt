@@ -1,4 +1,4 @@
--- Where an order watcher says no for the first time (document 01, "Numbers that come back", No 10).
+-- Where an order watcher says no for the first time: refusal 10 (rule N1).
 -- Assumes nothing.
 use mathlib.Core.Bool.{true, false}
 use mathlib.Core.List.{List, [], _∷_}

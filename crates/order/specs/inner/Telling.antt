@@ -1,4 +1,4 @@
--- What an order watcher answers at every state and every number, by what may follow what.
+-- What an order watcher answers (rules V1 and V2) at every state and every number, by what may follow what.
 -- Assumes nothing.
 use mathlib.Core.Bool.{Bool, true, false, _&&_}
 use mathlib.Core.List.{List}
@@ -23,7 +23,7 @@ pub record InTable (c x k : ℕ) : Type 0 where
   pub kind-from : 1 ≤ k
   pub kind-to : k ≤ 11
 
--- whether C may stand after the last kind: "after each segment that is neither C nor L"
+-- whether C may stand after the last kind (C3): after each of the kinds from H to ERR, the numbers 1 to 10
 unfoldable pub allowsC : ℕ → Bool
 allowsC x = leb 1 x && ltb x 11
 
@@ -40,7 +40,7 @@ allows may c x k = isContext c && elim (eqb k 12) [ true ↦ allowsC x | false �
 unfoldable pub tookKind : Watcher → ℕ → Watcher
 tookKind w k = elim (eqb k 12) [ true ↦ w | false ↦ record { context = w .context; last = k } ]
 
--- "told one kind number at a time, it hands itself back with yes or no"; "A refused kind changes nothing in it"
+-- told a kind, the next watcher and its answer: after a no it is the same watcher (V2)
 unfoldable pub tellBy : (ℕ → ℕ → ℕ → Bool) → Watcher → ℕ → Told
 tellBy may w k =
     elim (allows may (w .context) (w .last) k) [

@@ -1,4 +1,4 @@
--- `Form::lines` meets its contract: document 01's limits are lawful.
+-- `Form::lines` meets its contract: the form's limits are lawful.
 -- Assumes nothing.
 use borrow.Author.Needs.{needs}
 use mathlib.Core.Path.{_∙_, ap, subst⁻¹}
