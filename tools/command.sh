@@ -12,7 +12,7 @@ name=$(basename "$0")
 keep=$repository/target/commands
 
 trouble() { # WHAT
-    echo "$name: $*" >&2
+    printf '%s: %s\n' "$name" "$*" >&2
     exit 2
 }
 
@@ -42,7 +42,7 @@ FILE holds one message; where no file is named it comes on standard input.
 Exit status: 0 accepted, 1 refused, 2 trouble, which one line on standard error tells. Nothing is listed where the input could not be read.
 
 The program is built where it is missing or a source has changed since: that proves the library, which takes some minutes and needs the
-Rattle toolchain's command rt. Once it is built rt is not needed.
+Rattle toolchain's command rt. Once it is built rt is not needed, but on Arm the toolchain's emulator is.
 END
 }
 
