@@ -1,6 +1,8 @@
 // Lists the message that comes on standard input: the listing, and nothing else. What matters is in the library; this reads and writes.
+// Where the input cannot be read nothing is printed: a program has no exit status, and an empty message has a listing.
+mod input;
+
 use form::limits::Form;
-use libc::STDIN_FILENO;
 use libc::STDOUT_FILENO;
 use listing::list::SIZE;
 use listing::list::list;
@@ -18,8 +20,12 @@ const LEAVES: usize = Form::LEAVES * rows::LEAF_ROW;
 
 fn main() {
     let mut message = [0; MESSAGE];
-    let came = io::read_full(STDIN_FILENO, &mut message);
-    print_listing(&message[0..came]);
+    let input = input::read_input(&mut message);
+    if !input.sound {
+        return;
+    }
+    let bytes = input.bytes;
+    print_listing(&message[0..bytes]);
 }
 
 // Writes the listing of a message to standard output.
