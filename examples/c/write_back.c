@@ -44,6 +44,6 @@ int main(void)
     }
     printf("wrote %zu bytes in %zu lines\n", written[1], written[2]);
     bool back = read_into(&again, output, written[1]) == SARGACEU_ACCEPTED && same(&first, &again);
-    printf(back ? "the same table\n" : "another table\n");
+    puts(back ? "the same table" : "another table");
     return back ? 0 : 1;
 }

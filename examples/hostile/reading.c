@@ -239,9 +239,10 @@ static uint8_t draw_watcher(uint8_t watcher[SARGACEU_WATCHER])
     watcher[1] = 0;
     for (size_t told = below(12); told > 0; told--) {
         uint8_t kind = draw_follower(watcher[0], last);
-        if (sargaceu_watch(watcher, SARGACEU_WATCHER, kind) != may_follow(watcher[0], last, kind))
+        bool may = may_follow(watcher[0], last, kind);
+        if (sargaceu_watch(watcher, SARGACEU_WATCHER, kind) != may)
             fail("wrong about kind %d after %d in context %d", kind, last, watcher[0]);
-        if (kind != SARGACEU_C && last != SARGACEU_L)
+        if (may && kind != SARGACEU_C)
             last = kind;
     }
     return last;
