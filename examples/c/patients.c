@@ -1,0 +1,56 @@
+/* Reads a message from standard input and goes from patients to their orders, from orders to results, with the comments. */
+#include <stdio.h>
+#include "sargaceu.h"
+
+static uint8_t message[SARGACEU_MESSAGE + 1], text[SARGACEU_TEXT];
+static uint16_t segments[SARGACEU_SEGMENTS], leaves[SARGACEU_LEAVES];
+static size_t answer[SARGACEU_READ_ANSWER], *const card = answer + 1;
+
+static size_t next(size_t after, uint16_t kind, size_t owner)
+{
+    return sargaceu_next_row(card, SARGACEU_CARD, segments, SARGACEU_SEGMENTS, after, kind, (uint16_t)owner);
+}
+
+static void show(const char *what, size_t row, uint16_t field, uint16_t subfield)
+{
+    size_t leaf[SARGACEU_LEAF_ANSWER];
+    if (sargaceu_find_leaf(card, SARGACEU_CARD, segments, SARGACEU_SEGMENTS, leaves, SARGACEU_LEAVES, text, SARGACEU_TEXT,
+                           (uint16_t)row, field, 1, subfield, 1, leaf, SARGACEU_LEAF_ANSWER))
+        printf("%s %.*s\n", what, (int)leaf[1], (const char *)text + leaf[0]);
+}
+
+static void comments(size_t row) /* a C belongs to the segment before it */
+{
+    for (size_t c = next(0, SARGACEU_C, row); c != 0; c = next(c, SARGACEU_C, row))
+        show("    comment", c, 4, 1);
+}
+
+static void results(size_t order)
+{
+    for (size_t x = next(0, SARGACEU_OBX, order); x != 0; x = next(x, SARGACEU_OBX, order)) {
+        show("  result", x, 4, 1);
+        show("    value", x, 6, 1);
+        comments(x);
+    }
+}
+
+int main(void)
+{
+    size_t bytes = fread(message, 1, sizeof message, stdin);
+    uint8_t number = sargaceu_read(message, bytes, text, SARGACEU_TEXT, segments, SARGACEU_SEGMENTS,
+                                   leaves, SARGACEU_LEAVES, answer, SARGACEU_READ_ANSWER);
+    if (number != SARGACEU_ACCEPTED) {
+        printf("refused: %d at %zu\n", number, answer[0]);
+        return 1;
+    }
+    for (size_t p = next(0, SARGACEU_P, 1); p != 0; p = next(p, SARGACEU_P, 1)) { /* H, row 1, owns every patient */
+        show("patient", p, 6, 1);
+        comments(p);
+        for (size_t o = next(0, SARGACEU_OBR, p); o != 0; o = next(o, SARGACEU_OBR, p)) {
+            show(" order", o, 4, 2);
+            comments(o);
+            results(o);
+        }
+    }
+    return 0;
+}

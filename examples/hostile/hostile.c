@@ -1,0 +1,76 @@
+/*
+ * The hostile caller: calls every function of include/sargaceu.h with damaged messages, tables, cards and lengths, in buffers with unmapped
+ * pages right around them, and ends with status 1 at the first byte that is touched and should not be, or at the first answer that another
+ * call or a plain loop contradicts.
+ *
+ *   hostile [SEED [CALLS]]
+ *
+ * Each trial draws the arguments of one call and makes it twice: with every buffer flush against the page after it, then against the page
+ * before it. A function joins by an entry below and a trial of its own.
+ */
+#include "hostile.h"
+
+#include <stdio.h>
+#include <stdlib.h>
+
+enum { SEED = 24, CALLS = 200000, NUMBERS = NO + 1, LEAST_SHARE = 20 };
+
+static const struct {
+    const char *function;
+    int (*try_it)(void);
+} trials[] = {
+    { "sargaceu_read", try_read },
+    { "sargaceu_write", try_write },
+    { "sargaceu_is_table", try_is_table },
+    { "sargaceu_find_leaf", try_find_leaf },
+    { "sargaceu_next_row", try_next_row },
+    { "sargaceu_same_order", try_same_order },
+    { "sargaceu_line", try_line },
+    { "sargaceu_watch", try_watch },
+    { "sargaceu_list", try_list },
+};
+
+/* One line: the calls, how many were accepted and refused, and the numbers of the refusals where they have one. */
+static void show(const char *function, const size_t *count, size_t calls)
+{
+    printf("%-20s %zu calls, %zu accepted, %zu refused", function, calls, count[0], calls - count[0]);
+    const char *between = " (";
+    for (int number = 1; number < NO; number++)
+        if (count[number] > 0) {
+            printf("%s%d: %zu", between, number, count[number]);
+            between = ", ";
+        }
+    printf("%s\n", between[0] == ',' ? ")" : "");
+    fflush(stdout);
+}
+
+/* Whether both answers came often, so that the calls say something about both. */
+static bool run(size_t which, uint64_t seed, size_t calls)
+{
+    size_t count[NUMBERS] = { 0 };
+    for (size_t trial = 0; trial < calls / SIDES; trial++) {
+        begin_trial(trials[which].function, seed, trial);
+        chance_begin(seed, which, trial);
+        count[trials[which].try_it()] += SIDES;
+    }
+    show(trials[which].function, count, calls);
+    return count[0] >= calls / LEAST_SHARE && calls - count[0] >= calls / LEAST_SHARE;
+}
+
+int main(int arguments, char **argument)
+{
+    uint64_t seed = arguments > 1 ? strtoull(argument[1], NULL, 10) : SEED;
+    size_t calls = (arguments > 2 ? strtoull(argument[2], NULL, 10) : CALLS) / SIDES * SIDES;
+    bool both = true;
+    printf("hostile: seed %llu, %zu calls of each function\n", (unsigned long long)seed, calls);
+    stop_at_faults();
+    prepare_buffers();
+    for (size_t which = 0; which < sizeof trials / sizeof *trials; which++)
+        both = run(which, seed, calls) && both;
+    if (!both) {
+        printf("hostile: a function was too seldom accepted, or too seldom refused\n");
+        return 1;
+    }
+    printf("hostile: no byte touched that should not be, no answer contradicted\n");
+    return 0;
+}

@@ -1,0 +1,111 @@
+/* What the parts of the hostile caller share; hostile.c says what it does. */
+#ifndef HOSTILE_INCLUDED
+#define HOSTILE_INCLUDED
+
+#include "sargaceu.h"
+
+/* ---- chance.c: numbers that a seed determines ---- */
+
+void chance_begin(uint64_t seed, uint64_t function, uint64_t trial);
+uint64_t chance(void);
+size_t below(size_t bound); /* 0 to bound - 1, and 0 for the bound 0 */
+bool one_in(size_t n);
+size_t wild(void);                         /* a number at some limit, or any other */
+size_t short_of(size_t least);             /* a size under the least one */
+size_t enough(size_t least, size_t most);  /* a size from the least one on, mostly the least */
+const void *former(size_t bytes);          /* what a buffer held before a call: any bytes, aligned for every element */
+
+/* ---- stop.c: which call is under way, and how the program ends where it went wrong ---- */
+
+enum { SIDES = 2 };
+
+void stop_at_faults(void);
+void begin_trial(const char *function, uint64_t seed, size_t trial);
+void begin_side(int side);
+bool flush_with_page_after(void);
+bool look_at_all_around(void);
+_Noreturn void fail(const char *format, ...) __attribute__((format(printf, 1, 2)));
+
+/* ---- lend.c: buffers with unmapped pages right before and after them ---- */
+
+enum buffer {
+    MESSAGE, TEXT, SEGMENTS, LEAVES, CARD, ANSWER, OUTPUT, LISTING, WATCHER,
+    OTHER_TEXT, OTHER_SEGMENTS, OTHER_LEAVES, OTHER_CARD, BUFFERS
+};
+
+void prepare_buffers(void);
+const void *lend(enum buffer which, const void *content, size_t count); /* pages that can only be read */
+void *lend_to_write(enum buffer which, const void *content, size_t count);
+void expect_kept(enum buffer which);                                          /* all is as it was lent */
+void expect_front(enum buffer which, const void *front, size_t count);        /* the front is this, the rest as it was lent */
+void describe_address(const void *address, char *to, size_t room);
+
+/* ---- messages.c ---- */
+
+enum { MESSAGE_MOST = 40000 };
+
+struct message {
+    uint8_t bytes[MESSAGE_MOST];
+    size_t length;
+};
+
+void draw_sound_message(struct message *m); /* of the form, but for the limits, which it may pass */
+void draw_message(struct message *m);       /* sound, damaged, or any bytes */
+
+/* ---- tables.c ---- */
+
+enum { TEXT_MOST = SARGACEU_TEXT + 64, SEGMENTS_MOST = SARGACEU_SEGMENTS + 32, LEAVES_MOST = SARGACEU_LEAVES + 56, CARD_MOST = 8 };
+
+struct table {
+    size_t card[CARD_MOST], card_numbers;
+    uint16_t segments[SEGMENTS_MOST];
+    size_t segments_numbers;
+    uint16_t leaves[LEAVES_MOST];
+    size_t leaves_numbers;
+    uint8_t text[TEXT_MOST];
+    size_t text_bytes;
+};
+
+enum { CARD_SEPARATOR, CARD_CONTEXT, CARD_SEGMENTS, CARD_LEAVES, CARD_TEXT };
+
+void draw_read_table(struct table *t); /* what the reader made of some message */
+bool draw_table(struct table *t);      /* such a table, or a damaged one; whether it is undamaged */
+uint8_t read_table(const uint8_t *message, size_t bytes, struct table *t, size_t *place); /* in buffers of ordinary memory */
+uint8_t write_table(const struct table *t, uint8_t *output, size_t *answer);              /* the same, with output enough */
+void expect_same_table(const struct table *a, const struct table *b, const char *what);
+
+/* ---- plain.c: the same answers by plain loops ---- */
+
+struct outcome {
+    uint8_t number;
+    size_t place;
+};
+
+extern const char *const kind_names[13];
+extern const char *const context_names[8];
+
+unsigned followers(uint8_t context, uint8_t last); /* bit k: kind k may come next, C aside */
+bool may_follow(uint8_t context, uint8_t last, uint8_t kind);
+uint8_t plain_line(const uint8_t *message, size_t bytes, size_t at, size_t answer[2]);
+struct outcome plain_outcome(const uint8_t *message, size_t bytes); /* what the reader answers where the buffers are enough */
+size_t plain_kinds(uint8_t *kinds, size_t room, uint8_t *context);  /* of the message that plain_outcome saw last */
+const uint8_t *plain_joined(size_t *bytes);                         /* its joined segments, a CR behind each */
+bool plain_find_leaf(const struct table *t, const uint16_t place[5], size_t answer[2]);
+size_t plain_next_row(const struct table *t, size_t after, uint16_t kind, uint16_t owner);
+bool plain_same_order(const struct table *a, uint16_t row, const struct table *b, uint16_t other_row);
+
+/* ---- the trials: each draws arguments, makes the call on both sides, and answers 0 where it was accepted ---- */
+
+enum { NO = SARGACEU_NO_TABLE + 1 }; /* a plain no, which has no number */
+
+int try_read(void);
+int try_list(void);
+int try_line(void);
+int try_watch(void);
+int try_write(void);
+int try_is_table(void);
+int try_find_leaf(void);
+int try_next_row(void);
+int try_same_order(void);
+
+#endif

@@ -1,0 +1,120 @@
+/* Trials of the lookups. */
+#include "hostile.h"
+
+#include <string.h>
+
+static struct table one, two;
+
+/* How many rows of a table may be looked at: those that are there. */
+static size_t rows_there(size_t counted, size_t numbers, size_t row)
+{
+    return counted < numbers / row ? counted : numbers / row;
+}
+
+static size_t segments_there(const struct table *t)
+{
+    return rows_there(t->card[CARD_SEGMENTS], t->segments_numbers, SARGACEU_SEGMENT_ROW);
+}
+
+/* The place of some leaf, or one beside it, or any. */
+static void draw_place(uint16_t place[5])
+{
+    size_t leaves = rows_there(one.card[CARD_LEAVES], one.leaves_numbers, SARGACEU_LEAF_ROW);
+    for (int i = 0; i < 5; i++)
+        place[i] = (uint16_t)wild();
+    if (leaves > 0 && !one_in(12))
+        memcpy(place, one.leaves + below(leaves) * SARGACEU_LEAF_ROW, 5 * sizeof *place);
+    if (one_in(4))
+        place[below(5)] = (uint16_t)(one_in(2) ? 1 + below(4) : wild());
+}
+
+int try_find_leaf(void)
+{
+    uint16_t place[5];
+    size_t answer[SARGACEU_LEAF_ANSWER] = { 0, 0 };
+    draw_table(&one);
+    draw_place(place);
+    size_t numbers = one_in(16) ? below(SARGACEU_LEAF_ANSWER) : enough(SARGACEU_LEAF_ANSWER, 5);
+    const void *answer_was = former(8 * sizeof(size_t));
+    bool expected = plain_find_leaf(&one, place, answer);
+    for (int side = 0; side < SIDES; side++) {
+        begin_side(side);
+        size_t *lent = lend_to_write(ANSWER, answer_was, numbers);
+        bool there = sargaceu_find_leaf(lend(CARD, one.card, one.card_numbers), one.card_numbers,
+                                        lend(SEGMENTS, one.segments, one.segments_numbers), one.segments_numbers,
+                                        lend(LEAVES, one.leaves, one.leaves_numbers), one.leaves_numbers,
+                                        lend(TEXT, one.text, one.text_bytes), one.text_bytes,
+                                        place[0], place[1], place[2], place[3], place[4], lent, numbers);
+        if (there != expected)
+            fail("says %s, and a plain search %s", there ? "yes" : "no", expected ? "yes" : "no");
+        bool told = there && numbers >= SARGACEU_LEAF_ANSWER;
+        if (told && (lent[0] > one.card[CARD_TEXT] || lent[1] > one.card[CARD_TEXT] - lent[0]))
+            fail("the leaf lies past the card's text");
+        expect_front(ANSWER, answer, told ? SARGACEU_LEAF_ANSWER : 0);
+    }
+    return expected ? SARGACEU_ACCEPTED : NO;
+}
+
+int try_next_row(void)
+{
+    draw_table(&one);
+    size_t rows = segments_there(&one), row = below(rows), after = one_in(8) ? wild() : below(one_in(2) ? 2 : rows + 2);
+    uint16_t kind = (uint16_t)(one_in(12) ? wild() : 1 + below(12)), owner = (uint16_t)(one_in(12) ? wild() : below(rows + 2));
+    if (rows > 0 && !one_in(4)) {
+        kind = one.segments[row * SARGACEU_SEGMENT_ROW];
+        owner = one.segments[row * SARGACEU_SEGMENT_ROW + 1];
+    }
+    size_t expected = plain_next_row(&one, after, kind, owner);
+    for (int side = 0; side < SIDES; side++) {
+        begin_side(side);
+        size_t found = sargaceu_next_row(lend(CARD, one.card, one.card_numbers), one.card_numbers,
+                                         lend(SEGMENTS, one.segments, one.segments_numbers), one.segments_numbers,
+                                         after, kind, owner);
+        if (found != expected)
+            fail("answers row %zu, and a plain search %zu", found, expected);
+    }
+    return expected != 0 ? SARGACEU_ACCEPTED : NO;
+}
+
+/* An order's row mostly. */
+static uint16_t draw_row(const struct table *t)
+{
+    size_t rows = segments_there(t), row = one_in(8) ? wild() : below(rows + 2), orders = 0;
+    if (one_in(8))
+        return (uint16_t)row;
+    for (size_t i = 0; i < rows; i++)
+        if (t->segments[i * SARGACEU_SEGMENT_ROW] == SARGACEU_OBR && one_in(++orders))
+            row = i + 1;
+    return (uint16_t)row;
+}
+
+/* The second table is the first, or another; one of them may be damaged. */
+static void draw_pair(void)
+{
+    draw_table(&one);
+    if (one_in(2))
+        draw_table(&two);
+    else
+        two = one;
+}
+
+int try_same_order(void)
+{
+    draw_pair();
+    uint16_t row = draw_row(&one), other_row = one_in(2) ? row : draw_row(&two);
+    bool expected = plain_same_order(&one, row, &two, other_row);
+    for (int side = 0; side < SIDES; side++) {
+        begin_side(side);
+        bool same = sargaceu_same_order(lend(CARD, one.card, one.card_numbers), one.card_numbers,
+                                        lend(SEGMENTS, one.segments, one.segments_numbers), one.segments_numbers,
+                                        lend(LEAVES, one.leaves, one.leaves_numbers), one.leaves_numbers,
+                                        lend(TEXT, one.text, one.text_bytes), one.text_bytes, row,
+                                        lend(OTHER_CARD, two.card, two.card_numbers), two.card_numbers,
+                                        lend(OTHER_SEGMENTS, two.segments, two.segments_numbers), two.segments_numbers,
+                                        lend(OTHER_LEAVES, two.leaves, two.leaves_numbers), two.leaves_numbers,
+                                        lend(OTHER_TEXT, two.text, two.text_bytes), two.text_bytes, other_row);
+        if (same != expected)
+            fail("says %s of rows %d and %d, and a plain search %s", same ? "yes" : "no", row, other_row, expected ? "yes" : "no");
+    }
+    return expected ? SARGACEU_ACCEPTED : NO;
+}

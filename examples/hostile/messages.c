@@ -1,0 +1,317 @@
+/* Messages of the form, drawn along the order that a context allows, and damaged ones. */
+#include "hostile.h"
+
+#include <string.h>
+
+enum { CR = 13, LINE = 219, SEGMENT_MOST = 20000 };
+
+/* What a drawn message is like. */
+struct measure {
+    size_t segments, fields, text; /* about how many segments, fields in each, bytes in each piece */
+    bool dense;                    /* brought to the limit of leaves */
+    bool full;                     /* brought to the limit of bytes */
+};
+
+struct draft {
+    struct message *message;
+    uint8_t separators[5]; /* field, subfield, repeater, escape, sub-subfield */
+    uint8_t segment[SEGMENT_MOST];
+    size_t length, leaves;
+};
+
+static struct draft draft;
+
+/* ---- a segment ---- */
+
+static void put_byte(uint8_t byte)
+{
+    if (draft.length < SEGMENT_MOST)
+        draft.segment[draft.length++] = byte;
+}
+
+static void put_name(const char *name)
+{
+    while (*name != '\0')
+        put_byte((uint8_t)*name++);
+}
+
+/* Bytes that split nothing, the escape among them. */
+static void put_text(size_t bytes)
+{
+    static const char plain[] = "ABCDEFGHIJKLMNOPQRSTUVWXYZ abcdefghijklmnopqrstuvwxyz0123456789A";
+    while (bytes > 0) {
+        uint64_t drawn = chance();
+        for (int i = 0; i < 8 && bytes > 0; i++, bytes--, drawn >>= 8) {
+            uint8_t b = drawn & 0xff;
+            put_byte(b >= 0xf8 ? (uint8_t)(b == 0xff ? draft.separators[3] : b) : (uint8_t)plain[b % 64]);
+        }
+    }
+}
+
+static void split(int which)
+{
+    put_byte(draft.separators[which]);
+    draft.leaves++;
+}
+
+/* Pieces of all four sorts; the first is a field, since the kind or the context before it stands alone. */
+static void put_fields(size_t fields, size_t text)
+{
+    static const int which[8] = { 0, 0, 0, 0, 0, 1, 2, 4 };
+    for (size_t i = 0; i < fields; i++) {
+        split(i == 0 ? 0 : which[below(8)]);
+        put_text(below(text + 1));
+    }
+}
+
+static void begin_segment(uint8_t kind)
+{
+    draft.length = 0;
+    draft.leaves++;
+    put_name(kind_names[kind]);
+}
+
+static void draw_header(uint8_t context, struct measure measure)
+{
+    begin_segment(SARGACEU_H);
+    for (int i = 0; i < 5; i++)
+        put_byte(draft.separators[i]);
+    draft.leaves++;
+    split(0);
+    for (int field = 3; field < 7; field++) {
+        put_text(below(measure.text + 1));
+        split(0);
+    }
+    put_name(context_names[context]);
+    put_fields(below(measure.fields + 1), measure.text);
+}
+
+/* Orders often have one of a few numbers (9.4.2), so that two tables have the same order now and then. */
+static void draw_order_number(void)
+{
+    split(0);
+    split(0);
+    split(0);
+    put_text(below(4));
+    split(1);
+    put_byte((uint8_t)('0' + below(4)));
+}
+
+/* ---- lines ---- */
+
+static void put_in_message(const void *bytes, size_t count)
+{
+    struct message *m = draft.message;
+    if (count > MESSAGE_MOST - m->length)
+        count = MESSAGE_MOST - m->length;
+    memcpy(m->bytes + m->length, bytes, count);
+    m->length += count;
+}
+
+static size_t cut_somewhere(size_t at, size_t part)
+{
+    size_t whole = at > 0 ? 0 : draft.segment[0] == 'H' ? 7 : 1; /* the header's seven bytes are not cut; an addendum may be empty */
+    return part <= whole ? part : whole + below(part - whole + 1);
+}
+
+/* Cuts the segment where a line is full, and now and then anywhere; control bytes may follow a CR. */
+static void put_lines(void)
+{
+    static const char skipped[] = "\r\n\t";
+    const uint8_t addendum[2] = { 'A', draft.separators[0] };
+    bool cut = one_in(12);
+    for (size_t at = 0; at < draft.length;) {
+        size_t room = at == 0 ? LINE : LINE - 2, left = draft.length - at, part = left < room ? left : room;
+        if (cut)
+            part = cut_somewhere(at, part);
+        if (at > 0)
+            put_in_message(addendum, 2);
+        put_in_message(draft.segment + at, part);
+        put_in_message("\r", 1);
+        if (one_in(20))
+            put_in_message(skipped, 1 + below(3));
+        at += part;
+        cut = cut && !one_in(4);
+    }
+}
+
+/* ---- a message ---- */
+
+static void draw_separators(void)
+{
+    static const char usual[] = "|~^\\&";
+    static const char all[] = "!\"#$%&'()*+,-./:;<=>?@[\\]^_`{|}~";
+    memcpy(draft.separators, usual, 5);
+    if (!one_in(4))
+        return;
+    for (int i = 0; i < 5; i++) {
+        do
+            draft.separators[i] = (uint8_t)all[below(sizeof all - 1)];
+        while (memchr(draft.separators, draft.separators[i], (size_t)i) != NULL);
+    }
+}
+
+static struct measure draw_measure(void)
+{
+    switch (below(24)) {
+    case 0: return (struct measure){ 245 + below(14), 1, 2, false, false };
+    case 1: return (struct measure){ 3 + below(60), 4, 4, true, false };
+    case 2: return (struct measure){ 40 + below(40), 6, 90, false, true };
+    case 3: return (struct measure){ 3 + below(8), 3, 3, false, true };
+    default: return (struct measure){ 2 + below(16), below(8), below(14), false, false };
+    }
+}
+
+static uint8_t next_kind(uint8_t context, uint8_t last, bool enough_of_them)
+{
+    unsigned may = followers(context, last);
+    if (enough_of_them && (may >> SARGACEU_L & 1) != 0)
+        return SARGACEU_L;
+    if (may != 1u << SARGACEU_L)
+        may &= ~(1u << SARGACEU_L);
+    uint8_t kind;
+    do
+        kind = (uint8_t)(1 + below(SARGACEU_L));
+    while ((may >> kind & 1) == 0);
+    return kind;
+}
+
+static void draw_segment(uint8_t kind, struct measure measure)
+{
+    begin_segment(kind);
+    if (kind == SARGACEU_OBR && !one_in(3))
+        draw_order_number();
+    put_fields(below(measure.fields + 1), measure.text);
+    if (kind == SARGACEU_L && measure.dense)
+        for (size_t wanted = 2045 + below(6); draft.leaves < wanted;)
+            split(0);
+    put_lines();
+}
+
+void draw_sound_message(struct message *m)
+{
+    struct measure measure = draw_measure();
+    static const uint8_t with_orders[3] = { SARGACEU_CONTEXT_ORM, SARGACEU_CONTEXT_ORA, SARGACEU_CONTEXT_ORU };
+    uint8_t context = one_in(2) ? with_orders[below(3)] : (uint8_t)(1 + below(7)), last = SARGACEU_H;
+    m->length = draft.leaves = 0;
+    draft.message = m;
+    draw_separators();
+    draw_header(context, measure);
+    put_lines();
+    for (size_t row = 2; last != SARGACEU_L; row++) {
+        uint8_t kind = one_in(6) ? SARGACEU_C : next_kind(context, last, row >= measure.segments);
+        draw_segment(kind, measure);
+        if (kind != SARGACEU_C)
+            last = kind;
+    }
+    if (measure.full) /* control bytes after the last CR are skipped, and counted */
+        for (size_t wanted = SARGACEU_MESSAGE - 2 + below(5); m->length < wanted;)
+            put_in_message("\n", 1);
+}
+
+/* ---- damage ---- */
+
+struct part {
+    size_t start, length;
+};
+
+static struct part some_line(const struct message *m)
+{
+    size_t start = below(m->length), end = start;
+    while (start > 0 && m->bytes[start - 1] != CR)
+        start--;
+    while (end < m->length && m->bytes[end] != CR)
+        end++;
+    return (struct part){ start, (end < m->length ? end + 1 : end) - start };
+}
+
+static void erase(struct message *m, struct part part)
+{
+    memmove(m->bytes + part.start, m->bytes + part.start + part.length, m->length - part.start - part.length);
+    m->length -= part.length;
+}
+
+static void insert(struct message *m, size_t at, const uint8_t *bytes, size_t count)
+{
+    if (count > MESSAGE_MOST - m->length)
+        return;
+    memmove(m->bytes + at + count, m->bytes + at, m->length - at);
+    memcpy(m->bytes + at, bytes, count);
+    m->length += count;
+}
+
+static void change_byte(struct message *m)
+{
+    static const uint8_t telling[] = { 0, 9, 10, 13, 27, 31, 32, 33, 126, 127, 255, 'A', 'H', 'L', '|', '~', '^', '&', '\\' };
+    size_t at = below(one_in(4) ? 60 : m->length);
+    if (at < m->length)
+        m->bytes[at] = one_in(2) ? (uint8_t)chance() : telling[below(sizeof telling)];
+}
+
+static void rename_kind(struct message *m)
+{
+    struct part line = some_line(m);
+    size_t letters = 0;
+    while (letters < line.length && m->bytes[line.start + letters] >= 'A' && m->bytes[line.start + letters] <= 'Z')
+        letters++;
+    const char *name = one_in(6) ? "XYZ" : kind_names[1 + below(12)];
+    erase(m, (struct part){ line.start, letters });
+    insert(m, line.start, (const uint8_t *)name, strlen(name));
+}
+
+/* A line goes elsewhere, or is there twice. */
+static void move_line(struct message *m, bool twice)
+{
+    static uint8_t kept[MESSAGE_MOST];
+    struct part line = some_line(m);
+    memcpy(kept, m->bytes + line.start, line.length);
+    if (!twice)
+        erase(m, line);
+    insert(m, m->length == 0 ? 0 : some_line(m).start, kept, line.length);
+}
+
+static void insert_bytes(struct message *m, size_t count)
+{
+    static uint8_t bytes[600];
+    for (size_t i = 0; i < count; i++)
+        bytes[i] = one_in(30) ? (uint8_t)chance() : 'x';
+    insert(m, below(m->length + 1), bytes, count);
+}
+
+static void damage(struct message *m)
+{
+    if (m->length == 0)
+        return;
+    size_t at = below(m->length), left = m->length - at;
+    switch (below(12)) {
+    case 0: m->length = at; break;
+    case 1: m->bytes[below(m->length < 7 ? m->length : 7)] = (uint8_t)chance(); break;
+    case 2: erase(m, (struct part){ at, 1 + below(left < 6 ? left : 6) }); break;
+    case 3: erase(m, some_line(m)); break;
+    case 4: move_line(m, true); break;
+    case 5: move_line(m, false); break;
+    case 6: rename_kind(m); break;
+    case 7: insert_bytes(m, below(8)); break;
+    case 8: insert_bytes(m, 150 + below(300)); break;
+    default: change_byte(m);
+    }
+}
+
+static void draw_bytes(struct message *m)
+{
+    m->length = one_in(4) ? below(20) : below(600);
+    for (size_t i = 0; i < m->length; i++)
+        m->bytes[i] = (uint8_t)(one_in(3) ? chance() : 32 + below(96));
+}
+
+void draw_message(struct message *m)
+{
+    if (one_in(40)) {
+        draw_bytes(m);
+        return;
+    }
+    draw_sound_message(m);
+    if (one_in(2))
+        for (size_t times = 1 + below(3); times > 0; times--)
+            damage(m);
+}

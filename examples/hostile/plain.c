@@ -1,0 +1,271 @@
+/* The answers by plain loops over the whole input, each with memory of its own and no thought of speed. */
+#include "hostile.h"
+
+#include <string.h>
+
+enum { CR = 13, FIRST_TEXT = 32, LINE = 219, MOST_SEGMENTS = 256, MOST_LEAVES = 2048 };
+
+const char *const kind_names[13] = { "", "H", "P", "AP", "AC", "OBR", "OBX", "FAC", "REG", "ACT", "ERR", "L", "C" };
+const char *const context_names[8] = { "", "ADM", "ORM", "ORA", "REG", "ERR", "ORU", "FAC" };
+
+/* ---- the order ---- */
+
+#define KIND(k) (1u << SARGACEU_##k)
+
+static const unsigned follow[8][13] = {
+    [SARGACEU_CONTEXT_ADM] = {
+        [SARGACEU_H] = KIND(P), [SARGACEU_P] = KIND(P) | KIND(AP) | KIND(L),
+        [SARGACEU_AP] = KIND(AC) | KIND(P) | KIND(L), [SARGACEU_AC] = KIND(AC) | KIND(P) | KIND(L) },
+    [SARGACEU_CONTEXT_ORM] = {
+        [SARGACEU_H] = KIND(P), [SARGACEU_P] = KIND(OBR),
+        [SARGACEU_OBR] = KIND(OBX) | KIND(OBR) | KIND(P) | KIND(L), [SARGACEU_OBX] = KIND(OBX) | KIND(OBR) | KIND(P) | KIND(L) },
+    [SARGACEU_CONTEXT_ORA] = {
+        [SARGACEU_H] = KIND(P), [SARGACEU_P] = KIND(AP), [SARGACEU_AP] = KIND(AC) | KIND(OBR), [SARGACEU_AC] = KIND(AC) | KIND(OBR),
+        [SARGACEU_OBR] = KIND(OBX) | KIND(OBR) | KIND(P) | KIND(L), [SARGACEU_OBX] = KIND(OBX) | KIND(OBR) | KIND(P) | KIND(L) },
+    [SARGACEU_CONTEXT_REG] = {
+        [SARGACEU_H] = KIND(P), [SARGACEU_P] = KIND(REG), [SARGACEU_REG] = KIND(REG) | KIND(P) | KIND(L) },
+    [SARGACEU_CONTEXT_ERR] = {
+        [SARGACEU_H] = KIND(ERR), [SARGACEU_ERR] = KIND(ERR) | KIND(L) },
+    [SARGACEU_CONTEXT_ORU] = {
+        [SARGACEU_H] = KIND(P), [SARGACEU_P] = KIND(OBR), [SARGACEU_OBR] = KIND(OBX),
+        [SARGACEU_OBX] = KIND(OBX) | KIND(OBR) | KIND(P) | KIND(L) },
+    [SARGACEU_CONTEXT_FAC] = {
+        [SARGACEU_H] = KIND(P), [SARGACEU_P] = KIND(AP) | KIND(FAC), [SARGACEU_AP] = KIND(AC) | KIND(FAC),
+        [SARGACEU_AC] = KIND(AC) | KIND(FAC), [SARGACEU_FAC] = KIND(REG) | KIND(ACT) | KIND(FAC) | KIND(P) | KIND(L),
+        [SARGACEU_REG] = KIND(REG) | KIND(ACT) | KIND(FAC) | KIND(P) | KIND(L),
+        [SARGACEU_ACT] = KIND(ACT) | KIND(FAC) | KIND(P) | KIND(L) },
+};
+
+/* `last` is the last kind, C aside, and 0 before the first. */
+unsigned followers(uint8_t context, uint8_t last)
+{
+    if (context < SARGACEU_CONTEXT_ADM || context > SARGACEU_CONTEXT_FAC || last > SARGACEU_L)
+        return 0;
+    return last == 0 ? KIND(H) : follow[context][last];
+}
+
+bool may_follow(uint8_t context, uint8_t last, uint8_t kind)
+{
+    if (kind == SARGACEU_C) /* after anything that may stand but L */
+        return last != 0 && last != SARGACEU_L && followers(context, last) != 0;
+    return kind < SARGACEU_C && (followers(context, last) >> kind & 1) != 0;
+}
+
+/* ---- lines ---- */
+
+uint8_t plain_line(const uint8_t *message, size_t bytes, size_t at, size_t answer[2])
+{
+    answer[0] = answer[1] = at;
+    if (at >= bytes)
+        return SARGACEU_ACCEPTED;
+    if (message[at] < FIRST_TEXT)
+        return SARGACEU_CONTROL_BYTE;
+    for (size_t i = at; i < bytes; i++) {
+        answer[0] = i;
+        if (message[i] >= FIRST_TEXT && i - at == LINE)
+            return SARGACEU_LONG_LINE;
+        if (message[i] >= FIRST_TEXT)
+            continue;
+        if (message[i] != CR)
+            return SARGACEU_CONTROL_BYTE;
+        while (i < bytes && message[i] < FIRST_TEXT)
+            i++;
+        answer[1] = i;
+        return SARGACEU_ACCEPTED;
+    }
+    answer[0] = bytes;
+    return SARGACEU_OPEN_LINE;
+}
+
+/* ---- reading, up to the number and the place ---- */
+
+static uint8_t joined[SARGACEU_MESSAGE];
+static size_t starts[SARGACEU_MESSAGE + 1], segments; /* segment n lies from starts[n] to its CR at starts[n + 1] - 1 */
+
+static bool header(const uint8_t *message, size_t bytes)
+{
+    if (bytes < 7 || message[0] != 'H' || message[6] != message[1])
+        return false;
+    for (int i = 1; i <= 5; i++) {
+        uint8_t b = message[i];
+        if (b < 33 || b > 126 || (b >= '0' && b <= '9') || (b >= 'A' && b <= 'Z') || (b >= 'a' && b <= 'z'))
+            return false;
+        if (memchr(message + 1, b, (size_t)i - 1) != NULL)
+            return false;
+    }
+    return true;
+}
+
+/* Joins the lines into segments, or says the first fault. */
+static struct outcome join(const uint8_t *message, size_t bytes)
+{
+    size_t at = 0, length = 0, answer[2];
+    segments = 0;
+    while (at < bytes) {
+        uint8_t number = plain_line(message, bytes, at, answer);
+        if (number != SARGACEU_ACCEPTED)
+            return (struct outcome){ number, answer[0] };
+        bool addendum = answer[0] - at >= 2 && message[at] == 'A' && message[at + 1] == message[1];
+        if (addendum) {
+            at += 2;
+            length--; /* over the CR of the segment that goes on */
+        } else {
+            starts[segments++] = length;
+        }
+        memcpy(joined + length, message + at, answer[0] - at);
+        length += answer[0] - at;
+        joined[length++] = CR;
+        starts[segments] = length;
+        at = answer[1];
+    }
+    return (struct outcome){ SARGACEU_ACCEPTED, 0 };
+}
+
+const uint8_t *plain_joined(size_t *bytes)
+{
+    *bytes = starts[segments];
+    return joined;
+}
+
+static size_t until(const uint8_t *from, const uint8_t *end, uint8_t byte)
+{
+    const uint8_t *at = memchr(from, byte, (size_t)(end - from));
+    return (size_t)((at == NULL ? end : at) - from);
+}
+
+static uint8_t number_of(const char *const *names, size_t count, const uint8_t *name, size_t bytes)
+{
+    for (size_t i = 1; i < count; i++)
+        if (strlen(names[i]) == bytes && memcmp(names[i], name, bytes) == 0)
+            return (uint8_t)i;
+    return 0;
+}
+
+static uint8_t kind_of(size_t segment)
+{
+    const uint8_t *from = joined + starts[segment], *end = joined + starts[segment + 1] - 1;
+    return number_of(kind_names, 13, from, until(from, end, joined[1]));
+}
+
+static uint8_t context_of(void)
+{
+    const uint8_t *from = joined + 7, *end = joined + starts[1] - 1;
+    for (int field = 3; field < 7; field++) {
+        from += until(from, end, joined[1]);
+        if (from == end)
+            return 0;
+        from++;
+    }
+    return number_of(context_names, 8, from, until(from, end, joined[1]));
+}
+
+size_t plain_kinds(uint8_t *kinds, size_t room, uint8_t *context)
+{
+    *context = context_of();
+    for (size_t i = 0; i < segments && i < room; i++)
+        kinds[i] = kind_of(i);
+    return segments;
+}
+
+/* The row where the order breaks, or 0. */
+static size_t misplaced(void)
+{
+    uint8_t context = context_of(), last = 0;
+    for (size_t i = 0; i < segments; i++) {
+        uint8_t kind = kind_of(i);
+        if (!may_follow(context, last, kind))
+            return i + 1;
+        if (kind != SARGACEU_C)
+            last = kind;
+    }
+    return last == SARGACEU_L ? 0 : segments + 1;
+}
+
+/* The header is three leaves up to its seventh byte: H, the separators, and field 3, which begins there. */
+static size_t leaves(void)
+{
+    size_t count = segments + 2;
+    for (size_t i = 7; i < starts[segments]; i++)
+        if (joined[i] == joined[1] || joined[i] == joined[2] || joined[i] == joined[3] || joined[i] == joined[5])
+            count++;
+    return count;
+}
+
+struct outcome plain_outcome(const uint8_t *message, size_t bytes)
+{
+    if (bytes > SARGACEU_MESSAGE)
+        return (struct outcome){ SARGACEU_LONG_MESSAGE, 0 };
+    if (!header(message, bytes))
+        return (struct outcome){ SARGACEU_BROKEN_HEADER, 0 };
+    struct outcome lines = join(message, bytes);
+    if (lines.number != SARGACEU_ACCEPTED)
+        return lines;
+    if (segments > MOST_SEGMENTS)
+        return (struct outcome){ SARGACEU_MANY_SEGMENTS, 0 };
+    for (size_t i = 0; i < segments; i++)
+        if (kind_of(i) == 0)
+            return (struct outcome){ SARGACEU_UNKNOWN_KIND, i + 1 };
+    if (context_of() == 0)
+        return (struct outcome){ SARGACEU_NO_CONTEXT, 0 };
+    if (misplaced() != 0)
+        return (struct outcome){ SARGACEU_MISPLACED, misplaced() };
+    if (leaves() > MOST_LEAVES)
+        return (struct outcome){ SARGACEU_MANY_LEAVES, 0 };
+    return (struct outcome){ SARGACEU_ACCEPTED, 0 };
+}
+
+/* ---- the lookups ---- */
+
+/* The card that counts: of numbers that are no card the one that counts nothing. */
+static void card_of(const struct table *t, size_t card[SARGACEU_CARD])
+{
+    bool none = t->card_numbers < SARGACEU_CARD || t->card[CARD_SEPARATOR] > 255 || t->card[CARD_CONTEXT] > 255;
+    for (int i = 0; i < SARGACEU_CARD; i++)
+        card[i] = none ? 0 : t->card[i];
+}
+
+bool plain_find_leaf(const struct table *t, const uint16_t place[5], size_t answer[2])
+{
+    size_t card[SARGACEU_CARD];
+    card_of(t, card);
+    if (card[CARD_SEGMENTS] > t->segments_numbers / SARGACEU_SEGMENT_ROW || card[CARD_LEAVES] > t->leaves_numbers / SARGACEU_LEAF_ROW ||
+        card[CARD_TEXT] > t->text_bytes)
+        return false;
+    for (size_t i = 0; i < card[CARD_LEAVES]; i++) {
+        const uint16_t *row = t->leaves + i * SARGACEU_LEAF_ROW;
+        if (memcmp(row, place, 5 * sizeof *row) != 0 || (size_t)row[5] + row[6] > card[CARD_TEXT])
+            continue;
+        answer[0] = row[5];
+        answer[1] = row[6];
+        return true;
+    }
+    return false;
+}
+
+size_t plain_next_row(const struct table *t, size_t after, uint16_t kind, uint16_t owner)
+{
+    size_t card[SARGACEU_CARD];
+    card_of(t, card);
+    if (card[CARD_SEGMENTS] > t->segments_numbers / SARGACEU_SEGMENT_ROW)
+        return 0;
+    for (size_t i = 0; i < card[CARD_SEGMENTS]; i++)
+        if (i + 1 > after && t->segments[i * SARGACEU_SEGMENT_ROW] == kind && t->segments[i * SARGACEU_SEGMENT_ROW + 1] == owner)
+            return i + 1;
+    return 0;
+}
+
+static bool order_number(const struct table *t, uint16_t row, size_t answer[2])
+{
+    const uint16_t place[5] = { row, 4, 1, 2, 1 };
+    size_t card[SARGACEU_CARD];
+    card_of(t, card);
+    return row != 0 && row <= card[CARD_SEGMENTS] && plain_find_leaf(t, place, answer) &&
+           t->segments[(size_t)(row - 1) * SARGACEU_SEGMENT_ROW] == SARGACEU_OBR;
+}
+
+bool plain_same_order(const struct table *a, uint16_t row, const struct table *b, uint16_t other_row)
+{
+    size_t one[2], other[2];
+    return order_number(a, row, one) && order_number(b, other_row, other) && one[1] == other[1] &&
+           memcmp(a->text + one[0], b->text + other[0], one[1]) == 0;
+}

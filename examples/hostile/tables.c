@@ -1,0 +1,160 @@
+/* Tables: what the reader made of some message, and damaged ones. */
+#include "hostile.h"
+
+#include <string.h>
+
+/* The message that is read where a drawn one is refused. */
+static const char least[] = "H|~^\\&|||LAB||ORU\rP|1||||DUPONT~JEAN\rOBR|1||A~7\rOBX|1|NM|GLY||1.2\rL|1\r";
+
+static struct message source;
+
+/* ---- reading and writing in ordinary memory ---- */
+
+uint8_t read_table(const uint8_t *message, size_t bytes, struct table *t, size_t *place)
+{
+    size_t answer[SARGACEU_READ_ANSWER];
+    t->card_numbers = SARGACEU_CARD;
+    t->segments_numbers = SARGACEU_SEGMENTS;
+    t->leaves_numbers = SARGACEU_LEAVES;
+    t->text_bytes = SARGACEU_TEXT;
+    uint8_t number = sargaceu_read(message, bytes, t->text, t->text_bytes, t->segments, t->segments_numbers,
+                                   t->leaves, t->leaves_numbers, answer, SARGACEU_READ_ANSWER);
+    *place = answer[0];
+    memcpy(t->card, answer + 1, SARGACEU_CARD * sizeof *t->card);
+    return number;
+}
+
+uint8_t write_table(const struct table *t, uint8_t *output, size_t *answer)
+{
+    return sargaceu_write(t->card, t->card_numbers, t->segments, t->segments_numbers, t->leaves, t->leaves_numbers,
+                          t->text, t->text_bytes, output, SARGACEU_OUTPUT, answer, SARGACEU_WRITE_ANSWER);
+}
+
+void expect_same_table(const struct table *a, const struct table *b, const char *what)
+{
+    size_t segments = a->card[CARD_SEGMENTS] * SARGACEU_SEGMENT_ROW, leaves = a->card[CARD_LEAVES] * SARGACEU_LEAF_ROW;
+    if (memcmp(a->card, b->card, SARGACEU_CARD * sizeof *a->card) != 0)
+        fail("%s: another card", what);
+    if (memcmp(a->segments, b->segments, segments * sizeof *a->segments) != 0)
+        fail("%s: other segment rows", what);
+    if (memcmp(a->leaves, b->leaves, leaves * sizeof *a->leaves) != 0)
+        fail("%s: other leaf rows", what);
+    if (memcmp(a->text, b->text, a->card[CARD_TEXT]) != 0)
+        fail("%s: another text", what);
+}
+
+/* ---- drawing ---- */
+
+void draw_read_table(struct table *t)
+{
+    size_t place;
+    memcpy(t->card, former(sizeof t->card), sizeof t->card);
+    memcpy(t->segments, former(sizeof t->segments), sizeof t->segments);
+    memcpy(t->leaves, former(sizeof t->leaves), sizeof t->leaves);
+    memcpy(t->text, former(sizeof t->text), sizeof t->text);
+    draw_sound_message(&source);
+    if (read_table(source.bytes, source.length, t, &place) != SARGACEU_ACCEPTED)
+        read_table((const uint8_t *)least, sizeof least - 1, t, &place);
+}
+
+/* A number that is one off, or any. */
+static size_t other_than(size_t number)
+{
+    switch (below(4)) {
+    case 0: return number + 1;
+    case 1: return number - 1;
+    default: return wild();
+    }
+}
+
+static void change_number(uint16_t *numbers, size_t count)
+{
+    size_t at = below(count);
+    numbers[at] = (uint16_t)other_than(numbers[at]);
+}
+
+/* Row `to` becomes what row `from` is, or both change places. */
+static void copy_row(uint16_t *rows, size_t count, size_t row, bool swap)
+{
+    uint16_t kept[SARGACEU_LEAF_ROW];
+    size_t size = row * sizeof *rows;
+    uint16_t *from = rows + below(count) * row, *to = rows + below(count) * row;
+    memcpy(kept, to, size);
+    memmove(to, from, size);
+    if (swap)
+        memcpy(from, kept, size);
+}
+
+/* A leaf takes another's place, so that one place is there twice, with two texts. */
+static void double_place(struct table *t, size_t leaves)
+{
+    uint16_t *from = t->leaves + below(leaves) * SARGACEU_LEAF_ROW, *to = t->leaves + below(leaves) * SARGACEU_LEAF_ROW;
+    memmove(to, from, 5 * sizeof *to);
+}
+
+/* The last leaf gets more text, and everything else fits it: a sound table, unless its message passes the limit. */
+static void lengthen(struct table *t, size_t leaves)
+{
+    uint16_t *last = t->leaves + (leaves - 1) * SARGACEU_LEAF_ROW;
+    size_t more = below(one_in(2) ? 20 : 9000);
+    if (t->card[CARD_TEXT] + more > SARGACEU_TEXT)
+        more = SARGACEU_TEXT - t->card[CARD_TEXT];
+    memset(t->text + t->card[CARD_TEXT], 'x', more);
+    last[6] = (uint16_t)(last[6] + more);
+    t->card[CARD_TEXT] += more;
+}
+
+static void damage(struct table *t, size_t segments, size_t leaves, size_t text)
+{
+    switch (below(14)) {
+    case 0: t->card[below(SARGACEU_CARD)] = wild(); break;
+    case 1: case 2: {
+        size_t *number = t->card + below(SARGACEU_CARD);
+        *number = other_than(*number);
+        break;
+    }
+    case 3: change_number(t->segments, segments * SARGACEU_SEGMENT_ROW); break;
+    case 4: change_number(t->leaves, leaves * SARGACEU_LEAF_ROW); break;
+    case 5: copy_row(t->segments, segments, SARGACEU_SEGMENT_ROW, one_in(2)); break;
+    case 6: copy_row(t->leaves, leaves, SARGACEU_LEAF_ROW, one_in(2)); break;
+    case 7: t->card_numbers = below(SARGACEU_CARD); break;
+    case 8: t->text[below(text)] = (uint8_t)chance(); break;
+    case 9: double_place(t, leaves); break;
+    case 10: case 11: t->text[below(text)] = (uint8_t)('a' + below(26)); break;
+    default:
+        if (t->card[CARD_TEXT] == text) /* as it was read, and not yet made longer */
+            lengthen(t, leaves);
+    }
+}
+
+/* Buffers that end right behind the counted entries, or one element before that, or anywhere. */
+static bool fit(struct table *t, size_t segments, size_t leaves, size_t text)
+{
+    size_t *const numbers[3] = { &t->segments_numbers, &t->leaves_numbers, &t->text_bytes };
+    const size_t counted[3] = { segments * SARGACEU_SEGMENT_ROW, leaves * SARGACEU_LEAF_ROW, text };
+    if (one_in(2))
+        for (int i = 0; i < 3; i++)
+            *numbers[i] = counted[i];
+    if (!one_in(8))
+        return true;
+    int i = (int)below(3);
+    *numbers[i] = one_in(2) ? counted[i] - 1 : below(counted[i]);
+    return false;
+}
+
+bool draw_table(struct table *t)
+{
+    draw_read_table(t);
+    size_t segments = t->card[CARD_SEGMENTS], leaves = t->card[CARD_LEAVES], text = t->card[CARD_TEXT];
+    bool sound = true;
+    if (one_in(2)) {
+        sound = false;
+        for (size_t times = 1 + below(2); times > 0; times--)
+            damage(t, segments, leaves, text);
+    } else if (one_in(3)) {
+        t->card_numbers = CARD_MOST; /* the first five count */
+    }
+    if (t->card[CARD_TEXT] > text && t->card[CARD_TEXT] <= SARGACEU_TEXT)
+        text = t->card[CARD_TEXT]; /* it was made longer */
+    return fit(t, segments, leaves, text) && sound;
+}
