@@ -1,4 +1,4 @@
-// Lists the message that comes on standard input: the listing, and nothing else. What matters is in the library; this reads and writes.
+// Lists the message that comes on standard input: the listing (G1, G2), and nothing else. What matters is in the library; this reads and writes.
 use form::limits::Form;
 use libc::STDIN_FILENO;
 use libc::STDOUT_FILENO;

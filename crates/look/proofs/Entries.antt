@@ -1,5 +1,5 @@
--- "Entries of a buffer past the counted ones are neither read nor written" (document 01): what they hold changes no answer of a lookup.
--- Each answer is one of the counted entries and of the buffers' lengths alone.
+-- What a lent buffer holds past the counted entries is not looked at (T7): it changes no answer of a lookup. Each answer is one of the
+-- counted entries and of the buffers' lengths alone.
 -- Assumes nothing.
 use mathlib.Core.Bool.{Bool, true, false, _&&_}
 use mathlib.Core.List.{List}
