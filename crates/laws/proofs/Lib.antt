@@ -5,6 +5,7 @@ pub mod Lists
 pub mod Members
 pub mod Every
 pub mod Parts
+pub mod LentParts
 pub mod Sums
 pub mod Tables
 pub mod Stores

@@ -9,7 +9,9 @@ use native.Mathlib.Numerals.{add-one}
 use lib.Dec.{eqb}
 use lib.ListN.{length, getD, take, drop, length-drop, drop-of-length-le}
 use lib.Seq.{getD-drop, drop-drop}
+use denote.Ref.{RefT}
 use borrow.Author.Tests.{lt-ltb, le-ltb, le-leb, lt-leb, eq-eqb, ne-eqb}
+use Rattle.laws.specs.Parts.{partOf}
 use Rattle.laws.proofs.Cases.{less-or-not, equal-or-not}
 use Rattle.laws.proofs.Tests.{and-fails-second}
 use Rattle.laws.proofs.Parts.{left-cons}
@@ -256,15 +258,15 @@ module _ (at : ℕ) where
   unfolding nextOf
   nextOf-fault f k p h = ap (nextOf at) h
 
-  module _ (m : List ℕ) where
-    pub partFound-line : (f : Found) (e n : ℕ) → f ≡ Line e n → partFound m at f ≡ take (e - at) (drop at m)
+  module _ (m : RefT (List ℕ)) where
+    pub partFound-line : (f : Found) (e n : ℕ) → f ≡ Line e n → partFound m at f ≡ partOf m at (e - at)
     unfolding partFound
     partFound-line f e n h = ap (partFound m at) h
 
-    pub partFound-end : (f : Found) → f ≡ End → partFound m at f ≡ []
+    pub partFound-end : (f : Found) → f ≡ End → partFound m at f ≡ partOf m 0 0
     unfolding partFound
     partFound-end f h = ap (partFound m at) h
 
-    pub partFound-fault : (f : Found) (k p : ℕ) → f ≡ Fault k p → partFound m at f ≡ []
+    pub partFound-fault : (f : Found) (k p : ℕ) → f ≡ Fault k p → partFound m at f ≡ partOf m 0 0
     unfolding partFound
     partFound-fault f k p h = ap (partFound m at) h

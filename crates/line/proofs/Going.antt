@@ -2,16 +2,17 @@
 -- Assumes nothing.
 use mathlib.Core.Path.{_≡_, refl, sym, ap, ap₂, _∙_}
 use mathlib.Core.List.{List}
-use Prim.Native.Nat.{ℕ, zero, suc, _+_, _≤_}
+use Prim.Native.Nat.{ℕ, zero, suc, _+_, _-_, _≤_}
 use native.Mathlib.Nat.{suc-add, zero-add}
 use native.Mathlib.Omega.{arith}
 use lib.Dec.{lit≤}
-use lib.ListN.{drop}
-use denote.Ref.{RefT, now}
+use lib.ListN.{take, drop}
+use denote.Ref.{RefT, ptr, now}
+use Rattle.laws.specs.Parts.{Part}
 use Rattle.form.specs.declared.limits.Limits.{Limits}
 use Rattle.form.specs.Limits.{form}
 use Rattle.line.specs.Lines.{Lines, end, fault, line, walkFrom, walk}
-use Rattle.line.specs.Finding.{foundAt, partFound, nextOf}
+use Rattle.line.specs.Finding.{foundAt, partFound, partAt, nextOf}
 use Rattle.line.specs.inner.Ending.{handedOut}
 use Rattle.line.specs.Going.{walkAfter, placeAfter, after}
 use Rattle.line.specs.declared.finder.Found.{Found}
@@ -50,12 +51,6 @@ module _ (L : Limits) (m : List ℕ) where
   handed-fault at End n p h = let z : _≡_ {A = ℕ} 0 1 = cc in absurd (omega arith)
   handed-fault at (Fault k r) n p h = let a : k ≡ n = cc in let b : r ≡ p = cc in ap₂ Fault a b
 
-  handed-line : (at : ℕ) (f : Found) (t : List ℕ) (ls : Lines) → handedOut L m at f ≡ line t ls → partFound m at f ≡ t
-  unfolding handedOut partFound
-  handed-line at (Line e k) t ls h = cc
-  handed-line at End t ls h = let z : _≡_ {A = ℕ} 0 1 = cc in absurd (omega arith)
-  handed-line at (Fault k r) t ls h = let z : _≡_ {A = ℕ} 0 1 = cc in absurd (omega arith)
-
   module _ (one : 1 ≤ L .line) where
     -- a walk that went on k times has the lines after the first k before it
     pub going-on : (k : ℕ) → walkFrom L (placeAfter L m k) (drop (placeAfter L m k) m) ≡ after k (walk L m)
@@ -76,15 +71,33 @@ module _ (L : Limits) (m : List ℕ) where
     pub found-after-fault : (k n p : ℕ) → after k (walk L m) ≡ fault n p → foundAt L m (placeAfter L m k) ≡ Fault n p
     found-after-fault k n p h = handed-fault (placeAfter L m k) (foundAt L m (placeAfter L m k)) n p (handed-after k ∙ h)
 
-    pub part-after-line : (k : ℕ) (t : List ℕ) (ls : Lines) → after k (walk L m) ≡ line t ls → partFound m (placeAfter L m k) (foundAt L m (placeAfter L m k)) ≡ t
-    part-after-line k t ls h = handed-line (placeAfter L m k) (foundAt L m (placeAfter L m k)) t ls (handed-after k ∙ h)
-
   -- at an end or a fault the place stays, for ever
   pub stays : (k j : ℕ) → nextOf (placeAfter L m k) (foundAt L m (placeAfter L m k)) ≡ placeAfter L m k → placeAfter L m (j + k) ≡ placeAfter L m k
   unfolding placeAfter
   stays k zero h = rw (zero-add k)
   stays k (suc j) h =
       ap (placeAfter L m) (suc-add j k) ∙ ap (λ (p : ℕ). nextOf p (foundAt L m p)) (stays k j h) ∙ h
+
+-- the bytes of a lent message from a place on
+abbrev pub standing : RefT (List ℕ) → ℕ → List ℕ → Part
+standing s at t = record { block = ptr s .0; offset = at + ptr s .1; bytes = t }
+
+-- The part that is the k-th line stands at its place of the message and has its text.
+module _ (L : Limits) (s : RefT (List ℕ)) where
+  handed-line : (at : ℕ) (f : Found) (t : List ℕ) (ls : Lines) → handedOut L (now s) at f ≡ line t ls → partFound s at f ≡ standing s at t
+  unfolding handedOut partFound
+  handed-line at (Line e k) t ls h = let e : take (e - at) (drop at (now s)) ≡ t = cc in ap (standing s at) e
+  handed-line at End t ls h = let z : _≡_ {A = ℕ} 0 1 = cc in absurd (omega arith)
+  handed-line at (Fault k r) t ls h = let z : _≡_ {A = ℕ} 0 1 = cc in absurd (omega arith)
+
+  pub part-after-line :
+      1 ≤ L .line
+      → (k : ℕ) (t : List ℕ) (ls : Lines)
+      → after k (walk L (now s)) ≡ line t ls
+      → partAt L s (placeAfter L (now s) k) ≡ standing s (placeAfter L (now s) k) t
+  part-after-line one k t ls h =
+      let at = placeAfter L (now s) k in
+      handed-line at (foundAt L (now s) at) t ls (handed-after L (now s) one k ∙ h)
 
 -- The walk that `open` and then k times `go_on` hand out, by their contracts.
 module _ (s : RefT (List ℕ)) where

@@ -4,7 +4,9 @@ use mathlib.Core.Bool.{true, false}
 use mathlib.Core.List.{List, [], _∷_}
 use Prim.Native.Nat.{ℕ, suc, _+_, _-_}
 use lib.Dec.{leb, ltb, eqb}
-use lib.ListN.{take, drop}
+use lib.ListN.{drop}
+use denote.Ref.{RefT, now}
+use Rattle.laws.specs.Parts.{Part, partOf}
 use Rattle.form.specs.declared.limits.Limits.{Limits}
 use Rattle.form.specs.Numbers.{controlByte, longLine, openLine}
 use Rattle.line.specs.Lines.{CR, space}
@@ -43,11 +45,15 @@ foundFrom most at (b ∷ s) =
 abbrev pub foundAt : Limits → List ℕ → ℕ → Found
 foundAt L message at = foundFrom (L .line) at (drop at message)
 
--- the part of the message that a line found at `at` is: none at the end or a fault
-unfoldable pub partFound : List ℕ → ℕ → Found → List ℕ
-partFound message at (Line e n) = take (e - at) (drop at message)
-partFound message at End = []
-partFound message at (Fault n p) = []
+-- the part of a lent message that a line found at `at` is; at the end or a fault no byte of it, at its start
+unfoldable pub partFound : RefT (List ℕ) → ℕ → Found → Part
+partFound message at (Line e n) = partOf message at (e - at)
+partFound message at End = partOf message 0 0
+partFound message at (Fault n p) = partOf message 0 0
+
+-- the part that is the line at a place
+abbrev pub partAt : Limits → RefT (List ℕ) → ℕ → Part
+partAt L message at = partFound message at (foundAt L (now message) at)
 
 -- the place of the next line: "after the end or a fault it gets the same again", so the place stays
 unfoldable pub nextOf : ℕ → Found → ℕ

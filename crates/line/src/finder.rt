@@ -5,7 +5,8 @@ ghost use mathlib.Core.Path.{_≡_};
 ghost use Prim.Native.Nat.{_+_, _-_, _≤_, min};
 ghost use lib.ListN.{length, drop};
 ghost use Rattle.form.specs.Limits.{form};
-ghost use Rattle.line.specs.Finding.{textRun, lowRun, foundFrom, foundAt, nextOf, partFound};
+ghost use Rattle.laws.specs.Parts.{wholeOf};
+ghost use Rattle.line.specs.Finding.{textRun, lowRun, foundFrom, foundAt, nextOf, partAt};
 ghost use Rattle.line.specs.inner.Ending.{endedLine};
 
 // CR ends a line.
@@ -127,9 +128,10 @@ pub fn next_place(message: &[u8], at: usize) -> usize
     }
 }
 
-// The part of the message that is the line at a place, without its CR, and an empty part where there is an end or a fault.
+// The part of the message that is the line at a place, without its CR (P1): the lent bytes themselves, by block, offset and bytes. At an end or
+// a fault it is the message's first no bytes.
 pub fn line_part(message: &[u8], at: usize) -> &[u8]
-    ensures { λ r. ⌜ now r ≡ partFound (now (message .entry)) at (foundAt form (now (message .entry)) at) ⌝ }
+    ensures { λ r. ⌜ wholeOf r ≡ partAt form (message .entry) at ⌝ }
 {
     match line_at(message, at) {
         Found::Line { end, next: _ } => &message[at..end],

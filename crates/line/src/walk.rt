@@ -5,7 +5,8 @@ use crate::finder::line_part;
 use crate::finder::next_place;
 ghost use mathlib.Core.Path.{_≡_};
 ghost use Rattle.form.specs.Limits.{form};
-ghost use Rattle.line.specs.Finding.{foundAt, partFound};
+ghost use Rattle.laws.specs.Parts.{wholeOf};
+ghost use Rattle.line.specs.Finding.{foundAt, partAt};
 ghost use Rattle.line.specs.Going.{walkOpened, goneOn};
 
 // The message, and the place in it that the walk has come to.
@@ -28,9 +29,9 @@ pub fn look<'a>(walk: Walk<'a>) -> Found
     line_at(walk.message, walk.at)
 }
 
-// The line itself, without its CR; an empty part at the end or a fault.
+// The line itself, the part of the lent message without its CR (P1); at the end or a fault the message's first no bytes.
 pub fn part<'a>(walk: Walk<'a>) -> &'a [u8]
-    ensures { λ r. ⌜ now r ≡ partFound (now (walk .entry .message)) (walk .entry .at) (foundAt form (now (walk .entry .message)) (walk .entry .at)) ⌝ }
+    ensures { λ r. ⌜ wholeOf r ≡ partAt form (walk .entry .message) (walk .entry .at) ⌝ }
 {
     line_part(walk.message, walk.at)
 }
