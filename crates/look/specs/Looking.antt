@@ -5,8 +5,11 @@ use mathlib.Core.List.{List, [], _∷_}
 use Prim.Native.Nat.{ℕ, zero, suc, _+_, _*_, _-_}
 use lib.Dec.{leb, eqb}
 use lib.ListN.{length, take, drop}
+use denote.Ref.{RefT, now}
 use Rattle.laws.specs.Lists.{same}
-use Rattle.table.specs.Lent.{Lent, withinBuffers}
+use Rattle.laws.specs.Parts.{Part, wholeOf, partOf}
+use Rattle.table.specs.declared.Card.{Card}
+use Rattle.table.specs.Lent.{Lent, lent, withinBuffers}
 use Rattle.table.specs.Rows.{segmentRowSize, kindIn, ownerIn, placeIn, startIn, lengthIn}
 use Rattle.look.specs.declared.leaf.Sought.{Sought}
 use Rattle.look.specs.declared.leaf.Sought.the-variants.{At, Nothing}
@@ -30,14 +33,14 @@ soughtFrom rows bytes p i (suc n) =
 unfoldable pub soughtIn : Lent → Place → Sought
 soughtIn t p = elim (withinBuffers t) [ true ↦ soughtFrom (t .leafRows) (t .card .text) p 0 (t .card .leaves) | false ↦ Nothing ]
 
--- the bytes of the text that was found, or the substitute's
-unfoldable pub soughtPart : Lent → List ℕ → Sought → List ℕ
-soughtPart t substitute (At start n) = take n (drop start (t .text))
-soughtPart t substitute Nothing = substitute
+-- what is handed back of a lent text area and a lent substitute: the part that was found, or the whole substitute
+unfoldable pub soughtPart : (text substitute : RefT (List ℕ)) → Sought → Part
+soughtPart text substitute (At start n) = partOf text start n
+soughtPart text substitute Nothing = wholeOf substitute
 
--- the bytes that the leaf lookup answers (F1)
-unfoldable pub lookedUp : Lent → Place → List ℕ → List ℕ
-lookedUp t p substitute = soughtPart t substitute (soughtIn t p)
+-- the part that the leaf lookup answers (F1)
+abbrev pub lookedUp : Card → (segmentRows leafRows : List ℕ) → (text : RefT (List ℕ)) → Place → (substitute : RefT (List ℕ)) → Part
+lookedUp card segmentRows leafRows text p substitute = soughtPart text substitute (soughtIn (lent card segmentRows leafRows (now text)) p)
 
 -- whether so many rows are within the segment rows
 abbrev pub segmentsFit : List ℕ → ℕ → Bool

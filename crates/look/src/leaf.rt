@@ -5,6 +5,7 @@ ghost use mathlib.Core.Path.{_≡_};
 ghost use Prim.Native.Nat.{_+_, _*_, _≤_};
 ghost use lib.ListN.{length};
 ghost use Rattle.laws.specs.Lists.{same};
+ghost use Rattle.laws.specs.Parts.{wholeOf};
 ghost use Rattle.table.specs.Lent.{lent};
 ghost use Rattle.table.specs.Rows.{leafRowSize, placeIn};
 ghost use Rattle.look.specs.Looking.{numbersOf, soughtFrom, soughtIn, lookedUp};
@@ -41,7 +42,8 @@ pub fn find_leaf(
     Sought::Nothing
 }
 
-// The text of the leaf at a place (F1): no copy, but that part of the lent text area; the lent substitute where the leaf is not there.
+// The text of the leaf at a place (F1): no copy, but that part of the lent text area, told by block, offset and bytes; the lent substitute
+// itself where the leaf is not there.
 pub fn leaf_text<'a>(
     card: Card,
     segments: &[rows::Entry],
@@ -50,7 +52,7 @@ pub fn leaf_text<'a>(
     place: Place,
     substitute: &'a [u8],
 ) -> &'a [u8]
-    ensures { λ r. ⌜ now r ≡ lookedUp (lent card (now (segments .entry)) (now (leaves .entry)) (now (text .entry))) place (now (substitute .entry)) ⌝ }
+    ensures { λ r. ⌜ wholeOf r ≡ lookedUp card (now (segments .entry)) (now (leaves .entry)) (text .entry) place (substitute .entry) ⌝ }
 {
     match find_leaf(card, segments, leaves, text, place) {
         Sought::At(start, length) => {
