@@ -12,7 +12,6 @@ use lib.ListN.{length, getD, take, drop}
 use lib.Seq.{getD-take}
 use denote.Ref.{RefT, ptr, now}
 use Rattle.laws.specs.Lists.{same}
-use Rattle.laws.specs.Parts.{Part}
 use Rattle.laws.proofs.LentParts.{same-part}
 use Rattle.laws.proofs.Parts.{part-taken}
 use Rattle.laws.proofs.Searching.{firstOf-same}

@@ -56,7 +56,7 @@ rowFrom rows kind owner i zero = 0
 rowFrom rows kind owner i (suc n) =
     elim (hasKindAndOwner rows kind owner i) [ true ↦ suc i | false ↦ rowFrom rows kind owner (suc i) n ]
 
--- the number of the next row behind a row that has both, or 0; 0 as well where there are fewer segment rows than the count says (F2)
+-- the number of the next row, behind row `after`, that has both, or 0; 0 as well where there are fewer segment rows than the count says (F2)
 unfoldable pub rowAfter : List ℕ → ℕ → ℕ → ℕ → ℕ → ℕ
 rowAfter rows count after kind owner =
     elim (segmentsFit rows count) [ true ↦ rowFrom rows kind owner after (count - after) | false ↦ 0 ]
