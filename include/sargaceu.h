@@ -4,14 +4,21 @@
  * Every function takes any bytes, any numbers and any lengths, and returns. None allocates, none keeps anything between two calls,
  * and none touches memory but the buffers of that call, so calls on different buffers may run at the same time.
  *
- * A buffer goes in as a pointer and a count of its elements. The pointer is never null, also where the count is 0, and a buffer that is
- * written overlaps no other buffer of the call.
+ * A buffer goes in as a pointer and a count of its elements. Four things no function can test, and every caller owes them: the pointer is
+ * not null, not even where the count is 0; as many elements as the count says are there; the pointer is aligned as its type asks (uint16_t
+ * to 2 bytes, size_t to 8); and a buffer that is written overlaps no other buffer of the call.
  *
  * A card is five numbers: field separator, context, counts of segments, leaves and text bytes. What `sargaceu_read` answers from
  * answer[1] on is one. Of more numbers the first five count; fewer than five, or a separator or context over 255, are taken as the card
  * that is all zero, which counts nothing.
  *
+ * `answer` is where the numbers go that do not fit the return value. A refusal is answered there, too: reader and writer put its place into
+ * answer[0], and zeros for the card or the counts behind it, while every other buffer stays as it was. An answer that is shorter than
+ * stated gets no number at all: it stays as it was, and the call has no place then.
+ *
  * Elements of a buffer past those that a call fills stay as they were.
+ *
+ * L1, N3, W4 and the like are rules of docs/RULES.md.
  */
 #ifndef SARGACEU_INCLUDED
 #define SARGACEU_INCLUDED
@@ -45,7 +52,7 @@ enum {
     SARGACEU_WATCHER = 2
 };
 
-/* The numbers that come back, each with its place. */
+/* The numbers that come back, each with its place (N1). */
 enum sargaceu_number {
     SARGACEU_ACCEPTED = 0,
     SARGACEU_SHORT_BUFFER = 1,   /* place 0, and no place at all where the answer itself is short */
@@ -63,22 +70,23 @@ enum sargaceu_number {
     SARGACEU_NO_TABLE = 13       /* place 0 */
 };
 
-/* A segment row's first number. */
+/* A segment row's first number (S1). */
 enum sargaceu_kind {
     SARGACEU_H = 1, SARGACEU_P = 2, SARGACEU_AP = 3, SARGACEU_AC = 4, SARGACEU_OBR = 5, SARGACEU_OBX = 6,
     SARGACEU_FAC = 7, SARGACEU_REG = 8, SARGACEU_ACT = 9, SARGACEU_ERR = 10, SARGACEU_L = 11, SARGACEU_C = 12
 };
 
-/* A card's second number. */
+/* A card's second number (C1). */
 enum sargaceu_context {
     SARGACEU_CONTEXT_ADM = 1, SARGACEU_CONTEXT_ORM = 2, SARGACEU_CONTEXT_ORA = 3, SARGACEU_CONTEXT_REG = 4,
     SARGACEU_CONTEXT_ERR = 5, SARGACEU_CONTEXT_ORU = 6, SARGACEU_CONTEXT_FAC = 7
 };
 
 /*
- * Reads a message into the text area, the segment rows and the leaf rows. Returns the number; answer gets the place and the card: place,
- * field separator, context, segments, leaves, text bytes. A refusal changes none of the three buffers, and its card is all zero.
- * Buffers under the stated sizes are refused with 1. An answer of under six numbers is refused with 1, too, and is left as it was.
+ * Reads a message into the text area, the segment rows and the leaf rows (T1 to T5). Returns the number; answer gets the place and the
+ * card: place, field separator, context, segments, leaves, text bytes. A refusal changes none of the three buffers; answer gets its place
+ * and five zeros (N3). Buffers under the stated sizes are refused with 1. So is an answer of under six numbers, before anything else is
+ * looked at; it stays as it was.
  */
 uint8_t sargaceu_read(const uint8_t *message, size_t message_bytes,
                       uint8_t *text, size_t text_bytes,
@@ -87,8 +95,9 @@ uint8_t sargaceu_read(const uint8_t *message, size_t message_bytes,
                       size_t *answer, size_t answer_numbers);
 
 /*
- * Writes the message of a table at the front of the output. Returns the number; answer gets place, bytes and lines. A refusal changes no
- * output byte, and its bytes and lines are 0. An answer of under three numbers is refused with 1 and is left as it was.
+ * Writes the message of a table at the front of the output (W1). Returns the number; answer gets place, bytes and lines. A refusal changes
+ * no output byte; answer gets three zeros. An answer of under three numbers is refused with 1 before table and output are looked at, so 1
+ * comes even where the output is short (12) or the table is none (13); it stays as it was.
  */
 uint8_t sargaceu_write(const size_t *card, size_t card_numbers,
                        const uint16_t *segments, size_t segments_numbers,
@@ -97,17 +106,17 @@ uint8_t sargaceu_write(const size_t *card, size_t card_numbers,
                        uint8_t *output, size_t output_bytes,
                        size_t *answer, size_t answer_numbers);
 
-/* Whether some message reads to this table: the writer would not refuse it with 13. */
+/* Whether some message reads to this table (W4): the writer would not refuse it with 13. */
 bool sargaceu_is_table(const size_t *card, size_t card_numbers,
                        const uint16_t *segments, size_t segments_numbers,
                        const uint16_t *leaves, size_t leaves_numbers,
                        const uint8_t *text, size_t text_bytes);
 
 /*
- * Whether the leaf at a place is there; answer gets the start and the length of its text in the text area. The first match in row
- * order counts; a row that points past the card's text bytes is passed over; nothing is there where one of the card's counts goes past its
- * buffer. Answer is left as it was where the leaf is not there. Where it has under two numbers it is left as it was, too, and the
- * return value still says whether the leaf is there.
+ * Whether the leaf at a place is there (F1); answer gets where its text starts in the text area and how many bytes it has. Of several rows
+ * with the place the first counts; one whose text would reach beyond the card's text bytes never counts; and no leaf is there where the card
+ * counts more than some buffer holds. Answer stays as it was where the leaf is not there. It stays so, too, where it has under two
+ * numbers, and the return value still says whether the leaf is there.
  */
 bool sargaceu_find_leaf(const size_t *card, size_t card_numbers,
                         const uint16_t *segments, size_t segments_numbers,
@@ -116,14 +125,18 @@ bool sargaceu_find_leaf(const size_t *card, size_t card_numbers,
                         uint16_t segment, uint16_t field, uint16_t repetition, uint16_t subfield, uint16_t subsubfield,
                         size_t *answer, size_t answer_numbers);
 
-/* The first row after a given one (0 for the start) with a kind and an owner; 0 where there is none or the segment count goes past its buffer. */
+/*
+ * The next row behind row `after` that has a kind and an owner, rows counting from 1: 0 looks at all of them (F2). Returns 0 where there is
+ * none, or where the segment rows are fewer than the card counts.
+ */
 size_t sargaceu_next_row(const size_t *card, size_t card_numbers,
                          const uint16_t *segments, size_t segments_numbers,
                          size_t after, uint16_t kind, uint16_t owner);
 
 /*
- * Whether a row of one table and a row of another are the same order: both OBR, and leaf 9.4.2 is there in both with the same
- * bytes. Row 0 and rows past the count are no orders. That both come from one laboratory is for the caller to compare.
+ * Whether a row of one table and a row of another are the same order (F3): both OBR, and leaf 9.4.2 is there in both with the same
+ * bytes. Row 0 and rows past the count are no orders. Two laboratories may give one number to two orders, so a caller compares the
+ * laboratories first.
  */
 bool sargaceu_same_order(const size_t *card, size_t card_numbers,
                          const uint16_t *segments, size_t segments_numbers,
@@ -137,24 +150,24 @@ bool sargaceu_same_order(const size_t *card, size_t card_numbers,
                          uint16_t other_row);
 
 /*
- * The line that begins at a place of a message of any length. Returns 0, and answer gets where the line ends, without its CR, and where
- * the next one begins. At or past the message's end both are the place itself: 0 with the next place equal to `at` is the end, since
- * a line is never empty. Returns 4, 5 or 6 at a fault, and answer gets the fault's place and the place itself, so that going on there
- * says the same again; a first byte below 32, CR too, is 4 at the place. An answer of under two numbers is refused with 1 and is left
+ * The line that begins at a place of a message of any length (P1, P2). Returns 0, and answer gets where the line ends, without its CR, and
+ * where the next one begins. At or past the message's end both are the place itself: 0 with the next place equal to `at` is the end,
+ * since a line is never empty. Returns 4, 5 or 6 at a fault, and answer gets the fault's place and the place itself, so that going on
+ * there says the same again; a first byte below 32, CR too, is 4 at the place. An answer of under two numbers is refused with 1 and stays
  * as it was.
  */
 uint8_t sargaceu_line(const uint8_t *message, size_t message_bytes, size_t at, size_t *answer, size_t answer_numbers);
 
 /*
- * Tells an order watcher a kind: yes where the kinds that it said yes to, with this one after them, begin an order that its context
- * allows. A watcher is two bytes, begun as { context, 0 }, and is brought up to date here; a no changes nothing in it. A watcher
+ * Tells an order watcher a kind (V1, V2): yes where the kinds that it said yes to, with this one after them, begin an order that its
+ * context allows. A watcher is two bytes, begun as { context, 0 }, and is brought up to date here; a no changes nothing in it. A watcher
  * of under two bytes says no to all, and so does one whose context is not 1 to 7.
  */
 bool sargaceu_watch(uint8_t *watcher, size_t watcher_bytes, uint8_t kind);
 
 /*
- * Reads a message as sargaceu_read does and puts its listing, as the program `list` prints it, at the front of `listing`. Returns the
- * listing's bytes, never more than `listing` has; 0, with every buffer as it was, where `listing` has under SARGACEU_LISTING bytes.
+ * Reads a message as sargaceu_read does and puts its listing (G1, G2), as the program `list` prints it, at the front of `listing`. Returns
+ * the listing's bytes, never more than `listing` has; 0, with every buffer as it was, where `listing` has under SARGACEU_LISTING bytes.
  */
 size_t sargaceu_list(const uint8_t *message, size_t message_bytes,
                      uint8_t *text, size_t text_bytes,

@@ -1,4 +1,4 @@
--- "What `sargaceu_read` answers from answer[1] on is" a card (include/sargaceu.h): the very card that was read.
+-- The numbers that `sargaceu_read` puts behind the place are taken for the very card that was read: a caller lends them on as they are.
 -- Assumes nothing.
 use mathlib.Core.List.{List, _++_}
 use mathlib.Core.Path.{_≡_, refl, sym, ap, _∙_, subst⁻¹}

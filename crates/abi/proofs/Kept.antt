@@ -1,4 +1,5 @@
--- What stays as it was, in the header's words (include/sargaceu.h), for every function that meets the contracts.
+-- What stays as it was, for every function that meets the contracts of include/sargaceu.h: all that was lent where the answer is short, and
+-- all but the answer where a call is refused.
 -- Assumes nothing.
 use mathlib.Core.Bool.{Bool, false}
 use mathlib.Core.List.{List, [], _∷_}
@@ -36,13 +37,13 @@ use Rattle.abi.proofs.LineAnswers.{line-short}
 use Rattle.abi.proofs.WatcherBytes.{watch-short}
 use Rattle.abi.proofs.OnlyOne as only
 
--- "An answer of under six numbers is refused with 1 and is left as it was": so are the three buffers
+-- `sargaceu_read` into an answer that is short: 1, and every buffer is kept
 module _ (message text segments leaves answer : List ℕ) {r : ℕ} {text′ segments′ leaves′ answer′ : List ℕ}
     (read : ReadInto message text segments leaves answer r text′ segments′ leaves′ answer′) where
   pub read-short-kept : length answer < 6 → (r ≡ 1) × (text′ ≡ text) × (segments′ ≡ segments) × (leaves′ ≡ leaves) × (answer′ ≡ answer)
   read-short-kept h = only.read message text segments leaves answer read (read-short message text segments leaves answer h)
 
--- "A refusal changes none of the three buffers, and its card is all zero."
+-- any refusal of it: the three buffers are kept, and an answer that is long enough gets the place and a card of zeros (N3)
 pub refusal-kept : (o : Outcome) {text segments leaves answer : List ℕ} {r : ℕ} {text′ segments′ leaves′ answer′ : List ℕ}
     → TellsOutcome o text segments leaves answer r text′ segments′ leaves′ answer′ → (r ≡ 0 → ⊥)
     → (text′ ≡ text) × (segments′ ≡ segments) × (leaves′ ≡ leaves) × (answer′ ≡ putAll answer (answerOf o .place ∷ 0 ∷ 0 ∷ 0 ∷ 0 ∷ 0 ∷ []))
@@ -50,32 +51,32 @@ unfolding answerOf textPut segmentsPut leavesPut readNumbers cardNumbers
 refusal-kept (refused n p) g h = (g .textArea, g .segmentRows, g .leafRows, g .numbers)
 refusal-kept (accepted t) g h = absurd (h (g .number))
 
--- "An answer of under three numbers is refused with 1 and is left as it was": so is the output
+-- `sargaceu_write` into an answer that is short: 1, and the output is kept
 pub write-short-kept : (table : Lent) (output numbers : List ℕ) {r : ℕ} {output′ numbers′ : List ℕ}
     → WroteInto table output numbers r output′ numbers′ → length numbers < 3 → (r ≡ 1) × (output′ ≡ output) × (numbers′ ≡ numbers)
 write-short-kept table output numbers wrote h = only.write table output numbers wrote (write-short table output numbers h)
 
--- "A refusal changes no output byte, and its bytes and lines are 0."
+-- any refusal of it: the output is kept, and an answer that is long enough gets zeros, as place and as counts (N3)
 pub write-refusal-kept : (w : Writing) {output numbers : List ℕ} {r : ℕ} {output′ numbers′ : List ℕ}
     → TellsWriting w output numbers r output′ numbers′ → (r ≡ 0 → ⊥) → (output′ ≡ output) × (numbers′ ≡ putAll numbers (0 ∷ 0 ∷ 0 ∷ []))
 unfolding answer outputAfter writeNumbers
 write-refusal-kept (refuses n) g h = (g .message, g .answers)
 write-refusal-kept (writes bytes lines) g h = absurd (h (g .number))
 
--- "Answer is left as it was where the leaf is not there": the answer says so
+-- `sargaceu_find_leaf` says no: the answer is kept
 pub leaf-not-there-kept : (s : Sought) {numbers numbers′ : List ℕ} → TellsSought s numbers false numbers′ → numbers′ ≡ numbers
 unfolding isThere leafNumbers
 leaf-not-there-kept (At start n) g = absurd (never-both refl (sym (g .found)))
 leaf-not-there-kept Nothing {numbers} g = g .numbers ∙ put-whole numbers [] (omega arith)
 
--- "and where it has under two numbers"
+-- it is kept as well where two numbers do not fit it, whatever was found
 pub leaf-short-kept : (s : Sought) {numbers : List ℕ} {r : Bool} {numbers′ : List ℕ}
     → TellsSought s numbers r numbers′ → length numbers < 2 → numbers′ ≡ numbers
 unfolding leafNumbers
 leaf-short-kept (At start n) {numbers} g h = g .numbers ∙ put-short numbers (start ∷ n ∷ []) h
 leaf-short-kept Nothing {numbers} g h = g .numbers ∙ put-whole numbers [] (omega arith)
 
--- "An answer of under two numbers is refused with 1 and is left as it was."
+-- `sargaceu_line` into an answer that is short: 1, and the answer is kept
 pub line-short-kept : (found : Found) (at : ℕ) (numbers : List ℕ) {r : ℕ} {numbers′ : List ℕ}
     → FoundLine found at numbers r numbers′ → length numbers < 2 → (r ≡ 1) × (numbers′ ≡ numbers)
 line-short-kept found at numbers g h = only.line found at numbers g (line-short found at numbers h)
@@ -92,7 +93,7 @@ bytes-back bytes =
     ∙ set-getD bytes 1 0)
     (less-or-not (length bytes) 2)
 
--- "a no changes nothing in it"
+-- `sargaceu_watch` says no: the watcher is kept (V2)
 pub watch-no-kept : (bytes : List ℕ) (kind : ℕ) {bytes′ : List ℕ} → Watched bytes kind false bytes′ → bytes′ ≡ bytes
 unfolding saysYes watcherBytes
 watch-no-kept bytes kind g =
@@ -103,7 +104,7 @@ watch-no-kept bytes kind g =
     g .watcher ∙ ap (λ (w : Watcher). putAll bytes (watcherBytes w)) (stays (watcherOf bytes) kind no) ∙ bytes-back bytes)
     (less-or-not (length bytes) 2)
 
--- "A watcher of under two bytes says no to all."
+-- fewer than two bytes are no watcher: the answer is no, and they are kept
 pub watch-short-no : (bytes : List ℕ) (kind : ℕ) {r : Bool} {bytes′ : List ℕ} → Watched bytes kind r bytes′ → length bytes < 2
     → (r ≡ false) × (bytes′ ≡ bytes)
 watch-short-no bytes kind g h = only.watch bytes kind g (watch-short bytes kind h)

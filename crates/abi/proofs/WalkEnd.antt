@@ -1,5 +1,5 @@
--- How a caller of `sargaceu_line` tells the message's end from a line (include/sargaceu.h): "both are the place itself at the message's
--- end, since a line is never empty". So 0 with the place itself as the next one is the end, and a walk that goes on at the next place ends.
+-- How a caller of `sargaceu_line` tells the message's end (P1) from a line: 0, with the asked place for the next one, is the end and
+-- nothing else, since a line has at least one byte.
 -- Assumes nothing.
 use mathlib.Core.List.{List, [], _∷_}
 use mathlib.Core.Path.{_≡_, refl, sym, ap, _∙_}
@@ -19,7 +19,7 @@ use Rattle.line.proofs.Handing.{Within, found-within}
 use Rattle.abi.specs.Lines.{numberOf, endOf, numberFor, FoundLine}
 use Rattle.abi.proofs.Puts.{put-whole}
 
--- "Returns 4, 5 or 6 at a fault"
+-- the number of a fault is 4, 5 or 6 (P1)
 abbrev pub FaultNumber : Found → Type 0
 FaultNumber (Line e n) = Unit
 FaultNumber End = Unit

@@ -1,4 +1,4 @@
--- Cards as numbers (include/sargaceu.h): "field separator, context, counts of segments, leaves and text bytes".
+-- The card (rule T5) as the numbers that C lends and gets (include/sargaceu.h).
 -- Assumes nothing.
 use mathlib.Core.Bool.{Bool, true, false, _&&_}
 use mathlib.Core.List.{List, [], _∷_}
@@ -8,7 +8,7 @@ use lib.ListN.{length, getD}
 use Rattle.table.specs.declared.Card.{Card}
 use Rattle.read.specs.Answering.{noCard}
 
--- the five numbers of a card
+-- the five numbers of a card, in the order of T5
 unfoldable pub cardNumbers : Card → List ℕ
 cardNumbers c = c .separator ∷ c .context ∷ c .segments ∷ c .leaves ∷ c .text ∷ []
 
@@ -16,7 +16,7 @@ cardNumbers c = c .separator ∷ c .context ∷ c .segments ∷ c .leaves ∷ c 
 unfoldable pub isCard : List ℕ → Bool
 isCard numbers = leb 5 (length numbers) && leb (getD numbers 0 0) 255 && leb (getD numbers 1 0) 255
 
--- "fewer than five, or a separator or context over 255, are taken as the card that is all zero"
+-- the card that lent numbers are: the first five of them, or the card of zeros where they are no card
 unfoldable pub cardOf : List ℕ → Card
 cardOf numbers =
     elim (isCard numbers) [

@@ -1,4 +1,4 @@
--- What `sargaceu_find_leaf` answers (include/sargaceu.h).
+-- What `sargaceu_find_leaf` (include/sargaceu.h) answers of the leaf lookup (rule F1).
 -- Assumes nothing.
 use mathlib.Core.Bool.{Bool, true, false}
 use mathlib.Core.List.{List, [], _∷_}
@@ -11,7 +11,7 @@ use Rattle.look.specs.declared.leaf.Sought.the-variants.{At, Nothing}
 use Rattle.look.specs.Looking.{soughtIn}
 use Rattle.abi.specs.Putting.{putAll}
 
--- a place of five numbers
+-- a place of five numbers (S5)
 abbrev pub givenPlace : (segment field repetition subfield subsubfield : ℕ) → Place
 givenPlace segment field repetition subfield subsubfield =
     record { segment = segment; field = field; repetition = repetition; subfield = subfield; subsubfield = subsubfield }
@@ -21,7 +21,7 @@ unfoldable pub isThere : Sought → Bool
 isThere (At start n) = true
 isThere Nothing = false
 
--- "answer gets the start and the length of its text": nothing "where the leaf is not there"
+-- what goes into the answer: where the leaf's text starts and how long it is, or no number at all
 unfoldable pub leafNumbers : Sought → List ℕ
 leafNumbers (At start n) = start ∷ n ∷ []
 leafNumbers Nothing = []

@@ -7,6 +7,6 @@ use lib.Dec.{ltb}
 use lib.ListN.{length}
 use lib.Seq.{sets}
 
--- a buffer with the numbers at its front; one that is shorter than they are "is left as it was"
+-- a buffer with the numbers at its front, or as it stood where they do not all fit
 unfoldable pub putAll : List ℕ → List ℕ → List ℕ
 putAll buffer numbers = elim (ltb (length buffer) (length numbers)) [ true ↦ buffer | false ↦ sets buffer 0 numbers ]

@@ -1,4 +1,4 @@
--- What `sargaceu_read` answers, and what it leaves in the lent buffers (include/sargaceu.h).
+-- What `sargaceu_read` (include/sargaceu.h) answers (rules N1 to N3), and what it leaves in the lent buffers.
 -- Assumes nothing.
 use mathlib.Core.Bool.{true, false}
 use mathlib.Core.List.{List, _∷_}
@@ -15,7 +15,7 @@ use Rattle.read.specs.Answering.{answerOf, textPut, segmentsPut, leavesPut, roo
 use Rattle.abi.specs.Cards.{cardNumbers}
 use Rattle.abi.specs.Putting.{putAll}
 
--- the outcome of reading a message, or 1 where the answer has "under six numbers"
+-- the outcome of reading a message; 1, whatever the message is, where six numbers do not fit the answer
 unfoldable pub readOutcome : (message text segments leaves answer : List ℕ) → Outcome
 readOutcome message text segments leaves answer =
     elim (ltb (length answer) 6) [
@@ -23,7 +23,7 @@ readOutcome message text segments leaves answer =
       | false ↦ reading form level (roomOf text segments leaves) message
     ]
 
--- "answer gets the place and the card"
+-- what goes into the answer: the place, and behind it the five numbers of the card
 unfoldable pub readNumbers : Outcome → List ℕ
 readNumbers o = answerOf o .place ∷ cardNumbers (answerOf o .card)
 

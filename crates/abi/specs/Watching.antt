@@ -1,4 +1,4 @@
--- What `sargaceu_watch` answers (include/sargaceu.h).
+-- What `sargaceu_watch` (include/sargaceu.h) answers (rules V1 and V2). The caller keeps the watcher.
 -- Assumes nothing.
 use mathlib.Core.Bool.{Bool, _&&_}
 use mathlib.Core.List.{List, [], _∷_}
@@ -10,7 +10,7 @@ use Rattle.order.specs.declared.watcher.Watcher.{Watcher}
 use Rattle.order.specs.inner.Telling.{tellOf}
 use Rattle.abi.specs.Putting.{putAll}
 
--- the two bytes of a watcher
+-- the two bytes of a watcher: its context, and the last kind that it said yes to, C aside
 unfoldable pub watcherBytes : Watcher → List ℕ
 watcherBytes w = w .context ∷ w .last ∷ []
 
@@ -18,7 +18,7 @@ watcherBytes w = w .context ∷ w .last ∷ []
 unfoldable pub watcherOf : List ℕ → Watcher
 watcherOf bytes = record { context = getD bytes 0 0; last = getD bytes 1 0 }
 
--- whether a watcher says yes to a kind: one "of under two bytes says no to all"
+-- whether lent bytes, as a watcher, say yes to a kind; fewer than two are none and say no
 unfoldable pub saysYes : List ℕ → ℕ → Bool
 saysYes bytes kind = leb 2 (length bytes) && tellOf (watcherOf bytes) kind .yes
 

@@ -1,4 +1,4 @@
--- What `sargaceu_write` answers, and what it leaves in the output (include/sargaceu.h).
+-- What `sargaceu_write` (include/sargaceu.h) answers (rules N1 to N3, W3), and what it leaves in the output.
 -- Assumes nothing.
 use mathlib.Core.Bool.{true, false}
 use mathlib.Core.List.{List, [], _∷_}
@@ -14,7 +14,7 @@ use Rattle.write.specs.Writing.{Writing, refuses, writing}
 use Rattle.write.specs.Answer.{answer, outputAfter}
 use Rattle.abi.specs.Putting.{putAll}
 
--- the outcome of writing a table, or 1 where the answer has "under three numbers"
+-- the outcome of writing a table; 1, whatever table and output are, where three numbers do not fit the answer
 unfoldable pub writeOutcome : Lent → (output numbers : List ℕ) → Writing
 writeOutcome table output numbers =
     elim (ltb (length numbers) 3) [
@@ -22,7 +22,7 @@ writeOutcome table output numbers =
       | false ↦ writing form level table (length output)
     ]
 
--- "answer gets place, bytes and lines"
+-- what goes into the answer: the place, and how many bytes and lines were written (W3)
 unfoldable pub writeNumbers : Writing → List ℕ
 writeNumbers w = answer w .place ∷ answer w .bytes ∷ answer w .lines ∷ []
 

@@ -1,4 +1,4 @@
-// A card that comes in as five numbers.
+// A card (T5) that comes in as five numbers.
 use table::Card;
 ghost use mathlib.Core.Path.{_≡_};
 ghost use Rattle.read.specs.Answering.{noCard};

@@ -1,4 +1,4 @@
-// The line walk, one line a call: the caller keeps the place.
+// The line walk (P1, P2), one line a call: the caller keeps the place.
 use crate::answer;
 use form::number::Number;
 use line::finder::Found;

@@ -1,4 +1,4 @@
-// The lookups.
+// The lookups (F1 to F3).
 use crate::answer;
 use crate::card;
 use look::leaf::Place;
@@ -10,7 +10,7 @@ ghost use Rattle.look.specs.Looking.{rowAfter, sameOrder};
 ghost use Rattle.abi.specs.Cards.{cardOf};
 ghost use Rattle.abi.specs.Looking.{givenPlace, FoundLeaf};
 
-// Whether the leaf at a place is there, and where its text lies.
+// Whether the leaf at a place is there (F1); where its text starts and how long it is go into the answer.
 #[no_mangle]
 pub extern "C" fn sargaceu_find_leaf(
     card: &[usize],
@@ -45,7 +45,7 @@ pub extern "C" fn sargaceu_find_leaf(
     }
 }
 
-// The first row after a given one with a kind and an owner, or 0.
+// The next row behind row `after` that has a kind and an owner, or 0 (F2).
 #[no_mangle]
 pub extern "C" fn sargaceu_next_row(
     card: &[usize],
@@ -59,7 +59,7 @@ pub extern "C" fn sargaceu_next_row(
     look::row::next_row(card::card_of(card), segments, after, kind, owner)
 }
 
-// Whether a row of one table and a row of another are the same order.
+// Whether a row of one table and a row of another are the same order (F3).
 #[no_mangle]
 pub extern "C" fn sargaceu_same_order(
     card: &[usize],

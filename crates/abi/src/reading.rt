@@ -1,4 +1,4 @@
-// The reader.
+// The reader (N1 to N3).
 use crate::answer;
 use form::number::Number;
 use table::rows;
@@ -7,8 +7,8 @@ ghost use Rattle.abi.specs.Reading.{ReadInto};
 // How many numbers an answer has: the place, and the five of the card.
 const ANSWER: usize = 6;
 
-// Reads a message into the three lent buffers. An answer of under six numbers is refused before anything is read, since the caller could
-// not learn what the buffers hold then.
+// Reads a message into the three lent buffers. The number comes back; place and card go into the answer, those of a refusal too (N3). An
+// answer of under six numbers is refused before anything is read, since the caller could not learn what the buffers hold then.
 #[no_mangle]
 pub extern "C" fn sargaceu_read(
     message: &[u8],

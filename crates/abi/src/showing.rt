@@ -1,4 +1,4 @@
-// The listing.
+// The listing (G1, G2).
 use table::rows;
 ghost use Prim.Native.Nat.{_≤_};
 ghost use lib.ListN.{length};
@@ -6,8 +6,8 @@ ghost use Rattle.form.specs.Limits.{form};
 ghost use Rattle.order.specs.Owners.{level};
 ghost use Rattle.listing.specs.Listing.{ListedAs};
 
-// Reads a message and puts its listing at the front of a buffer: the listing's bytes. A buffer that is too short for some listing is
-// refused before anything is read.
+// Reads a message, puts its listing at the front of a buffer, and answers how many bytes that has. A buffer that is too short for some
+// listing gets 0 before anything is read.
 #[no_mangle]
 pub extern "C" fn sargaceu_list(
     message: &[u8],

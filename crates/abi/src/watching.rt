@@ -1,4 +1,4 @@
-// The order watcher, kept by the caller as two bytes.
+// The order watcher (V1, V2), kept by the caller as two bytes.
 use order::watcher::Watcher;
 ghost use Rattle.abi.specs.Watching.{Watched};
 

@@ -1,4 +1,4 @@
-// The writer and the table test.
+// The writer (W1 to W4) and the table test.
 use crate::answer;
 use crate::card;
 use form::number::Number;
@@ -14,7 +14,8 @@ ghost use Rattle.abi.specs.Writing.{WroteInto};
 // How many numbers an answer has: place, bytes and lines.
 const ANSWER: usize = 3;
 
-// Writes the message of a table at the front of the output. An answer of under three numbers is refused before anything is written.
+// Writes the message of a table at the front of the output. The number comes back; place, bytes and lines go into the answer. An answer of
+// under three numbers is refused with 1 before the output is looked at, so 1 may come where the output is short, too (12).
 #[no_mangle]
 pub extern "C" fn sargaceu_write(
     card: &[usize],
@@ -36,7 +37,7 @@ pub extern "C" fn sargaceu_write(
     written.number
 }
 
-// Whether some message reads to the table.
+// Whether some message reads to the table (W4): the writer's 13 is the no.
 #[no_mangle]
 pub extern "C" fn sargaceu_is_table(
     card: &[usize],

@@ -1,4 +1,4 @@
--- K1's listing is the one that document 01 prints, closed by computation; and listings that the contract shuts out.
+-- The listing of the worked example K1 as it is printed, closed by computation; and listings that the contract shuts out.
 -- Assumes nothing.
 use mathlib.Core.List.{List, _++_}
 use mathlib.Core.Path.{_≡_, refl, sym, ap, _∙_, subst}
@@ -23,7 +23,7 @@ use Rattle.listing.specs.Decimal.{digitsWithin, decimal}
 use Rattle.listing.specs.Listing.{entryOf, entry, nameOf, andNumber, columns, rowLine, rowLines, answerLines, contextLine, countLines, listing, listingSize, Lists}
 use Rattle.listing.proofs.Listed.{listed-short, listed-roomy}
 
--- document 01, "The listing": the whole output for K1
+-- the whole listing of K1 (G1)
 unfoldable pub printed : List ℕ
 printed = bytes "form=1\nanswer=0\nplace=0\ncontext=ORU\nsegments=5\nleaves=24\ntext=41\nwritten=65\nseg=1,H,0,1,7\nseg=2,P,1,8,7\nseg=3,OBR,2,15,2\nseg=4,OBX,3,17,6\nseg=5,L,0,23,2\n"
 

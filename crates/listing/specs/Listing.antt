@@ -1,4 +1,4 @@
--- The listing of a message (document 01, "The listing").
+-- The listing of a message (rules G1 and G2).
 -- Assumes nothing.
 use mathlib.Core.Bool.{true, false}
 use mathlib.Core.List.{List, [], _∷_, _++_}
@@ -21,10 +21,11 @@ use Rattle.table.specs.Back.{written}
 use Rattle.read.specs.Answering.{roomOf, textPut, segmentsPut, leavesPut}
 use Rattle.listing.specs.Decimal.{decimal}
 
--- "each line ended by LF": a line of a name, with its `=`, and a value
+-- a line: a name with its `=`, a value, and the LF that ends it (G1)
 unfoldable pub entryOf : List ℕ → List ℕ → List ℕ
 entryOf name value = name ++ (value ++ (10 ∷ []))
 
+-- the same, the name written as text
 unfoldable pub entry : String → List ℕ → List ℕ
 entry name value = entryOf (bytes name) value
 
@@ -37,14 +38,15 @@ nameOf names (suc n) = getD names n []
 unfoldable pub andNumber : ℕ → List ℕ
 andNumber n = 44 ∷ decimal n
 
--- "`seg` is number, kind, owner, first leaf, leaf count": the last four, of row i of the segment rows, counted from 0, a comma before each
+-- what stands behind the number in the line of row i, counted from 0 (G1): kind by its name, owner, first leaf, count of leaves, a comma
+-- before each
 unfoldable pub columns : List ℕ → ℕ → List ℕ
 columns rows i =
     44
     ∷ (nameOf kindNames (kindIn rows i)
     ++ (andNumber (ownerIn rows i) ++ (andNumber (firstIn rows i) ++ andNumber (countIn rows i))))
 
--- the line of row i
+-- the line of row i, whose number counts from 1 (G1)
 unfoldable pub rowLine : List ℕ → ℕ → List ℕ
 rowLine rows i = entry "seg=" (decimal (i + 1) ++ columns rows i)
 
@@ -52,21 +54,22 @@ rowLine rows i = entry "seg=" (decimal (i + 1) ++ columns rows i)
 unfoldable pub rowLines : List ℕ → ℕ → List ℕ
 rowLines rows count = concat (values (rowLine rows) 0 count)
 
--- "`form` is the version of this listing": the first three lines
+-- the first three lines: the version of the listing's own form, the number that reading answers, its place (G1)
 unfoldable pub answerLines : ℕ → ℕ → List ℕ
 answerLines number place = bytes "form=1\n" ++ (entry "answer=" (decimal number) ++ entry "place=" (decimal place))
 
--- the lines of a card, and of the bytes that the writer would give
+-- the line of a context, by its name
 unfoldable pub contextLine : ℕ → List ℕ
 contextLine context = entry "context=" (nameOf contextNames context)
 
+-- the lines of a card, and of the bytes that the writer would give (G1)
 unfoldable pub countLines : Card → ℕ → List ℕ
 countLines card size =
     contextLine (card .context)
     ++ (entry "segments=" (decimal (card .segments))
     ++ (entry "leaves=" (decimal (card .leaves)) ++ (entry "text=" (decimal (card .text)) ++ entry "written=" (decimal size))))
 
--- "A refused message prints the first three lines only."
+-- the listing of what reading a message gives: of a refusal three lines (G2), of a table all of them (G1)
 unfoldable pub listing : Limits → Outcome → List ℕ
 listing L (refused number place) = answerLines number place
 listing L (accepted t) =
@@ -94,6 +97,7 @@ pub record Lists (L : Limits) (o : Outcome) (text segments leaves list : List �
   pub segmentRows : segments′ ≡ sets segments 0 (segmentsPut (shown L o (length list)))
   pub leafRows : leaves′ ≡ sets leaves 0 (leavesPut (shown L o (length list)))
 
+-- the same of a message, by what reading it gives
 abbrev pub ListedAs :
     Limits → (ℕ → ℕ → ℕ) → (message text segments leaves list : List ℕ) → ℕ → (text′ segments′ leaves′ list′ : List ℕ) → Type 0
 ListedAs L levels message text segments leaves list r text′ segments′ leaves′ list′ =

@@ -1,4 +1,4 @@
-// The listing of a message, into a lent buffer: what the program `list` prints.
+// The listing of a message (G1, G2), into a lent buffer: what the program `list` prints.
 
 mod lines;
 pub mod list;

@@ -18,8 +18,8 @@ ghost use Rattle.listing.specs.inner.Putting.{PutWithin, RowsReady};
 // The bytes that every listing has room in: 256 for the first lines and 32 for each of 256 segments.
 pub const SIZE: usize = 8448;
 
-// Reads a message as the reader does and puts its listing at the front of `list`: its bytes. Where `list` has under 8,448 bytes it is 0,
-// and nothing is read or written.
+// Reads a message as the reader does, puts its listing (G1, G2) at the front of `list`, and answers how many bytes that has. Where `list`
+// has under 8,448 bytes it answers 0, and nothing is read or written.
 pub fn list(
     message: &[u8],
     text: &mut [u8],

@@ -1,5 +1,5 @@
--- "Entries of a buffer past the counted ones are neither read nor written" (document 01): what they hold changes no answer of a lookup.
--- Each answer is one of the counted entries and of the buffers' lengths alone.
+-- What a lent buffer holds past the counted entries is not looked at (T7): it changes no answer of a lookup. Each answer is one of the
+-- counted entries and of the buffers' lengths alone.
 -- Assumes nothing.
 use mathlib.Core.Bool.{Bool, true, false, _&&_}
 use mathlib.Core.List.{List}
@@ -10,12 +10,14 @@ use borrow.Author.Tests.{leb-true}
 use lib.Dec.{leb, eqb}
 use lib.ListN.{length, getD, take, drop}
 use lib.Seq.{getD-take}
+use denote.Ref.{RefT, ptr, now}
 use Rattle.laws.specs.Lists.{same}
+use Rattle.laws.proofs.LentParts.{same-part}
 use Rattle.laws.proofs.Parts.{part-taken}
 use Rattle.laws.proofs.Searching.{firstOf-same}
 use Rattle.laws.proofs.Tests.{Tested, passed, failed, tested, and-first, and-second, and-where}
 use Rattle.table.specs.declared.Card.{Card}
-use Rattle.table.specs.Lent.{Lent, withinBuffers, counted, SameCounted}
+use Rattle.table.specs.Lent.{Lent, lent, withinBuffers, counted, SameCounted}
 use Rattle.table.specs.Rows.{Table, segmentRowSize, leafRowSize, kindIn, ownerIn, startIn, lengthIn}
 use Rattle.table.proofs.Lent.{same-within}
 use Rattle.look.specs.declared.leaf.Sought.{Sought}
@@ -134,11 +136,23 @@ partIn : Table → List ℕ → Sought → List ℕ
 partIn T substitute (At start n) = take n (drop start (T .text))
 partIn T substitute Nothing = substitute
 
-part-by-entries : (t : Lent) (substitute : List ℕ) (s : Sought) → Within (t .card .text) s
-    → soughtPart t substitute s ≡ partIn (counted t) substitute s
+part-by-entries : (card : Card) (segments leaves : List ℕ) (text substitute : RefT (List ℕ)) (s : Sought) → Within (card .text) s
+    → soughtPart text substitute s .bytes ≡ partIn (counted (lent card segments leaves (now text))) (now substitute) s
 unfolding soughtPart partIn counted
-part-by-entries t substitute (At start n) h = sym (part-taken (t .text) start n (t .card .text) h)
-part-by-entries t substitute Nothing h = refl
+part-by-entries card segments leaves text substitute (At start n) h = sym (part-taken (now text) start n (card .text) h)
+part-by-entries card segments leaves text substitute Nothing h = refl
+
+-- where they lie, in a text area that lies where another does
+module _ (text text′ substitute : RefT (List ℕ)) where
+  same-block : ptr text .0 ≡ ptr text′ .0 → (s : Sought) → soughtPart text substitute s .block ≡ soughtPart text′ substitute s .block
+  unfolding soughtPart
+  same-block e (At start n) = e
+  same-block e Nothing = refl
+
+  same-offset : ptr text .1 ≡ ptr text′ .1 → (s : Sought) → soughtPart text substitute s .offset ≡ soughtPart text′ substitute s .offset
+  unfolding soughtPart
+  same-offset e (At start n) = ap (λ (k : ℕ). start + k) e
+  same-offset e Nothing = refl
 
 texts-by-entries : (t u : Lent) (s r : Sought) → Within (t .card .text) s → Within (u .card .text) r
     → sameTexts (t .text) s (u .text) r ≡ sameTexts (counted t .text) s (counted u .text) r
@@ -168,13 +182,6 @@ module _ (t u : Lent) (w : SameCounted t u) where
       row-by-entries t after kind owner ∙ ap₂ (λ (T : Table) (n : ℕ). rowIn T n after kind owner) (w .entries) (w .segmentRows)
       ∙ sym (row-by-entries u after kind owner)
 
-  pub uncounted-text : (p : Place) (substitute : List ℕ) → lookedUp t p substitute ≡ lookedUp u p substitute
-  unfolding lookedUp
-  uncounted-text p substitute =
-      part-by-entries t substitute (soughtIn t p) (sought-in-card t p)
-      ∙ ap₂ (λ (T : Table) (s : Sought). partIn T substitute s) (w .entries) (uncounted-leaf p)
-      ∙ sym (part-by-entries u substitute (soughtIn u p) (sought-in-card u p))
-
   uncounted-order : (row : ℕ) → orderAt t row ≡ orderAt u row
   uncounted-order row =
       order-by-entries t row ∙ ap₂ (λ (T : Table) (n : ℕ). orderIn T n row) (w .entries) (w .segmentRows) ∙ sym (order-by-entries u row)
@@ -183,6 +190,31 @@ module _ (t u : Lent) (w : SameCounted t u) where
   unfolding orderText
   uncounted-order-text row =
       ap₂ (λ (b : Bool) (s : Sought). elim b [ true ↦ s | false ↦ Nothing ]) (uncounted-order row) (uncounted-leaf (orderPlace row))
+
+-- of the text that is handed back: its bytes, and the whole part where the text area lies at the same place
+module _ (card card′ : Card) (segments leaves segments′ leaves′ : List ℕ) (text text′ : RefT (List ℕ))
+    (w : SameCounted (lent card segments leaves (now text)) (lent card′ segments′ leaves′ (now text′))) (p : Place) (substitute : RefT (List ℕ)) where
+  abbrev one : Lent
+  one = lent card segments leaves (now text)
+
+  abbrev other : Lent
+  other = lent card′ segments′ leaves′ (now text′)
+
+  pub uncounted-bytes : lookedUp card segments leaves text p substitute .bytes ≡ lookedUp card′ segments′ leaves′ text′ p substitute .bytes
+  uncounted-bytes =
+      part-by-entries card segments leaves text substitute (soughtIn one p) (sought-in-card one p)
+      ∙ ap₂ (λ (T : Table) (s : Sought). partIn T (now substitute) s) (w .entries) (uncounted-leaf one other w p)
+      ∙ sym (part-by-entries card′ segments′ leaves′ text′ substitute (soughtIn other p) (sought-in-card other p))
+
+  pub uncounted-text : ptr text .0 ≡ ptr text′ .0 → ptr text .1 ≡ ptr text′ .1
+      → lookedUp card segments leaves text p substitute ≡ lookedUp card′ segments′ leaves′ text′ p substitute
+  uncounted-text block offset =
+      same-part (lookedUp card segments leaves text p substitute) (lookedUp card′ segments′ leaves′ text′ p substitute)
+      (same-block text text′ substitute block (soughtIn one p)
+      ∙ ap (λ (s : Sought). soughtPart text′ substitute s .block) (uncounted-leaf one other w p))
+      (same-offset text text′ substitute offset (soughtIn one p)
+      ∙ ap (λ (s : Sought). soughtPart text′ substitute s .offset) (uncounted-leaf one other w p))
+      uncounted-bytes
 
 -- of both tables
 pub uncounted-same-order : (t t′ u u′ : Lent) → SameCounted t t′ → SameCounted u u′ → (row other : ℕ) → sameOrder t row u other ≡ sameOrder t′ row u′ other

@@ -4,7 +4,10 @@ use mathlib.Core.Bool.{Bool}
 use mathlib.Core.List.{List}
 use mathlib.Core.Path.{_≡_}
 use Prim.Native.Nat.{ℕ}
+use denote.Ref.{RefT}
+use Rattle.laws.specs.Parts.{wholeOf}
 use Rattle.laws.proofs.Equality.{only-one}
+use Rattle.table.specs.declared.Card.{Card}
 use Rattle.table.specs.Lent.{Lent}
 use Rattle.look.specs.declared.leaf.Sought.{Sought}
 use Rattle.look.specs.declared.leaf.Place.{Place}
@@ -13,8 +16,11 @@ use Rattle.look.specs.Looking.{soughtIn, lookedUp, rowAfter, sameOrder}
 pub find-leaf : (t : Lent) (p : Place) (r s : Sought) → r ≡ soughtIn t p → s ≡ soughtIn t p → r ≡ s
 find-leaf t p r s h k = only-one h k
 
-pub leaf-text : (t : Lent) (p : Place) (substitute r s : List ℕ) → r ≡ lookedUp t p substitute → s ≡ lookedUp t p substitute → r ≡ s
-leaf-text t p substitute r s h k = only-one h k
+-- the same part: block, offset and bytes
+pub leaf-text : (card : Card) (segments leaves : List ℕ) (text : RefT (List ℕ)) (p : Place) (substitute r s : RefT (List ℕ))
+    → wholeOf r ≡ lookedUp card segments leaves text p substitute → wholeOf s ≡ lookedUp card segments leaves text p substitute
+    → wholeOf r ≡ wholeOf s
+leaf-text card segments leaves text p substitute r s h k = only-one h k
 
 pub next-row : (rows : List ℕ) (count after kind owner r s : ℕ)
     → r ≡ rowAfter rows count after kind owner → s ≡ rowAfter rows count after kind owner → r ≡ s

@@ -1,14 +1,17 @@
 -- What the contracts rule out, each on a small table: a lookup that returns the last match, or trusts a row past the text, or scans the
--- whole buffer; a finder that begins at the given row itself; same order on different bytes.
+-- whole buffer, or hands out equal bytes from elsewhere; a finder that begins at the given row itself; same order on different bytes.
 -- Assumes nothing.
 use mathlib.Core.Bool.{Bool, true, false, true≢false}
 use mathlib.Core.List.{List, [], _∷_}
-use mathlib.Core.Path.{_≡_, sym, _∙_}
-use Prim.Native.Nat.{ℕ}
+use mathlib.Core.Path.{_≡_, refl, sym, ap, _∙_}
+use Prim.Native.Nat.{ℕ, _+_}
 use native.Mathlib.Omega.{arith}
+use denote.Ref.{RefT, ptr, now}
 use Rattle.laws.specs.Lists.{same}
+use Rattle.laws.specs.Parts.{Part, wholeOf, partOf}
+use Rattle.laws.proofs.LentParts.{in-its-block, at-its-place, at-no-other}
 use Rattle.table.specs.declared.Card.{Card}
-use Rattle.table.specs.Lent.{Lent, countsFit}
+use Rattle.table.specs.Lent.{Lent, lent, countsFit}
 use Rattle.table.specs.Rows.{segmentRow}
 use Rattle.look.specs.declared.leaf.Sought.{Sought}
 use Rattle.look.specs.declared.leaf.Sought.the-variants.{At, Nothing}
@@ -18,6 +21,7 @@ use Rattle.look.specs.Looking.{
   fits,
   soughtFrom,
   soughtIn,
+  lookedUp,
   hasKindAndOwner,
   rowFrom,
   rowAfter,
@@ -26,6 +30,7 @@ use Rattle.look.specs.Looking.{
   sameTexts,
   sameOrder,
 }
+use Rattle.look.proofs.TextParts.{part-found, no-part}
 
 -- an OBR, row 1, with as many leaf rows counted and as many bytes of text
 abbrev counts : ℕ → ℕ → Card
@@ -71,6 +76,53 @@ module _ (f : Lent → Place → Sought) (meets : (t : Lent) (p : Place) → f t
       let e : Nothing ≡ At 0 1 = sym (meets (table 0 2 (row 0 1 []) (65 ∷ 66 ∷ [])) (orderPlace 1)) ∙ h in
       let z : _≡_ {A = ℕ} 0 1 = cc in
       omega arith
+
+-- what meets the contract of `leaf_text`: equal bytes from elsewhere do not, whatever the table is
+module _ (card : Card) (segments leaves : List ℕ) (text : RefT (List ℕ)) (p : Place) (substitute r : RefT (List ℕ))
+    (meets : wholeOf r ≡ lookedUp card segments leaves text p substitute) where
+  module _ (start n : ℕ) (there : soughtIn (lent card segments leaves (now text)) p ≡ At start n) where
+    found : wholeOf r ≡ partOf text start n
+    found = meets ∙ part-found text substitute start n there
+
+    -- a leaf that is there lies in the text area: not in the substitute's block, nor in a copy's
+    pub another-block : (ptr r .0 ≡ ptr text .0 → ⊥) → ⊥
+    another-block elsewhere = elsewhere (in-its-block r text start n found)
+
+    -- and where its row says, not at another place with the same bytes
+    pub another-place : (b : ℕ) → ptr r .1 ≡ b + ptr text .1 → (b ≡ start → ⊥) → ⊥
+    another-place b lies other = other (at-no-other r text start n found b lies)
+
+  -- where no leaf is there, the substitute itself comes back, not a text like it
+  pub like-the-substitute : soughtIn (lent card segments leaves (now text)) p ≡ Nothing → (wholeOf r ≡ wholeOf substitute → ⊥) → ⊥
+  like-the-substitute none other = other (meets ∙ no-part text substitute none)
+
+-- a table whose text has the same byte twice, and the leaf is the first
+abbrev twice : List ℕ
+twice = 65 ∷ 65 ∷ []
+
+twice-found : soughtIn (table 1 2 (row 0 1 []) twice) (orderPlace 1) ≡ At 0 1
+unfolding soughtIn soughtFrom fits numbersOf orderPlace countsFit same
+twice-found = refl
+
+module _ (text substitute : RefT (List ℕ)) (lies : now text ≡ twice) (like : now substitute ≡ 65 ∷ []) where
+  -- its bytes are those of the second, and of the substitute
+  pub bytes-alike : (partOf text 0 1 .bytes ≡ partOf text 1 1 .bytes) × (partOf text 0 1 .bytes ≡ wholeOf substitute .bytes)
+  bytes-alike = (rw lies refl, rw (lies, like) refl)
+
+  module _ (r : RefT (List ℕ)) (meets : wholeOf r ≡ lookedUp (counts 1 2) order (row 0 1 []) text (orderPlace 1) substitute) where
+    first-found : soughtIn (lent (counts 1 2) order (row 0 1 []) (now text)) (orderPlace 1) ≡ At 0 1
+    first-found = ap (λ (l : List ℕ). soughtIn (lent (counts 1 2) order (row 0 1 []) l) (orderPlace 1)) lies ∙ twice-found
+
+    -- but the second is not what comes back
+    pub the-second : wholeOf r ≡ partOf text 1 1 → ⊥
+    the-second second =
+        another-place (counts 1 2) order (row 0 1 []) text (orderPlace 1) substitute r meets 0 1 first-found 1 (at-its-place r text 1 1 second) (λ e. omega arith)
+
+    -- nor is a substitute that lies in another block
+    pub the-substitute : (ptr substitute .0 ≡ ptr text .0 → ⊥) → wholeOf r ≡ wholeOf substitute → ⊥
+    the-substitute apart it =
+        another-block (counts 1 2) order (row 0 1 []) text (orderPlace 1) substitute r meets 0 1 first-found
+        (λ e. apart (sym (ap (λ (q : Part). q .block) it) ∙ e))
 
 -- what meets the contract of `next_row`: row 1 is an OBR of owner 0, and no row after it is
 module _ (f : List ℕ → ℕ → ℕ → ℕ → ℕ → ℕ) (meets : (rows : List ℕ) (count after kind owner : ℕ) → f rows count after kind owner ≡ rowAfter rows count after kind owner) where

@@ -1,43 +1,46 @@
--- Looking things up (document 01, "Looking and watching").
+-- Looking things up (rules F1 to F3): a leaf by its place, a row by kind and owner, and whether two rows are the same order.
 -- Assumes nothing.
 use mathlib.Core.Bool.{Bool, true, false, _&&_}
 use mathlib.Core.List.{List, [], _∷_}
 use Prim.Native.Nat.{ℕ, zero, suc, _+_, _*_, _-_}
 use lib.Dec.{leb, eqb}
 use lib.ListN.{length, take, drop}
+use denote.Ref.{RefT, now}
 use Rattle.laws.specs.Lists.{same}
-use Rattle.table.specs.Lent.{Lent, withinBuffers}
+use Rattle.laws.specs.Parts.{Part, wholeOf, partOf}
+use Rattle.table.specs.declared.Card.{Card}
+use Rattle.table.specs.Lent.{Lent, lent, withinBuffers}
 use Rattle.table.specs.Rows.{segmentRowSize, kindIn, ownerIn, placeIn, startIn, lengthIn}
 use Rattle.look.specs.declared.leaf.Sought.{Sought}
 use Rattle.look.specs.declared.leaf.Sought.the-variants.{At, Nothing}
 use Rattle.look.specs.declared.leaf.Place.{Place}
 
--- the five numbers of a place
+-- the five numbers of a place (S5)
 unfoldable pub numbersOf : Place → List ℕ
 numbersOf p = p .segment ∷ p .field ∷ p .repetition ∷ p .subfield ∷ p .subsubfield ∷ []
 
--- whether leaf row i, counted from 0, is that of a place, and does not point past the card's text bytes: "A row that points past the card's
--- text bytes is passed over"
+-- whether leaf row i, counted from 0, counts as a match (F1): it has the place, and its start and length stay within so many bytes of text
 unfoldable pub fits : List ℕ → ℕ → Place → ℕ → Bool
 fits rows bytes p i = same (placeIn rows i) (numbersOf p) && leb (startIn rows i + lengthIn rows i) bytes
 
--- "First match in row order", among n rows from row i on
+-- where the text of a leaf lies by the first of n rows, from row i on, that counts as a match, or that none does (F1)
 unfoldable pub soughtFrom : List ℕ → ℕ → Place → ℕ → ℕ → Sought
 soughtFrom rows bytes p i zero = Nothing
 soughtFrom rows bytes p i (suc n) =
     elim (fits rows bytes p i) [ true ↦ At (startIn rows i) (lengthIn rows i) | false ↦ soughtFrom rows bytes p (suc i) n ]
 
--- where the text of a leaf lies, or that it is not there; "where a count on the card goes past its buffer", it is not
+-- the same of all leaf rows that the card of a lent table counts; no row is looked at where the card counts more than some buffer holds (F1)
 unfoldable pub soughtIn : Lent → Place → Sought
 soughtIn t p = elim (withinBuffers t) [ true ↦ soughtFrom (t .leafRows) (t .card .text) p 0 (t .card .leaves) | false ↦ Nothing ]
 
--- "back comes that part of the text area, or the caller's substitute where no such leaf exists"
-unfoldable pub soughtPart : Lent → List ℕ → Sought → List ℕ
-soughtPart t substitute (At start n) = take n (drop start (t .text))
-soughtPart t substitute Nothing = substitute
+-- what is handed back of a lent text area and a lent substitute: the part that was found, or the whole substitute
+unfoldable pub soughtPart : (text substitute : RefT (List ℕ)) → Sought → Part
+soughtPart text substitute (At start n) = partOf text start n
+soughtPart text substitute Nothing = wholeOf substitute
 
-unfoldable pub lookedUp : Lent → Place → List ℕ → List ℕ
-lookedUp t p substitute = soughtPart t substitute (soughtIn t p)
+-- the part that the leaf lookup answers (F1)
+abbrev pub lookedUp : Card → (segmentRows leafRows : List ℕ) → (text : RefT (List ℕ)) → Place → (substitute : RefT (List ℕ)) → Part
+lookedUp card segmentRows leafRows text p substitute = soughtPart text substitute (soughtIn (lent card segmentRows leafRows (now text)) p)
 
 -- whether so many rows are within the segment rows
 abbrev pub segmentsFit : List ℕ → ℕ → Bool
@@ -47,22 +50,22 @@ segmentsFit rows count = leb (count * segmentRowSize) (length rows)
 unfoldable pub hasKindAndOwner : List ℕ → ℕ → ℕ → ℕ → Bool
 hasKindAndOwner rows kind owner i = eqb (kindIn rows i) kind && eqb (ownerIn rows i) owner
 
--- the number, counted from 1, of the first of n rows from row i on that has them, or 0
+-- the number, counted from 1, of the first of n rows from row i on that has both, or 0
 unfoldable pub rowFrom : List ℕ → ℕ → ℕ → ℕ → ℕ → ℕ
 rowFrom rows kind owner i zero = 0
 rowFrom rows kind owner i (suc n) =
     elim (hasKindAndOwner rows kind owner i) [ true ↦ suc i | false ↦ rowFrom rows kind owner (suc i) n ]
 
--- "the first row after a given one (0 for the start) with a given kind and owner, or 0; also 0 where the segment count goes past its buffer"
+-- the number of the next row, behind row `after`, that has both, or 0; 0 as well where there are fewer segment rows than the count says (F2)
 unfoldable pub rowAfter : List ℕ → ℕ → ℕ → ℕ → ℕ → ℕ
 rowAfter rows count after kind owner =
     elim (segmentsFit rows count) [ true ↦ rowFrom rows kind owner after (count - after) | false ↦ 0 ]
 
--- whether a row is one of the counted rows and an OBR, kind 5
+-- whether a row is an OBR, kind 5 (S1), and one of the counted rows, which the segment rows all hold
 unfoldable pub isOrder : List ℕ → ℕ → ℕ → Bool
 isOrder rows count row = segmentsFit rows count && leb 1 row && leb row count && eqb (kindIn rows (row - 1)) 5
 
--- leaf 9.4.2 of a row: field 4, repetition 1, subfield 2, sub-subfield 1
+-- the place of leaf 9.4.2 of a row (S5)
 unfoldable pub orderPlace : ℕ → Place
 orderPlace row = record { segment = row; field = 4; repetition = 1; subfield = 2; subsubfield = 1 }
 
@@ -76,7 +79,7 @@ sameTexts text (At a n) other (At b m) = same (take n (drop a text)) (take m (dr
 abbrev pub orderAt : Lent → ℕ → Bool
 orderAt t row = isOrder (t .segmentRows) (t .card .segments) row
 
--- "Yes exactly when both rows are OBR, the leaf lookup would find leaf 9.4.2 in both, and the two texts have the same bytes."
+-- whether a row of one table and a row of another are the same order (F3)
 unfoldable pub sameOrder : Lent → ℕ → Lent → ℕ → Bool
 sameOrder t row u other =
     orderAt t row

@@ -1,15 +1,16 @@
-// The leaf lookup.
+// The leaf lookup (F1).
 use table::Card;
 use table::rows;
 ghost use mathlib.Core.Path.{_≡_};
 ghost use Prim.Native.Nat.{_+_, _*_, _≤_};
 ghost use lib.ListN.{length};
 ghost use Rattle.laws.specs.Lists.{same};
+ghost use Rattle.laws.specs.Parts.{wholeOf};
 ghost use Rattle.table.specs.Lent.{lent};
 ghost use Rattle.table.specs.Rows.{leafRowSize, placeIn};
 ghost use Rattle.look.specs.Looking.{numbersOf, soughtFrom, soughtIn, lookedUp};
 
-// The place of a leaf, as 10.4.1: every number counts from 1.
+// The place of a leaf (S5): the number of its segment's row, and the four numbers that tell it from the other leaves of the segment.
 pub struct Place {
     pub segment: rows::Entry,
     pub field: rows::Entry,
@@ -24,8 +25,8 @@ pub enum Sought {
     Nothing,
 }
 
-// Where the text of the leaf at a place lies: the first row in order that has the place and does not point past the card's text.
-// Nothing where a count on the card goes past its buffer.
+// Where the text of the leaf at a place lies (F1): what the first row says that has the place and stays within the card's text.
+// Nothing where there is no such row, or where the card counts more than some buffer holds.
 pub fn find_leaf(
     card: Card,
     segments: &[rows::Entry],
@@ -41,7 +42,8 @@ pub fn find_leaf(
     Sought::Nothing
 }
 
-// The text of the leaf at a place, as a part of the text area, or the caller's substitute where there is no such leaf.
+// The text of the leaf at a place (F1): no copy, but that part of the lent text area, told by block, offset and bytes; the lent substitute
+// itself where the leaf is not there.
 pub fn leaf_text<'a>(
     card: Card,
     segments: &[rows::Entry],
@@ -50,7 +52,7 @@ pub fn leaf_text<'a>(
     place: Place,
     substitute: &'a [u8],
 ) -> &'a [u8]
-    ensures { λ r. ⌜ now r ≡ lookedUp (lent card (now (segments .entry)) (now (leaves .entry)) (now (text .entry))) place (now (substitute .entry)) ⌝ }
+    ensures { λ r. ⌜ wholeOf r ≡ lookedUp card (now (segments .entry)) (now (leaves .entry)) (text .entry) place (substitute .entry) ⌝ }
 {
     match find_leaf(card, segments, leaves, text, place) {
         Sought::At(start, length) => {
@@ -61,7 +63,9 @@ pub fn leaf_text<'a>(
     }
 }
 
-// The first of so many leaf rows that has the place and does not point past so many bytes.
+// What the first of so many leaf rows says that has the place and stays within so many bytes. It goes over all of them: any buffers may be
+// lent, so the leaves of a segment need not lie together nor be where its segment row says. Only a table that a reader gave has that, and
+// the rule (F1) is the first match in row order.
 fn first_leaf(leaves: &[rows::Entry], count: usize, bytes: usize, place: Place) -> Sought
     requires { ⌜ count * leafRowSize ≤ length (now leaves) ⌝ }
     ensures { λ r. ⌜ r ≡ soughtFrom (now (leaves .entry)) bytes place 0 count ⌝ }

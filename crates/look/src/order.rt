@@ -1,4 +1,4 @@
-// The same-order test.
+// The same-order test (F3).
 use crate::leaf;
 use crate::leaf::Place;
 use crate::leaf::Sought;
@@ -12,8 +12,8 @@ ghost use Rattle.table.specs.Lent.{lent};
 ghost use Rattle.look.specs.Looking.{isOrder, sameOrder};
 ghost use Rattle.look.specs.inner.Ordering.{orderText};
 
-// Whether a row of one table and a row of another are the same order: both are OBR, leaf 9.4.2 is there in both, and the two
-// texts have the same bytes. Row 0 and a row past the count are no orders.
+// Whether a row of one table and a row of another are the same order (F3): two OBR whose leaf 9.4.2 is there and has equal bytes.
+// Row 0 and a row past the count are no orders.
 pub fn same_order(
     card: Card,
     segments: &[rows::Entry],

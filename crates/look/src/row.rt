@@ -1,11 +1,11 @@
-// The row finder.
+// The row finder (F2).
 use table::Card;
 use table::rows;
 ghost use mathlib.Core.Path.{_≡_};
 ghost use Rattle.look.specs.Looking.{segmentsFit, rowAfter};
 
-// The number of the first row after a given one (0 for the start) with a given kind and owner, or 0 where there is none or the
-// segment count goes past its buffer.
+// The number of the next row that has a kind and an owner, behind row `after`, or from row 1 on where that is 0 (F2). 0 where there is
+// none, or where the segment rows are fewer than the card counts.
 pub fn next_row(
     card: Card,
     segments: &[rows::Entry],

@@ -6,10 +6,10 @@ use Prim.Native.Nat.{_+_, _≤_}
 use native.Mathlib.Omega.{arith}
 use lib.ListN.{length}
 use Rattle.table.specs.Lent.{Lent, lent}
-use Rattle.look.specs.declared.leaf.Sought.the-variants.{At}
+use Rattle.look.specs.declared.leaf.Sought.the-variants.{At, Nothing}
 use Rattle.look.specs.Looking.{soughtIn}
 use Rattle.look.proofs.Seeking.{found-within}
-use Rattle.look.proofs.TextParts.{part-found, no-part}
+use Rattle.look.proofs.TextParts.{part-cut, no-part}
 use borrow.Author.Needs.{needs}
 use Rattle.look.proofs.leaf.leaf_text.Statement.{statement}
 use Rattle.look.proofs.leaf.leaf_text.Tie as tie
@@ -32,6 +32,9 @@ within : (c : tie.After-start) → c .start .given .0 .0 + c .start .given .0 .1
 within c =
     let asked = c .before .before in
     found-within (lent-here asked) (start-of asked .args .place) (c .start .given .0 .0) (c .start .given .0 .1 .0) (found c)
+
+not-found : (c : tie.After-enum-told) → soughtIn (lent-here (c .before .before)) (start-of (c .before .before) .args .place) ≡ Nothing
+not-found c = sym (c .before .before .find-leaf .ensures) ∙ c .enum-told .given .1
 
 find-leaf-requires : tie.Need-find-leaf-requires
 find-leaf-requires c κs = search needs
@@ -59,13 +62,12 @@ returns c =
     let here = c .before .before in
     let asked = here .before .before in
     let a = start-of asked .args in
-    part-found (lent-here asked) (a .place) (now (a .substitute)) (here .start .given .0 .0) (here .start .given .0 .1 .0) (found here)
+    part-cut (a .text) (a .substitute) (here .start .given .0 .0) (here .start .given .0 .1 .0) (found here)
 
 returns-2 : tie.Need-returns-2
 returns-2 c =
-    let asked = c .before .before in
-    let a = start-of asked .args in
-    no-part (lent-here asked) (a .place) (now (a .substitute)) (sym (asked .find-leaf .ensures) ∙ c .enum-told .given .1)
+    let a = start-of (c .before .before) .args in
+    sym (no-part (a .text) (a .substitute) (not-found c))
 
 pub leaf-text-spec : {M : Type 1} → statement M
 leaf-text-spec =
