@@ -11,7 +11,7 @@ use Rattle.order.specs.Owners.{level}
 use Rattle.table.specs.Lent.{Lent}
 use Rattle.write.specs.Writing.{isTable}
 use Rattle.look.specs.declared.leaf.Place.{Place}
-use Rattle.look.specs.Looking.{rowAfter, sameOrder}
+use Rattle.look.specs.inner.Searching.{rowAfter, sameOrder}
 use Rattle.abi.specs.Reading.{ReadInto}
 use Rattle.abi.specs.Writing.{WroteInto}
 use Rattle.abi.specs.Looking.{FoundLeaf}

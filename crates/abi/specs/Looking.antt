@@ -8,7 +8,7 @@ use Rattle.table.specs.Lent.{Lent}
 use Rattle.look.specs.declared.leaf.Place.{Place}
 use Rattle.look.specs.declared.leaf.Sought.{Sought}
 use Rattle.look.specs.declared.leaf.Sought.the-variants.{At, Nothing}
-use Rattle.look.specs.Looking.{soughtIn}
+use Rattle.look.specs.inner.Searching.{soughtIn}
 use Rattle.abi.specs.Putting.{putAll}
 
 -- a place of five numbers (S5)

@@ -6,7 +6,7 @@ use look::leaf::Sought;
 use table::rows;
 ghost use mathlib.Core.Path.{_≡_};
 ghost use Rattle.table.specs.Lent.{lent};
-ghost use Rattle.look.specs.Looking.{rowAfter, sameOrder};
+ghost use Rattle.look.specs.inner.Searching.{rowAfter, sameOrder};
 ghost use Rattle.abi.specs.Cards.{cardOf};
 ghost use Rattle.abi.specs.Looking.{givenPlace, FoundLeaf};
 

@@ -26,8 +26,8 @@ module _ (L : Limits) (lawful : Lawful L) (levels : ℕ → ℕ → ℕ) where
         refused-reading = λ message g refused. reader.refused-unchanged L levels message g refused;
         one-writing = λ table g h. writes.one-writing L lawful levels table g h;
         refused-writing = λ table g refused. writes.refused-as-it-was L lawful levels table g refused;
-        leaf-found = looks.finds;
-        row-found = looks.finds-row;
+        leaf-found = looks.finds-exactly;
+        row-found = looks.finds-row-exactly;
         orders-compared = looks.same-orders;
       }
 

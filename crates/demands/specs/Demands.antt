@@ -31,7 +31,7 @@ use Rattle.write.specs.Answer.{WroteAs}
 use Rattle.write.specs.Wrote.{WroteTable}
 use Rattle.look.specs.declared.leaf.Place.{Place}
 use Rattle.look.specs.declared.leaf.Sought.{Sought}
-use Rattle.look.specs.Looking.{soughtIn, rowAfter, sameOrder}
+use Rattle.look.specs.inner.Searching.{soughtIn, rowAfter, sameOrder}
 use Rattle.look.specs.Matches.{Finds, FindsRow, SameOrders}
 
 -- Demand 1. Every function is proved to end, and no public one asks anything of its caller; what comes back, and every lent buffer, is one
@@ -53,8 +53,9 @@ pub record Demand1 (L : Limits) (levels : ℕ → ℕ → ℕ) : Type 0 where
   pub refused-writing : (table : Lent) {output output′ : List ℕ} {r : Written} → WroteAs L levels table output r output′ → (r .number ≡ 0 → ⊥)
       → (output′ ≡ output) × (r .place ≡ 0) × (r .bytes ≡ 0) × (r .lines ≡ 0)
   -- the lookups answer for every table, place and row: the first row that fits, or that none does
-  pub leaf-found : (table : Lent) (place : Place) (r : Sought) → r ≡ soughtIn table place → Finds table place r
-  pub row-found : (rows : List ℕ) (count after kind owner r : ℕ) → r ≡ rowAfter rows count after kind owner → FindsRow rows count after kind owner r
+  pub leaf-found : (table : Lent) (place : Place) (r : Sought) → (r ≡ soughtIn table place) ↔ Finds table place r
+  pub row-found : (rows : List ℕ) (count after kind owner r : ℕ)
+      → (r ≡ rowAfter rows count after kind owner) ↔ FindsRow rows count after kind owner r
   pub orders-compared : (table : Lent) (row : ℕ) (other : Lent) (other-row : ℕ) (r : Bool) → r ≡ sameOrder table row other other-row
       → (r ≡ true) ↔ SameOrders table row other other-row
 

@@ -23,22 +23,9 @@ use Rattle.table.proofs.Lent.{same-within}
 use Rattle.look.specs.declared.leaf.Sought.{Sought}
 use Rattle.look.specs.declared.leaf.Sought.the-variants.{At, Nothing}
 use Rattle.look.specs.declared.leaf.Place.{Place}
-use Rattle.look.specs.Looking.{
-  fits,
-  soughtFrom,
-  soughtIn,
-  soughtPart,
-  lookedUp,
-  segmentsFit,
-  hasKindAndOwner,
-  rowFrom,
-  rowAfter,
-  isOrder,
-  orderAt,
-  orderPlace,
-  sameTexts,
-  sameOrder,
-}
+use Rattle.look.specs.Looking.{fits, segmentsFit, hasKindAndOwner, isOrder, orderAt, orderPlace}
+use Rattle.look.specs.Matches.{soughtPart, lookedUp}
+use Rattle.look.specs.inner.Searching.{soughtFrom, soughtIn, rowFrom, rowAfter, sameTexts, sameOrder}
 use Rattle.look.specs.inner.Ordering.{orderText}
 use Rattle.look.proofs.Seeking.{foundAt, sought-first, Within, sought-counted, sought-uncounted, sought-in-card}
 use Rattle.look.proofs.RowSearch.{row-first}

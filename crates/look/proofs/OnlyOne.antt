@@ -11,7 +11,8 @@ use Rattle.table.specs.declared.Card.{Card}
 use Rattle.table.specs.Lent.{Lent}
 use Rattle.look.specs.declared.leaf.Sought.{Sought}
 use Rattle.look.specs.declared.leaf.Place.{Place}
-use Rattle.look.specs.Looking.{soughtIn, lookedUp, rowAfter, sameOrder}
+use Rattle.look.specs.Matches.{lookedUp}
+use Rattle.look.specs.inner.Searching.{soughtIn, rowAfter, sameOrder}
 
 pub find-leaf : (t : Lent) (p : Place) (r s : Sought) → r ≡ soughtIn t p → s ≡ soughtIn t p → r ≡ s
 find-leaf t p r s h k = only-one h k

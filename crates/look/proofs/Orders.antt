@@ -14,7 +14,8 @@ use Rattle.table.specs.Lent.{Lent}
 use Rattle.table.specs.Rows.{kindIn}
 use Rattle.look.specs.declared.leaf.Sought.{Sought}
 use Rattle.look.specs.declared.leaf.Sought.the-variants.{At, Nothing}
-use Rattle.look.specs.Looking.{soughtIn, segmentsFit, isOrder, orderAt, orderPlace, sameTexts, sameOrder}
+use Rattle.look.specs.Looking.{segmentsFit, isOrder, orderAt, orderPlace}
+use Rattle.look.specs.inner.Searching.{soughtIn, sameTexts, sameOrder}
 use Rattle.look.specs.inner.Ordering.{orderText}
 use Rattle.look.proofs.Seeking.{found-within}
 use Rattle.look.proofs.TextParts.{part-long}

@@ -14,7 +14,8 @@ use Rattle.laws.proofs.Cases.{less-or-not}
 use Rattle.laws.proofs.Searching.{firstOf, Searching, search-begins, search-hit, search-miss, search-done}
 use Rattle.laws.proofs.Tests.{and-both, and-fails-first, and-fails-second}
 use Rattle.table.specs.Rows.{segmentRowSize, kindIn, ownerIn}
-use Rattle.look.specs.Looking.{segmentsFit, hasKindAndOwner, rowFrom, rowAfter}
+use Rattle.look.specs.Looking.{segmentsFit, hasKindAndOwner}
+use Rattle.look.specs.inner.Searching.{rowFrom, rowAfter}
 
 -- the count against the buffer, by division
 pub fit-divided : (rows : List ℕ) (count : ℕ) → leb count (length rows / segmentRowSize) ≡ segmentsFit rows count

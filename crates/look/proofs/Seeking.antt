@@ -19,7 +19,8 @@ use Rattle.table.proofs.Lent.{text-within}
 use Rattle.look.specs.declared.leaf.Sought.{Sought}
 use Rattle.look.specs.declared.leaf.Sought.the-variants.{At, Nothing}
 use Rattle.look.specs.declared.leaf.Place.{Place}
-use Rattle.look.specs.Looking.{numbersOf, fits, soughtFrom, soughtIn}
+use Rattle.look.specs.Looking.{numbersOf, fits}
+use Rattle.look.specs.inner.Searching.{soughtFrom, soughtIn}
 
 -- the five numbers of a row's place: the row has them where each is that of the place
 

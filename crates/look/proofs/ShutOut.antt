@@ -16,20 +16,9 @@ use Rattle.table.specs.Rows.{segmentRow}
 use Rattle.look.specs.declared.leaf.Sought.{Sought}
 use Rattle.look.specs.declared.leaf.Sought.the-variants.{At, Nothing}
 use Rattle.look.specs.declared.leaf.Place.{Place}
-use Rattle.look.specs.Looking.{
-  numbersOf,
-  fits,
-  soughtFrom,
-  soughtIn,
-  lookedUp,
-  hasKindAndOwner,
-  rowFrom,
-  rowAfter,
-  isOrder,
-  orderPlace,
-  sameTexts,
-  sameOrder,
-}
+use Rattle.look.specs.Looking.{numbersOf, fits, hasKindAndOwner, isOrder, orderPlace}
+use Rattle.look.specs.Matches.{lookedUp}
+use Rattle.look.specs.inner.Searching.{soughtFrom, soughtIn, rowFrom, rowAfter, sameTexts, sameOrder}
 use Rattle.look.proofs.TextParts.{part-found, no-part}
 
 -- an OBR, row 1, with as many leaf rows counted and as many bytes of text

@@ -9,7 +9,7 @@ use denote.Ref.{RefT}
 use Rattle.laws.specs.Parts.{wholeOf, partOf}
 use Rattle.look.specs.declared.leaf.Sought.{Sought}
 use Rattle.look.specs.declared.leaf.Sought.the-variants.{At, Nothing}
-use Rattle.look.specs.Looking.{soughtPart}
+use Rattle.look.specs.Matches.{soughtPart}
 
 -- a part from its start to its end is a part of its length
 pub part-long : (text : List ℕ) (start n : ℕ) → take (start + n - start) (drop start text) ≡ take n (drop start text)

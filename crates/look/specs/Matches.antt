@@ -5,12 +5,16 @@ use mathlib.Core.List.{List}
 use mathlib.Core.Path.{_≡_}
 use Prim.Native.Nat.{ℕ, zero, suc, _≤_, _<_}
 use lib.ListN.{take, drop}
-use Rattle.table.specs.Lent.{Lent, withinBuffers}
+use denote.Ref.{RefT, now}
+use Rattle.laws.specs.Parts.{Part, wholeOf, partOf}
+use Rattle.table.specs.declared.Card.{Card}
+use Rattle.table.specs.Lent.{Lent, lent, withinBuffers}
 use Rattle.table.specs.Rows.{startIn, lengthIn}
 use Rattle.look.specs.declared.leaf.Place.{Place}
 use Rattle.look.specs.declared.leaf.Sought.{Sought}
 use Rattle.look.specs.declared.leaf.Sought.the-variants.{At, Nothing}
-use Rattle.look.specs.Looking.{fits, segmentsFit, hasKindAndOwner, orderAt, orderPlace, soughtIn}
+use Rattle.look.specs.Looking.{fits, segmentsFit, hasKindAndOwner, orderAt, orderPlace}
+use Rattle.look.specs.inner.Searching.{soughtIn}
 
 -- i is the first of the numbers from `from` up to `to` at which a test holds; it holds at none of them
 pub record FirstFit (test : ℕ → Bool) (from to i : ℕ) : Type 0 where
@@ -43,8 +47,17 @@ pub record SameOrders (t : Lent) (row : ℕ) (u : Lent) (other : ℕ) : Type 0 w
   pub second : orderAt u other ≡ true
   pub start : ℕ
   pub size : ℕ
-  pub found : soughtIn t (orderPlace row) ≡ At start size
+  pub found : Finds t (orderPlace row) (At start size)
   pub start-other : ℕ
   pub size-other : ℕ
-  pub found-other : soughtIn u (orderPlace other) ≡ At start-other size-other
+  pub found-other : Finds u (orderPlace other) (At start-other size-other)
   pub same : take size (drop start (t .text)) ≡ take size-other (drop start-other (u .text))
+
+-- what is handed back of a lent text area and a lent substitute: the part that was found, or the whole substitute
+unfoldable pub soughtPart : (text substitute : RefT (List ℕ)) → Sought → Part
+soughtPart text substitute (At start n) = partOf text start n
+soughtPart text substitute Nothing = wholeOf substitute
+
+-- the part that the leaf lookup answers (F1)
+abbrev pub lookedUp : Card → (segmentRows leafRows : List ℕ) → (text : RefT (List ℕ)) → Place → (substitute : RefT (List ℕ)) → Part
+lookedUp card segmentRows leafRows text p substitute = soughtPart text substitute (soughtIn (lent card segmentRows leafRows (now text)) p)

@@ -8,7 +8,9 @@ ghost use Rattle.laws.specs.Lists.{same};
 ghost use Rattle.laws.specs.Parts.{wholeOf};
 ghost use Rattle.table.specs.Lent.{lent};
 ghost use Rattle.table.specs.Rows.{leafRowSize, placeIn};
-ghost use Rattle.look.specs.Looking.{numbersOf, soughtFrom, soughtIn, lookedUp};
+ghost use Rattle.look.specs.Looking.{numbersOf};
+ghost use Rattle.look.specs.Matches.{lookedUp};
+ghost use Rattle.look.specs.inner.Searching.{soughtFrom, soughtIn};
 
 // The place of a leaf (S5): the number of its segment's row, and the four numbers that tell it from the other leaves of the segment.
 pub struct Place {

@@ -9,7 +9,8 @@ use table::rows;
 ghost use mathlib.Core.Path.{_≡_};
 ghost use Rattle.laws.specs.Lists.{same};
 ghost use Rattle.table.specs.Lent.{lent};
-ghost use Rattle.look.specs.Looking.{isOrder, sameOrder};
+ghost use Rattle.look.specs.Looking.{isOrder};
+ghost use Rattle.look.specs.inner.Searching.{sameOrder};
 ghost use Rattle.look.specs.inner.Ordering.{orderText};
 
 // Whether a row of one table and a row of another are the same order (F3): two OBR whose leaf 9.4.2 is there and has equal bytes.

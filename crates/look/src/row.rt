@@ -2,7 +2,8 @@
 use table::Card;
 use table::rows;
 ghost use mathlib.Core.Path.{_≡_};
-ghost use Rattle.look.specs.Looking.{segmentsFit, rowAfter};
+ghost use Rattle.look.specs.Looking.{segmentsFit};
+ghost use Rattle.look.specs.inner.Searching.{rowAfter};
 
 // The number of the next row that has a kind and an owner, behind row `after`, or from row 1 on where that is 0 (F2). 0 where there is
 // none, or where the segment rows are fewer than the card counts.

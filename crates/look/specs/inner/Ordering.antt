@@ -5,7 +5,8 @@ use Prim.Native.Nat.{ℕ}
 use Rattle.table.specs.Lent.{Lent}
 use Rattle.look.specs.declared.leaf.Sought.{Sought}
 use Rattle.look.specs.declared.leaf.Sought.the-variants.{Nothing}
-use Rattle.look.specs.Looking.{soughtIn, orderAt, orderPlace}
+use Rattle.look.specs.Looking.{orderAt, orderPlace}
+use Rattle.look.specs.inner.Searching.{soughtIn}
 
 -- where the text of leaf 9.4.2 of an order lies; a row that is no order has none
 unfoldable pub orderText : Lent → ℕ → Sought

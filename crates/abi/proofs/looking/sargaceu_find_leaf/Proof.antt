@@ -3,7 +3,7 @@
 use mathlib.Core.Path.{_≡_, sym, ap, _∙_}
 use Rattle.table.specs.declared.Card.{Card}
 use Rattle.table.specs.Lent.{lent}
-use Rattle.look.specs.Looking.{soughtIn}
+use Rattle.look.specs.inner.Searching.{soughtIn}
 use Rattle.abi.specs.Cards.{cardOf}
 use Rattle.abi.specs.Looking.{givenPlace}
 use Rattle.abi.proofs.LeafAnswers.{leaf-there, leaf-not-there}

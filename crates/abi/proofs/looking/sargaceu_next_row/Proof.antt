@@ -2,7 +2,7 @@
 -- Assumes nothing.
 use mathlib.Core.Path.{ap, _∙_}
 use Rattle.table.specs.declared.Card.{Card}
-use Rattle.look.specs.Looking.{rowAfter}
+use Rattle.look.specs.inner.Searching.{rowAfter}
 use borrow.Author.Needs.{needs}
 use Rattle.abi.proofs.looking.sargaceu_next_row.Statement.{statement}
 use Rattle.abi.proofs.looking.sargaceu_next_row.Tie as tie

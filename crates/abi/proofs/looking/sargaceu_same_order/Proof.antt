@@ -3,7 +3,7 @@
 use mathlib.Core.Path.{ap₂, _∙_}
 use Rattle.table.specs.declared.Card.{Card}
 use Rattle.table.specs.Lent.{lent}
-use Rattle.look.specs.Looking.{sameOrder}
+use Rattle.look.specs.inner.Searching.{sameOrder}
 use borrow.Author.Needs.{needs}
 use Rattle.abi.proofs.looking.sargaceu_same_order.Statement.{statement}
 use Rattle.abi.proofs.looking.sargaceu_same_order.Tie as tie

@@ -7,7 +7,7 @@ use native.Mathlib.Omega.{arith}
 use lib.ListN.{length}
 use Rattle.table.specs.Lent.{Lent, lent}
 use Rattle.look.specs.declared.leaf.Sought.the-variants.{At, Nothing}
-use Rattle.look.specs.Looking.{soughtIn}
+use Rattle.look.specs.inner.Searching.{soughtIn}
 use Rattle.look.proofs.Seeking.{found-within}
 use Rattle.look.proofs.TextParts.{part-cut, no-part}
 use borrow.Author.Needs.{needs}

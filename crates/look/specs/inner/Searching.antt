@@ -1,0 +1,47 @@
+-- How the lookups find what they answer: row by row, from the first on. What they answer is said in Matches.
+-- Assumes nothing.
+use mathlib.Core.Bool.{Bool, true, false, _&&_}
+use mathlib.Core.List.{List}
+use Prim.Native.Nat.{ℕ, zero, suc, _-_}
+use lib.ListN.{take, drop}
+use Rattle.laws.specs.Lists.{same}
+use Rattle.table.specs.Lent.{Lent, withinBuffers}
+use Rattle.table.specs.Rows.{startIn, lengthIn}
+use Rattle.look.specs.declared.leaf.Sought.{Sought}
+use Rattle.look.specs.declared.leaf.Sought.the-variants.{At, Nothing}
+use Rattle.look.specs.declared.leaf.Place.{Place}
+use Rattle.look.specs.Looking.{fits, segmentsFit, hasKindAndOwner, orderAt, orderPlace}
+
+-- where the text of a leaf lies by the first of n rows, from row i on, that counts as a match, or that none does (F1)
+unfoldable pub soughtFrom : List ℕ → ℕ → Place → ℕ → ℕ → Sought
+soughtFrom rows bytes p i zero = Nothing
+soughtFrom rows bytes p i (suc n) =
+    elim (fits rows bytes p i) [ true ↦ At (startIn rows i) (lengthIn rows i) | false ↦ soughtFrom rows bytes p (suc i) n ]
+
+-- the same of all leaf rows that the card of a lent table counts; no row is looked at where the card counts more than some buffer holds (F1)
+unfoldable pub soughtIn : Lent → Place → Sought
+soughtIn t p = elim (withinBuffers t) [ true ↦ soughtFrom (t .leafRows) (t .card .text) p 0 (t .card .leaves) | false ↦ Nothing ]
+
+-- the number, counted from 1, of the first of n rows from row i on that has both, or 0
+unfoldable pub rowFrom : List ℕ → ℕ → ℕ → ℕ → ℕ → ℕ
+rowFrom rows kind owner i zero = 0
+rowFrom rows kind owner i (suc n) =
+    elim (hasKindAndOwner rows kind owner i) [ true ↦ suc i | false ↦ rowFrom rows kind owner (suc i) n ]
+
+-- the number of the next row, behind row `after`, that has both, or 0; 0 as well where there are fewer segment rows than the count says (F2)
+unfoldable pub rowAfter : List ℕ → ℕ → ℕ → ℕ → ℕ → ℕ
+rowAfter rows count after kind owner =
+    elim (segmentsFit rows count) [ true ↦ rowFrom rows kind owner after (count - after) | false ↦ 0 ]
+
+-- whether two found texts have the same bytes; a leaf that is not there has none
+unfoldable pub sameTexts : List ℕ → Sought → List ℕ → Sought → Bool
+sameTexts text Nothing other s = false
+sameTexts text (At a n) other Nothing = false
+sameTexts text (At a n) other (At b m) = same (take n (drop a text)) (take m (drop b other))
+
+-- whether a row of one table and a row of another are the same order (F3)
+unfoldable pub sameOrder : Lent → ℕ → Lent → ℕ → Bool
+sameOrder t row u other =
+    orderAt t row
+    && orderAt u other
+    && sameTexts (t .text) (soughtIn t (orderPlace row)) (u .text) (soughtIn u (orderPlace other))
