@@ -20,23 +20,7 @@ ghost use Rattle.order.specs.inner.Place.{misplaced};
 ghost use Rattle.table.specs.Rows.{segmentRowSize, leafRowSize, textOf};
 ghost use Rattle.table.specs.inner.BySegment.{kindAmong, contextAmong, writtenBytes};
 ghost use Rattle.write.specs.inner.Tests.{groupsIn, Decides, leavesBetween, SegmentEnd, FieldLeaf, rowStates, groupsStated, kindColumn, ownerColumn};
-ghost use Rattle.write.specs.inner.Asked.{TextStated, LeafAmong, Following, FieldThere, UpTo, Stretch, SegmentThere, LawfulStretch, Groupable, Grouped, Orderable, Ownable};
-
-// The leaf after the last one of the segment that the leaf `first` stands in.
-fn segment_end(rows: &[Entry], count: usize, first: usize) -> usize
-    requires { ⌜ LeafAmong (now rows) count first ⌝ }
-    ensures { λ r. ⌜ SegmentEnd (now (rows .entry)) count first r ⌝ }
-{
-    let segment = rows[first * rows::LEAF_ROW];
-    let mut i = first + 1;
-    while i < count {
-        if rows[i * rows::LEAF_ROW] != segment {
-            return i;
-        }
-        i += 1;
-    }
-    i
-}
+ghost use Rattle.write.specs.inner.Asked.{TextStated, FirstSegment, Following, FieldThere, UpTo, Stretch, SegmentThere, LawfulStretch, Groupable, Grouped, Orderable, Ownable};
 
 // Whether the segment that begins at the leaf `first` has so many leaves: the last of them stands in it and the leaf after that does not.
 // No leaf between has to be looked at, since segment numbers never fall along places that follow each other.
@@ -125,12 +109,11 @@ fn kind_of(rows: &[Entry], text: &[u8], count: usize, first: usize, end: usize) 
     Kind::named(&text[start..finish])
 }
 
-// The context that field 7 of the first segment names, or 0.
-pub(crate) fn context_of(rows: &[Entry], text: &[u8], count: usize) -> u8
-    requires { ⌜ Stretch (now rows) (now text) count 0 count ⌝ }
+// The context that field 7 of the first segment names, or 0. That segment's leaves go up to `end`; only the contract reads `count`.
+pub(crate) fn context_of(rows: &[Entry], text: &[u8], count: usize, end: usize) -> u8
+    requires { ⌜ FirstSegment (now rows) (now text) count end ⌝ }
     ensures { λ r. ⌜ r ≡ contextAmong (groupsIn (now (rows .entry)) (now (text .entry)) count) ⌝ }
 {
-    let end = segment_end(rows, count, 0);
     let leaf = field_leaf(rows, 7, 0, end);
     if leaf == end {
         return 0;

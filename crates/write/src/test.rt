@@ -120,7 +120,7 @@ fn sound_leaves(field: u8, leaves: &[Entry], text: &[u8], count: usize) -> bool
     leaf_rows::go_on_from(separators, leaves, text, count)
 }
 
-// Whether field 7.7 names the context and the kinds stand where it allows them.
+// Whether field 7.7 names the context and the kinds stand where it allows them. The first segment row counts the first segment's leaves.
 fn in_order(
     context: u8,
     segments: &[Entry],
@@ -135,7 +135,8 @@ fn in_order(
     if context == 0 {
         return false;
     }
-    if segment_rows::context_of(leaves, text, count) != context {
+    let end = rows::wide(segments[rows::COUNT]);
+    if segment_rows::context_of(leaves, text, count, end) != context {
         return false;
     }
     let followers = followers::table();

@@ -16,7 +16,7 @@ use Rattle.table.specs.declared.Card.{Card}
 use Rattle.table.specs.Rows.{Table, segmentRowSize, leafRowSize, segmentIn, fieldIn, startIn, lengthIn}
 use Rattle.table.specs.inner.Fitting.{FitsRows}
 use Rattle.write.specs.inner.RowByRow.{Sized}
-use Rattle.write.specs.inner.Tests.{groupsIn, InText, PlacesFollow, KindsStated, groupsStated, headerLeavesAt}
+use Rattle.write.specs.inner.Tests.{groupsIn, InText, PlacesFollow, SegmentEnd, KindsStated, groupsStated, headerLeavesAt}
 use Rattle.write.specs.inner.Filling.{Stand, Fits, InSegment, lineOpened}
 use Rattle.write.specs.inner.Passing.{NextAfter, leading}
 use Rattle.write.specs.inner.Message.{Tested}
@@ -62,11 +62,6 @@ pub record FourWithin (rows text : List ℕ) : Type 0 where
   pub four : lengthIn rows 1 ≡ 4
   pub within : startIn rows 1 + 4 ≤ length text
 
--- one of the leaves
-pub record LeafAmong (rows : List ℕ) (count first : ℕ) : Type 0 where
-  pub sized : length rows ≡ count * leafRowSize
-  pub within : first < count
-
 -- places that follow each other, up to a leaf and on
 pub record Following (rows : List ℕ) (count first : ℕ) : Type 0 where
   pub sized : length rows ≡ count * leafRowSize
@@ -88,6 +83,11 @@ pub record Stretch (rows text : List ℕ) (count first end : ℕ) : Type 0 where
   pub inText : InText rows text count
   pub from : first < end
   pub to : end ≤ count
+
+-- the leaves of the first segment
+pub record FirstSegment (rows text : List ℕ) (count end : ℕ) : Type 0 where
+  pub inText : InText rows text count
+  pub ends : SegmentEnd rows count 0 end
 
 -- where the text of a leaf lies
 pub record TextStated (rows : List ℕ) (leaf start end : ℕ) : Type 0 where
@@ -131,6 +131,7 @@ pub record KindsAndLeaves (segments : List ℕ) (many : ℕ) (rows text : List �
   pub kinds : KindsStated segments many
   pub inText : InText rows text count
   pub some : 0 < count
+  pub grouped : groupsStated segments 0 many 1 (groupsIn rows text count) ≡ true
 
 -- a byte into the line begun; the end of the line; the end of the line, and an addendum
 pub record RoomForByte (going : Going) (output : List ℕ) : Type 0 where

@@ -104,7 +104,7 @@ in-order-requires : tie.Need-in-order-requires
 in-order-requires c κs =
     let grouped = c .before .before in
     let laid = grouped .before .before .before .before in
-    record { kinds = kinds-here grouped; inText = text-here laid; some = omega (arith, laid .before .before .if1 .left) }
+    record { kinds = kinds-here grouped; inText = text-here laid; some = omega (arith, laid .before .before .if1 .left); grouped = grouped-here grouped }
 
 returns-6 : tie.Need-returns-6
 returns-6 c = refuses (start-5 (c .before .before)) (λ w. never-both (w .ordered) (answered-no (c .before .in-order .ensures) (c .if6 .taken)))
