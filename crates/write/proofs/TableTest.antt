@@ -5,9 +5,9 @@ use mathlib.Core.List.{List, [], _∷_, map}
 use mathlib.Core.Path.{_≡_, sym, ap, _∙_, subst}
 use Prim.Native.Nat.{ℕ, zero, suc, _-_, _≤_}
 use native.Mathlib.Omega.{arith}
-use lib.Dec.{leb, eqb}
+use lib.Dec.{eqb}
 use lib.ListN.{length, getD, length-map}
-use borrow.Author.Tests.{eqb-true, eqb-false, eq-eqb, ne-eqb, leb-true, le-leb, not-true}
+use borrow.Author.Tests.{eqb-true, eqb-false, eq-eqb, ne-eqb, not-true}
 use Rattle.laws.specs.Lists.{same}
 use Rattle.laws.specs.inner.Sums.{sumOf}
 use Rattle.laws.proofs.Lists.{same-equal}
@@ -23,15 +23,16 @@ use Rattle.order.proofs.Owner.{length-owners}
 use Rattle.table.specs.Leaves.{Leaf}
 use Rattle.table.specs.Rows.{Table, segmentRowsOf, kindIn}
 use Rattle.table.specs.inner.Fitting.{FitsRows}
-use Rattle.table.specs.Back.{leavesOf}
+use Rattle.table.specs.Back.{leavesOf, written}
 use Rattle.table.specs.inner.BySegment.{fieldOf, goesOn, numberOfField, kindAmong, contextAmong, writtenBytes}
 use Rattle.table.specs.inner.RowTests.{endToEnd}
 use Rattle.table.proofs.SegmentRows.{owners-stated}
 use Rattle.write.specs.inner.Local.{groupsOf, kindsAmong}
 use Rattle.write.specs.inner.RowByRow.{Sized, RowByRow}
 use Rattle.write.specs.inner.Asked.{CountedTable}
-use Rattle.write.specs.inner.Tests.{groupsIn, InText, Laid, KindsStated, groupsStated, kindColumn, ownerColumn, soundLeaves, inOrder}
+use Rattle.write.specs.inner.Tests.{groupsIn, InText, Laid, KindsStated, groupsStated, kindColumn, ownerColumn, soundLeaves, inOrder, sizeBack}
 use Rattle.write.specs.Writing.{readsBack}
+use Rattle.write.proofs.LocalTables.{local-bytes}
 use Rattle.write.proofs.RowByRow.{row-by-row, rows-local}
 use Rattle.write.proofs.GoingOn.{sound-next}
 use Rattle.write.proofs.HeaderTest.{same-of}
@@ -57,7 +58,7 @@ pub record Passed (L : Limits) (levels : ℕ → ℕ → ℕ) (t : Table) : Type
   pub owned : same (ownerColumn (t .segmentRows) (t .card .segments))
       (owners (levels (t .card .context)) (kindColumn (t .segmentRows) (t .card .segments))) ≡ true
   pub ordered : inOrder (t .card .context) (t .segmentRows) (t .card .segments) (t .leafRows) (t .text) (t .card .leaves) ≡ true
-  pub short : leb (sumOf (writtenBytes L) (groupsIn (t .leafRows) (t .text) (t .card .leaves))) (L .bytes) ≡ true
+  pub short : sumOf (writtenBytes L) (groupsIn (t .leafRows) (t .text) (t .card .leaves)) ≤ L .bytes
 
 -- so the rows of a table that passes them are laid out
 pub passed-laid : {L : Limits} {levels : ℕ → ℕ → ℕ} {t : Table} → Passed L levels t → Laid (t .leafRows) (t .card .leaves) (t .card .text)
@@ -91,7 +92,7 @@ module _ (L : Limits) (levels : ℕ → ℕ → ℕ) (t : Table) (sized : Sized 
             and-both (and-both (ap not (ne-eqb (t .card .context) 0 (w .kinds .named))) (eq-eqb named (t .card .context) (sym (w .kinds .context))))
             (eq-eqb (misplaced (t .card .context) (kindColumn (t .segmentRows) (t .card .segments))) 0
             (ap (misplaced (t .card .context)) (again .kinds-are) ∙ w .kinds .ordered));
-        short = le-leb (sumOf (writtenBytes L) groups) (L .bytes) (w .few .bytes);
+        short = w .few .bytes;
       }
     where
       many : t .card .segments ≡ length groups
@@ -125,7 +126,7 @@ module _ (L : Limits) (levels : ℕ → ℕ → ℕ) (t : Table) (sized : Sized 
             (same-equal (ownerColumn (t .segmentRows) (t .card .segments)) (owners lv (kindColumn (t .segmentRows) (t .card .segments))) (w .owned)
             ∙ ap (owners lv) (st .kinds))
             ∙ owners-stated lv groups;
-        few = record { segments = few-segments; leaves = few-leaves; bytes = leb-true (sumOf (writtenBytes L) groups) (L .bytes) (w .short) };
+        few = record { segments = few-segments; leaves = few-leaves; bytes = w .short };
       }
     where
       st : Stated (t .segmentRows) 0 (t .card .segments) 1 groups
@@ -143,6 +144,16 @@ module _ (L : Limits) (levels : ℕ → ℕ → ℕ) (t : Table) (sized : Sized 
       ab : (a && b) ≡ true
       ab = and-first (a && b) d (w .ordered)
 
+-- the cases of `sizeBack`
+module _ (L : Limits) (levels : ℕ → ℕ → ℕ) (t : Table) where
+  pub size-there : readsBack L levels t ≡ true → sizeBack L levels t ≡ length (written L t)
+  unfolding sizeBack
+  size-there e = rw (e, sizeBack)
+
+  pub size-none : readsBack L levels t ≡ false → sizeBack L levels t ≡ 0
+  unfolding sizeBack
+  size-none e = rw (e, sizeBack)
+
 -- the kinds that the rows state are kinds
 kind-among-few : (ls : List Leaf) → kindAmong ls ≤ 12
 unfolding kindAmong numberOfField kindOf
@@ -159,15 +170,15 @@ kinds-few [] i = omega arith
 kinds-few (g ∷ gs) zero = kind-among-few g
 kinds-few (g ∷ gs) (suc i) = kinds-few gs i
 
-module _ {L : Limits} {levels : ℕ → ℕ → ℕ} {t : Table} (w : CountedTable L levels t) where
-  pub counted-kinds : groupsStated (t .segmentRows) 0 (t .card .segments) 1 (groups L levels t (w .sized)) ≡ true
+module _ {L : Limits} {t : Table} (w : CountedTable L t) where
+  pub counted-kinds : groupsStated (t .segmentRows) 0 (t .card .segments) 1 (groupsIn (t .leafRows) (t .text) (t .card .leaves)) ≡ true
       → KindsStated (t .segmentRows) (t .card .segments)
   counted-kinds h =
       let many = t .card .segments in
-      let found = groups L levels t (w .sized) in
+      let found = groupsIn (t .leafRows) (t .text) (t .card .leaves) in
       record {
         sized = w .sized .segmentRows;
-        few = omega (arith, w .segments, w .testable .fits .segments);
+        few = omega (arith, w .segments, w .fits .segments);
         kinds =
             λ i l.
             subst (λ (n : ℕ). n ≤ 12)
@@ -176,23 +187,24 @@ module _ {L : Limits} {levels : ℕ → ℕ → ℕ} {t : Table} (w : CountedTab
             (kinds-few found i);
       }
 
-  -- so the code's answer is the test's
-  pub refused-so : (Passed L levels t → ⊥) → false ≡ readsBack L levels t
-  refused-so n = go (tested (readsBack L levels t))
-    where
-      go : Tested (readsBack L levels t) → false ≡ readsBack L levels t
-      go (passed h) = absurd (n (rows-passed L levels t (w .sized) (row-by-row L (w .testable .fits .lawful) levels t .0 h .1)))
-      go (failed h) = sym h
+  -- so the code's tests are the table test
+  module _ (levels : ℕ → ℕ → ℕ) where
+    refused-so : (Passed L levels t → ⊥) → false ≡ readsBack L levels t
+    refused-so n = go (tested (readsBack L levels t))
+      where
+        go : Tested (readsBack L levels t) → false ≡ readsBack L levels t
+        go (passed h) = absurd (n (rows-passed L levels t (w .sized) (row-by-row L (w .fits .lawful) levels t .0 h .1)))
+        go (failed h) = sym h
 
-  accepted-so : Passed L levels t → true ≡ readsBack L levels t
-  accepted-so v = sym (row-by-row L (w .testable .fits .lawful) levels t .1 (w .sized, passed-rows L levels t (w .sized) (w .segments) (w .leaves) v))
+    accepted-so : Passed L levels t → true ≡ readsBack L levels t
+    accepted-so v = sym (row-by-row L (w .fits .lawful) levels t .1 (w .sized, passed-rows L levels t (w .sized) (w .segments) (w .leaves) v))
 
-  -- the last test decides where the others are passed
-  pub short-decides : {r : Bool} → r ≡ leb (sumOf (writtenBytes L) (groups L levels t (w .sized))) (L .bytes)
-      → (leb (sumOf (writtenBytes L) (groups L levels t (w .sized))) (L .bytes) ≡ true → Passed L levels t) → r ≡ readsBack L levels t
-  short-decides e others = e ∙ go (tested (leb (sumOf (writtenBytes L) (groups L levels t (w .sized))) (L .bytes)))
-    where
-      go : Tested (leb (sumOf (writtenBytes L) (groups L levels t (w .sized))) (L .bytes))
-          → leb (sumOf (writtenBytes L) (groups L levels t (w .sized))) (L .bytes) ≡ readsBack L levels t
-      go (passed h) = h ∙ accepted-so (others h)
-      go (failed h) = h ∙ refused-so (λ v. never-both (v .short) h)
+    -- so the bytes that are counted where all tests are passed are those that are written, and elsewhere there are none
+    pub passed-size : Passed L levels t → sumOf (writtenBytes L) (groups L levels t (w .sized)) ≡ sizeBack L levels t
+    unfolding groupsOf leavesOf
+    passed-size v =
+        local-bytes (w .fits .lawful) (rows-local (w .sized) (passed-rows L levels t (w .sized) (w .segments) (w .leaves) v))
+        ∙ sym (size-there L levels t (sym (accepted-so v)))
+
+    pub refused-size : (Passed L levels t → ⊥) → 0 ≡ sizeBack L levels t
+    refused-size n = sym (size-none L levels t (sym (refused-so n)))

@@ -1,7 +1,7 @@
 // The table test: whether some message within the limits reads to exactly this table.
 use crate::leaf_rows;
 use crate::segment_rows;
-use form::limits::Form;
+use crate::size;
 use form::limits::Limits;
 use order::followers;
 use order::levels;
@@ -11,45 +11,44 @@ use table::rows::Entry;
 ghost use mathlib.Core.Path.{_≡_};
 ghost use Prim.Native.Nat.{_*_, _<_};
 ghost use Rattle.form.specs.Limits.{form};
-ghost use Rattle.order.specs.inner.Levels.{levelIn};
 ghost use Rattle.order.specs.Owners.{level};
-ghost use Rattle.write.specs.Writing.{isTable, readsBack};
+ghost use Rattle.write.specs.Writing.{isTable};
+ghost use Rattle.write.specs.Answer.{writtenSize};
 ghost use Rattle.table.specs.Lent.{lent, withinLimits};
-ghost use Rattle.write.specs.inner.Tests.{tableWith, soundLeaves, inOrder};
-ghost use Rattle.write.specs.inner.Asked.{Testable, CountedTable, LaidOut, KindsAndLeaves};
+ghost use Rattle.table.specs.inner.Fitting.{FitsRows};
+ghost use Rattle.write.specs.inner.Tests.{tableWith, sizeBack, soundLeaves, inOrder};
+ghost use Rattle.write.specs.inner.Asked.{CountedTable, LaidOut, KindsAndLeaves};
 
 // Yes exactly where some message within the form's limits reads to the table that the card counts in the lent buffers, whatever these hold.
+// Such a message has some bytes.
 pub fn is_table(card: Card, segments: &[Entry], leaves: &[Entry], text: &[u8]) -> bool
     ensures { λ r. ⌜ r ≡ isTable form level (lent card (now (segments .entry)) (now (leaves .entry)) (now (text .entry))) ⌝ }
 {
-    let levels = levels::table();
-    is_table_of(Form::limits(), &levels, card, segments, leaves, text)
+    size::written_bytes(card, segments, leaves, text) != 0
 }
 
-// The same for any limits and levels.
-pub(crate) fn is_table_of(
+// The bytes that are written for a table under any limits; 0 where no message within them reads to it.
+pub(crate) fn table_bytes(
     limits: Limits,
-    levels: &[u8; 84],
     card: Card,
     segments: &[Entry],
     leaves: &[Entry],
     text: &[u8],
-) -> bool
-    requires { ⌜ Testable limits (levelIn (now levels)) ⌝ }
-    ensures { λ r. ⌜ r ≡ isTable limits (levelIn (now (levels .entry))) (lent card (now (segments .entry)) (now (leaves .entry)) (now (text .entry))) ⌝ }
+) -> usize
+    requires { ⌜ FitsRows limits ⌝ }
+    ensures { λ r. ⌜ r ≡ writtenSize limits level (lent card (now (segments .entry)) (now (leaves .entry)) (now (text .entry))) ⌝ }
 {
     if !within_limits(limits, card) {
-        return false;
+        return 0;
     }
     if !rows::counts_fit(card, segments.len(), leaves.len(), text.len()) {
-        return false;
+        return 0;
     }
     let many = card.segments * rows::SEGMENT_ROW;
     let size = card.leaves * rows::LEAF_ROW;
     let end = card.text;
-    reads_back(
+    counted_bytes(
         limits,
-        levels,
         card,
         &segments[..many],
         &leaves[..size],
@@ -70,39 +69,42 @@ fn within_limits(limits: Limits, card: Card) -> bool
     card.text <= limits.bytes
 }
 
-// Whether some message reads to the table of the counted entries.
-fn reads_back(
+// The same of the table of the counted entries. The levels are bound where they are looked at, past the tests that most refusals come from.
+fn counted_bytes(
     limits: Limits,
-    levels: &[u8; 84],
     card: Card,
     segments: &[Entry],
     leaves: &[Entry],
     text: &[u8],
-) -> bool
-    requires { ⌜ CountedTable limits (levelIn (now levels)) (tableWith card (now segments) (now leaves) (now text)) ⌝ }
-    ensures { λ r. ⌜ r ≡ readsBack limits (levelIn (now (levels .entry))) (tableWith card (now (segments .entry)) (now (leaves .entry)) (now (text .entry))) ⌝ }
+) -> usize
+    requires { ⌜ CountedTable limits (tableWith card (now segments) (now leaves) (now text)) ⌝ }
+    ensures { λ r. ⌜ r ≡ sizeBack limits level (tableWith card (now (segments .entry)) (now (leaves .entry)) (now (text .entry))) ⌝ }
 {
     let count = card.leaves;
     if count < 3 {
-        return false;
+        return 0;
     }
     if !leaf_rows::laid(leaves, count, card.text) {
-        return false;
+        return 0;
     }
     if !sound_leaves(card.separator, leaves, text, count) {
-        return false;
+        return 0;
     }
     if !segment_rows::grouped(segments, card.segments, leaves, text, count) {
-        return false;
+        return 0;
     }
-    if !segment_rows::owned(levels, card.context, segments, card.segments) {
-        return false;
+    let levels = levels::table();
+    if !segment_rows::owned(&levels, card.context, segments, card.segments) {
+        return 0;
     }
     if !in_order(card.context, segments, card.segments, leaves, text, count) {
-        return false;
+        return 0;
     }
-    segment_rows::message_bytes(limits, segments, card.segments, leaves, text, count)
-        <= limits.bytes
+    let bytes = segment_rows::message_bytes(limits, segments, card.segments, leaves, text, count);
+    if limits.bytes < bytes {
+        return 0;
+    }
+    bytes
 }
 
 // Whether the header's rows keep the header rule and the leaf rows after them go on soundly.

@@ -22,14 +22,9 @@ use Rattle.write.specs.inner.Passing.{NextAfter, leading}
 use Rattle.write.specs.inner.Message.{Tested}
 use Rattle.write.specs.declared.lines.Going.{Going}
 
--- the test of a lent table: numbers that fit the rows, levels that the owners' test knows
-pub record Testable (L : Limits) (levels : ℕ → ℕ → ℕ) : Type 0 where
+-- the test of the counted entries: they are as many as the card counts, and its counts keep to the limits, which fit the rows' numbers
+pub record CountedTable (L : Limits) (t : Table) : Type 0 where
   pub fits : FitsRows L
-  pub low : LevelsBelow levels
-
--- the test of the counted entries: they are as many as the card counts, and its counts keep to the limits
-pub record CountedTable (L : Limits) (levels : ℕ → ℕ → ℕ) (t : Table) : Type 0 where
-  pub testable : Testable L levels
   pub sized : Sized t
   pub segments : t .card .segments ≤ L .segments
   pub leaves : t .card .leaves ≤ L .leaves

@@ -9,16 +9,18 @@ use lib.Dec.{leb, ltb, eqb}
 use lib.ListN.{length, getD}
 use Rattle.laws.specs.Lists.{same, among}
 use Rattle.laws.specs.Tables.{values}
+use Rattle.form.specs.declared.limits.Limits.{Limits}
 use Rattle.form.specs.Header.{allAllowed, different, five, splitting}
 use Rattle.form.specs.Names.{numberAmong}
 use Rattle.line.specs.Lines.{space}
 use Rattle.table.specs.declared.Card.{Card}
 use Rattle.table.specs.Leaves.{Leaf}
 use Rattle.table.specs.Rows.{Table, segmentRowSize, leafRowSize, kindIn, ownerIn, firstIn, countIn, segmentIn, placeIn, width}
-use Rattle.table.specs.Back.{leafAt, separatorsAt}
+use Rattle.table.specs.Back.{leafAt, separatorsAt, written}
 use Rattle.order.specs.inner.Place.{misplaced}
 use Rattle.table.specs.inner.BySegment.{bySegment, kindAmong, contextAmong, numberOfField}
 use Rattle.table.specs.inner.RowTests.{endToEnd, nextPlace, goOnFrom}
+use Rattle.write.specs.Writing.{readsBack}
 use Rattle.write.specs.inner.Local.{thirdPlace}
 
 -- a test that is passed exactly where something holds
@@ -120,6 +122,10 @@ inOrder context segments many rows text count =
     not (eqb context 0)
     && eqb (contextAmong (groupsIn rows text count)) context
     && eqb (misplaced context (kindColumn segments many)) 0
+
+-- the bytes that are written for a table where some message reads to it, else 0
+unfoldable pub sizeBack : Limits → (ℕ → ℕ → ℕ) → Table → ℕ
+sizeBack L levels t = elim (readsBack L levels t) [ true ↦ length (written L t) | false ↦ 0 ]
 
 -- a table of some counted entries
 abbrev pub tableWith : Card → (segmentRows leafRows text : List ℕ) → Table
