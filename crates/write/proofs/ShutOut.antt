@@ -1,4 +1,4 @@
--- Writers and table tests that the contracts shut out (document 01, "How strong the statements are").
+-- Table tests that the contracts shut out: each would pass a table that no message reads to (W4).
 -- Assumes nothing.
 use mathlib.Core.Bool.{true, false}
 use mathlib.Core.Path.{_≡_, ap, _∙_}

@@ -1,7 +1,6 @@
 -- The bytes that are written for a lent table, by what the table test finds.
 -- Assumes nothing.
-use mathlib.Core.Bool.{Bool, true, false, not}
-use mathlib.Core.List.{List}
+use mathlib.Core.Bool.{true, false, not}
 use mathlib.Core.Path.{_≡_, sym, ap, _∙_}
 use Prim.Native.Nat.{ℕ, _≤_}
 use native.Mathlib.Omega.{arith}
@@ -16,7 +15,7 @@ use Rattle.table.specs.Reading.{stated}
 use Rattle.table.specs.Back.{linesOf, written}
 use Rattle.table.specs.Lent.{Lent, withinLimits, withinBuffers, counted}
 use Rattle.table.proofs.Accepting.{accepting}
-use Rattle.write.specs.Writing.{readsBack, isTable, writes, refuses}
+use Rattle.write.specs.Writing.{readsBack, isTable}
 use Rattle.write.specs.Answer.{answer, writtenSize}
 use Rattle.write.specs.inner.Tests.{sizeBack}
 use Rattle.write.proofs.LentTables.{table-written-out, no-table-refused, writes-back}

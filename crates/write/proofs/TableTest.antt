@@ -12,7 +12,7 @@ use Rattle.laws.specs.Lists.{same}
 use Rattle.laws.specs.inner.Sums.{sumOf}
 use Rattle.laws.proofs.Lists.{same-equal}
 use Rattle.laws.proofs.Tables.{getD-values-zero}
-use Rattle.laws.proofs.Tests.{Tested, passed, failed, tested, never-both, and-first, and-second, and-both}
+use Rattle.laws.proofs.Tests.{Tested, passed, failed, tested, and-first, and-second, and-both}
 use Rattle.form.specs.declared.limits.Limits.{Limits}
 use Rattle.form.specs.Names.{kindNames, kindOf}
 use Rattle.form.proofs.Names.{kind-within}

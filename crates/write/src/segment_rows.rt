@@ -1,4 +1,4 @@
-// The tests of segment rows: each row against the leaves of its segment.
+// The tests of segment rows (T2): each row against the leaves of its segment.
 use form::context::Context;
 use form::kind::Kind;
 use form::limits::Limits;
@@ -94,7 +94,8 @@ fn text_of(rows: &[Entry], leaf: usize) -> Lying
     }
 }
 
-// The kind of the segment of the leaves from `first` up to `end`, or 0. Its first leaf is of field 1, as each segment's is.
+// The kind of the segment of the leaves from `first` up to `end`, or 0 (S1). Its first leaf is of field 1, as each segment's is. Only the
+// contract reads `count`.
 fn kind_of(rows: &[Entry], text: &[u8], count: usize, first: usize, end: usize) -> u8
     requires { ⌜ SegmentThere (now rows) (now text) count first end ⌝ }
     ensures { λ r. ⌜ r ≡ kindAmong (leavesBetween (now (rows .entry)) (now (text .entry)) first end) ⌝ }
@@ -109,7 +110,7 @@ fn kind_of(rows: &[Entry], text: &[u8], count: usize, first: usize, end: usize) 
     Kind::named(&text[start..finish])
 }
 
-// The context that field 7 of the first segment names, or 0. That segment's leaves go up to `end`; only the contract reads `count`.
+// The context that field 7 of the first segment names, or 0 (C1). That segment's leaves go up to `end`. Only the contract reads `count`.
 pub(crate) fn context_of(rows: &[Entry], text: &[u8], count: usize, end: usize) -> u8
     requires { ⌜ FirstSegment (now rows) (now text) count end ⌝ }
     ensures { λ r. ⌜ r ≡ contextAmong (groupsIn (now (rows .entry)) (now (text .entry)) count) ⌝ }
@@ -172,7 +173,7 @@ pub(crate) fn grouped(
     first == count
 }
 
-// Whether the kinds that the segment rows state stand where the context allows them.
+// Whether the kinds that the segment rows state stand where the context allows them (C2, C3).
 pub(crate) fn ordered(table: &[u8; 847], context: u8, segments: &[Entry], many: usize) -> bool
     requires { ⌜ Orderable (now table) (now segments) many ⌝ }
     ensures { λ r. ⌜ r ≡ eqb (misplaced context (kindColumn (now (segments .entry)) many)) 0 ⌝ }
@@ -191,7 +192,7 @@ pub(crate) fn ordered(table: &[u8; 847], context: u8, segments: &[Entry], many: 
     watcher.last == Kind::L
 }
 
-// Whether the owners that the segment rows state are those of their kinds.
+// Whether the owners that the segment rows state are those of their kinds (O2, O3).
 pub(crate) fn owned(table: &[u8; 84], context: u8, segments: &[Entry], many: usize) -> bool
     requires { ⌜ Ownable (levelIn (now table)) (now segments) many ⌝ }
     ensures { λ r. ⌜ r ≡ same (ownerColumn (now (segments .entry)) many)
@@ -213,6 +214,7 @@ pub(crate) fn owned(table: &[u8; 84], context: u8, segments: &[Entry], many: usi
 }
 
 // The bytes of the texts of the leaves from `first` up to `end`, which lie end to end: from the first one's start up to the last one's end.
+// Only the contract reads `text` and `count`, here and in the two functions below.
 fn text_bytes(rows: &[Entry], text: &[u8], count: usize, first: usize, end: usize) -> usize
     requires { ⌜ Stretch (now rows) (now text) count first end ⌝ }
     ensures { λ r. ⌜ (r ≡ length (textOf (leavesBetween (now (rows .entry)) (now (text .entry)) first end))) × (r ≤ length (now (text .entry))) ⌝ }
@@ -220,8 +222,8 @@ fn text_bytes(rows: &[Entry], text: &[u8], count: usize, first: usize, end: usiz
     text_of(rows, end - 1).end - text_of(rows, first).start
 }
 
-// The bytes that are written for the segment of the leaves from `first` up to `end`: its texts and separators, a CR for each line, and
-// `A` and separator for each line but the first.
+// The bytes that are written for the segment of the leaves from `first` up to `end` (W1, W2): its texts and separators, a CR for each line,
+// and `A` and separator for each line but the first.
 fn segment_bytes(
     limits: Limits,
     rows: &[Entry],

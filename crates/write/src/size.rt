@@ -9,8 +9,8 @@ ghost use Rattle.order.specs.Owners.{level};
 ghost use Rattle.table.specs.Lent.{lent};
 ghost use Rattle.write.specs.Answer.{writtenSize};
 
-// The bytes that the writer gives for a table, whatever the buffers hold; 0 where no message reads to it. The form's limits are named here
-// alone, so that the whole test is compiled for them.
+// The bytes that the writer gives for a table, whatever the buffers hold; 0 where no message reads to it (W3, W4). The test is called here
+// alone, so that it is compiled for the form's limits.
 pub fn written_bytes(card: Card, segments: &[Entry], leaves: &[Entry], text: &[u8]) -> usize
     ensures { λ r. ⌜ r ≡ writtenSize form level (lent card (now (segments .entry)) (now (leaves .entry)) (now (text .entry))) ⌝ }
 {

@@ -1,4 +1,4 @@
-// The table test: whether some message within the limits reads to exactly this table.
+// The table test (W4): whether some message within the limits reads to a table, and how many bytes are written for it.
 use crate::leaf_rows;
 use crate::segment_rows;
 use crate::size;
@@ -19,8 +19,8 @@ ghost use Rattle.table.specs.inner.Fitting.{FitsRows};
 ghost use Rattle.write.specs.inner.Tests.{tableWith, sizeBack, soundLeaves, inOrder};
 ghost use Rattle.write.specs.inner.Asked.{CountedTable, LaidOut, KindsAndLeaves};
 
-// Yes exactly where some message within the form's limits reads to the table that the card counts in the lent buffers, whatever these hold.
-// Such a message has some bytes.
+// Yes exactly where some message within the form's limits reads to the table that the card counts in the lent buffers, whatever these hold
+// (W4). Such a message has some bytes.
 pub fn is_table(card: Card, segments: &[Entry], leaves: &[Entry], text: &[u8]) -> bool
     ensures { λ r. ⌜ r ≡ isTable form level (lent card (now (segments .entry)) (now (leaves .entry)) (now (text .entry))) ⌝ }
 {
@@ -56,7 +56,7 @@ pub(crate) fn table_bytes(
     )
 }
 
-// Whether a card's counts keep to the limits.
+// Whether a card's counts keep to the limits (T6).
 fn within_limits(limits: Limits, card: Card) -> bool
     ensures { λ r. ⌜ r ≡ withinLimits limits card ⌝ }
 {
@@ -107,7 +107,7 @@ fn counted_bytes(
     bytes
 }
 
-// Whether the header's rows keep the header rule and the leaf rows after them go on soundly.
+// Whether the header's rows keep the header rule (H2, S4) and the leaf rows after them go on soundly. Only the contract reads `count`.
 fn sound_leaves(field: u8, leaves: &[Entry], text: &[u8], count: usize) -> bool
     requires { ⌜ LaidOut (now leaves) (now text) count ⌝ }
     ensures { λ r. ⌜ r ≡ soundLeaves field (now (leaves .entry)) (now (text .entry)) count ⌝ }
@@ -122,7 +122,8 @@ fn sound_leaves(field: u8, leaves: &[Entry], text: &[u8], count: usize) -> bool
     leaf_rows::go_on_from(separators, leaves, text, count)
 }
 
-// Whether field 7.7 names the context and the kinds stand where it allows them. The first segment row counts the first segment's leaves.
+// Whether field 7 of the first segment names the context (C1) and the kinds stand where it allows them (C2, C3). The first segment row counts
+// that segment's leaves. Only the contract reads `count`.
 fn in_order(
     context: u8,
     segments: &[Entry],

@@ -1,4 +1,4 @@
--- The table test as loops make it (models that antt computes): each is a test of a card, of the counted rows as plain lists of numbers, and of
+-- The table test (W4) as loops make it (models that antt computes): each is a test of a card, of the counted rows as plain lists of numbers, and of
 -- the counted text.
 -- Assumes nothing.
 use mathlib.Core.Bool.{Bool, true, false, not, _&&_, cond}
@@ -59,7 +59,7 @@ finer rows at k = values (λ (j : ℕ). getD rows (at + j) 0) k (5 - k)
 unfoldable pub leafByte : List ℕ → ℕ → Bool
 leafByte ps b = leb space b && not (among ps b)
 
--- whether the first two leaf rows are a header's: `H`, and four bytes
+-- whether the first two leaf rows are a header's: `H`, and four bytes (S4)
 unfoldable pub headerLeavesAt : List ℕ → List ℕ → Bool
 headerLeavesAt rows text =
     same (leafAt rows text 0 .place) (1 ∷ 1 ∷ 1 ∷ 1 ∷ 1 ∷ [])
@@ -109,14 +109,14 @@ pub record KindsStated (rows : List ℕ) (n : ℕ) : Type 0 where
   pub few : n < width
   pub kinds : (i : ℕ) → i < n → kindIn rows i ≤ 12
 
--- whether the header's rows keep the header rule and the leaf rows after them go on soundly
+-- whether the header's rows keep the header rule (H2, S4) and the leaf rows after them go on soundly
 unfoldable pub soundLeaves : ℕ → List ℕ → List ℕ → ℕ → Bool
 soundLeaves field rows text count =
     headerLeavesAt rows text
     && (allAllowed (five (separatorsAt field rows text)) && different (five (separatorsAt field rows text)))
     && goOnFrom (splitting (separatorsAt field rows text)) thirdPlace (leavesBetween rows text 2 count)
 
--- whether field 7.7 names the context and the kinds stand where it allows them
+-- whether field 7 of the first segment names the context (C1) and the kinds stand where it allows them (C2, C3)
 unfoldable pub inOrder : ℕ → List ℕ → ℕ → List ℕ → List ℕ → ℕ → Bool
 inOrder context segments many rows text count =
     not (eqb context 0)
