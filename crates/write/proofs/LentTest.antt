@@ -3,6 +3,7 @@
 use mathlib.Core.Bool.{true, false}
 use mathlib.Core.Path.{_≡_, sym, ap, subst⁻¹}
 use Prim.Native.Nat.{ℕ}
+use native.Mathlib.Omega.{arith}
 use Rattle.laws.proofs.Tests.{and-passed, and-both, and-fails-first, and-fails-second}
 use Rattle.form.specs.declared.limits.Limits.{Limits}
 use Rattle.form.specs.Limits.{form}
@@ -32,12 +33,19 @@ module _ (L : Limits) (levels : ℕ → ℕ → ℕ) (l : Lent) where
     pub counted-table : FitsRows L → CountedTable L (counted l)
     unfolding counted
     counted-table w =
+        let segments = few-segments L (l .card) few in
+        let leaves = few-leaves L (l .card) few in
         record {
-          fits = w;
-          sized = counted-sized l within;
-          segments = few-segments L (l .card) few;
-          leaves = few-leaves L (l .card) few;
-          text = few-bytes L (l .card) few;
+          lawful = w .lawful;
+          narrow =
+              record {
+                sized = counted-sized l within;
+                segments = omega (arith, segments, w .segments);
+                leaves = omega (arith, leaves, w .leaves);
+                text = omega (arith, few-bytes L (l .card) few, w .bytes);
+              };
+          segments = segments;
+          leaves = leaves;
         }
 
 -- the form's limits

@@ -16,8 +16,8 @@ ghost use Rattle.write.specs.Writing.{isTable};
 ghost use Rattle.write.specs.Answer.{writtenSize};
 ghost use Rattle.table.specs.Lent.{lent, withinLimits};
 ghost use Rattle.table.specs.inner.Fitting.{FitsRows};
-ghost use Rattle.write.specs.inner.Tests.{tableWith, sizeBack, soundLeaves, inOrder};
-ghost use Rattle.write.specs.inner.Asked.{CountedTable, LaidOut, KindsAndLeaves};
+ghost use Rattle.write.specs.inner.Tests.{Decides, SoundRows, tableWith, sizeBack, soundLeaves, inOrder};
+ghost use Rattle.write.specs.inner.Asked.{CountedTable, NarrowTable, LaidOut, KindsAndLeaves};
 
 // Yes exactly where some message within the form's limits reads to the table that the card counts in the lent buffers, whatever these hold
 // (W4). Such a message has some bytes.
@@ -69,7 +69,8 @@ fn within_limits(limits: Limits, card: Card) -> bool
     card.text <= limits.bytes
 }
 
-// The same of the table of the counted entries. The levels are bound where they are looked at, past the tests that most refusals come from.
+// The same of the table of the counted entries. All tests but the last are one call, so that few branches stand before the count of bytes
+// and the compiler puts it in place.
 fn counted_bytes(
     limits: Limits,
     card: Card,
@@ -80,31 +81,47 @@ fn counted_bytes(
     requires { ⌜ CountedTable limits (tableWith card (now segments) (now leaves) (now text)) ⌝ }
     ensures { λ r. ⌜ r ≡ sizeBack limits level (tableWith card (now (segments .entry)) (now (leaves .entry)) (now (text .entry))) ⌝ }
 {
-    let count = card.leaves;
-    if count < 3 {
+    if !sound_rows(card, segments, leaves, text) {
         return 0;
     }
-    if !leaf_rows::laid(leaves, count, card.text) {
-        return 0;
-    }
-    if !sound_leaves(card.separator, leaves, text, count) {
-        return 0;
-    }
-    if !segment_rows::grouped(segments, card.segments, leaves, text, count) {
-        return 0;
-    }
-    let levels = levels::table();
-    if !segment_rows::owned(&levels, card.context, segments, card.segments) {
-        return 0;
-    }
-    if !in_order(card.context, segments, card.segments, leaves, text, count) {
-        return 0;
-    }
-    let bytes = segment_rows::message_bytes(limits, segments, card.segments, leaves, text, count);
+    let bytes = segment_rows::message_bytes(
+        limits,
+        segments,
+        card.segments,
+        leaves,
+        text,
+        card.leaves,
+    );
     if limits.bytes < bytes {
         return 0;
     }
     bytes
+}
+
+// Whether the counted rows and the text pass every test but that of the message's bytes. The levels are bound where they are looked at, past
+// the tests that most refusals come from.
+fn sound_rows(card: Card, segments: &[Entry], leaves: &[Entry], text: &[u8]) -> bool
+    requires { ⌜ NarrowTable (tableWith card (now segments) (now leaves) (now text)) ⌝ }
+    ensures { λ r. ⌜ Decides r (SoundRows level (tableWith card (now (segments .entry)) (now (leaves .entry)) (now (text .entry)))) ⌝ }
+{
+    let count = card.leaves;
+    if count < 3 {
+        return false;
+    }
+    if !leaf_rows::laid(leaves, count, card.text) {
+        return false;
+    }
+    if !sound_leaves(card.separator, leaves, text, count) {
+        return false;
+    }
+    if !segment_rows::grouped(segments, card.segments, leaves, text, count) {
+        return false;
+    }
+    let levels = levels::table();
+    if !segment_rows::owned(&levels, card.context, segments, card.segments) {
+        return false;
+    }
+    in_order(card.context, segments, card.segments, leaves, text, count)
 }
 
 // Whether the header's rows keep the header rule (H2, S4) and the leaf rows after them go on soundly. Only the contract reads `count`.

@@ -13,8 +13,7 @@ use Rattle.line.specs.Lines.{CR}
 use Rattle.order.specs.inner.Followers.{followers}
 use Rattle.order.specs.inner.Levels.{LevelsBelow}
 use Rattle.table.specs.declared.Card.{Card}
-use Rattle.table.specs.Rows.{Table, segmentRowSize, leafRowSize, segmentIn, fieldIn, startIn, lengthIn}
-use Rattle.table.specs.inner.Fitting.{FitsRows}
+use Rattle.table.specs.Rows.{Table, segmentRowSize, leafRowSize, segmentIn, fieldIn, startIn, lengthIn, width}
 use Rattle.write.specs.inner.RowByRow.{Sized}
 use Rattle.write.specs.inner.Tests.{groupsIn, InText, PlacesFollow, SegmentEnd, KindsStated, groupsStated, headerLeavesAt}
 use Rattle.write.specs.inner.Filling.{Stand, Fits, InSegment, lineOpened}
@@ -22,13 +21,19 @@ use Rattle.write.specs.inner.Passing.{NextAfter, leading}
 use Rattle.write.specs.inner.Message.{Tested}
 use Rattle.write.specs.declared.lines.Going.{Going}
 
--- the test of the counted entries: they are as many as the card counts, and its counts keep to the limits, which fit the rows' numbers
-pub record CountedTable (L : Limits) (t : Table) : Type 0 where
-  pub fits : FitsRows L
+-- the tests of the rows and the text: they are as many as the card counts, and few enough for a row's numbers
+pub record NarrowTable (t : Table) : Type 0 where
   pub sized : Sized t
+  pub segments : t .card .segments < width
+  pub leaves : t .card .leaves < width
+  pub text : t .card .text < width
+
+-- the test of the counted entries: the card's counts keep to the limits, too
+pub record CountedTable (L : Limits) (t : Table) : Type 0 where
+  pub lawful : Lawful L
+  pub narrow : NarrowTable t
   pub segments : t .card .segments ≤ L .segments
   pub leaves : t .card .leaves ≤ L .leaves
-  pub text : t .card .text ≤ L .bytes
 
 -- leaf rows: one at least
 pub record SomeRows (rows : List ℕ) (count : ℕ) : Type 0 where

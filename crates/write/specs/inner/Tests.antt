@@ -17,6 +17,7 @@ use Rattle.table.specs.declared.Card.{Card}
 use Rattle.table.specs.Leaves.{Leaf}
 use Rattle.table.specs.Rows.{Table, segmentRowSize, leafRowSize, kindIn, ownerIn, firstIn, countIn, segmentIn, placeIn, width}
 use Rattle.table.specs.Back.{leafAt, separatorsAt, written}
+use Rattle.order.specs.Owners.{owners}
 use Rattle.order.specs.inner.Place.{misplaced}
 use Rattle.table.specs.inner.BySegment.{bySegment, kindAmong, contextAmong, numberOfField}
 use Rattle.table.specs.inner.RowTests.{endToEnd, nextPlace, goOnFrom}
@@ -122,6 +123,16 @@ inOrder context segments many rows text count =
     not (eqb context 0)
     && eqb (contextAmong (groupsIn rows text count)) context
     && eqb (misplaced context (kindColumn segments many)) 0
+
+-- a table whose rows and text pass every test but that of the message's bytes
+pub record SoundRows (levels : ℕ → ℕ → ℕ) (t : Table) : Type 0 where
+  pub three : 3 ≤ t .card .leaves
+  pub laid : endToEnd (t .leafRows) (t .card .text) 0 (t .card .leaves) 0 ≡ true
+  pub sound : soundLeaves (t .card .separator) (t .leafRows) (t .text) (t .card .leaves) ≡ true
+  pub grouped : groupsStated (t .segmentRows) 0 (t .card .segments) 1 (groupsIn (t .leafRows) (t .text) (t .card .leaves)) ≡ true
+  pub owned : same (ownerColumn (t .segmentRows) (t .card .segments))
+      (owners (levels (t .card .context)) (kindColumn (t .segmentRows) (t .card .segments))) ≡ true
+  pub ordered : inOrder (t .card .context) (t .segmentRows) (t .card .segments) (t .leafRows) (t .text) (t .card .leaves) ≡ true
 
 -- the bytes that are written for a table where some message reads to it, else 0
 unfoldable pub sizeBack : Limits → (ℕ → ℕ → ℕ) → Table → ℕ
