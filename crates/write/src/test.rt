@@ -9,7 +9,6 @@ use table::Card;
 use table::rows;
 use table::rows::Entry;
 ghost use mathlib.Core.Path.{_≡_};
-ghost use Prim.Native.Nat.{_*_, _<_};
 ghost use Rattle.form.specs.Limits.{form};
 ghost use Rattle.order.specs.Owners.{level};
 ghost use Rattle.write.specs.Writing.{isTable};
