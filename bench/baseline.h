@@ -1,5 +1,5 @@
 /*
- * The baseline: the reader and the writer of document 01 in plain C, written for speed and with every refusal. The library is measured
+ * The baseline: reader and writer by the rules of docs/RULES.md in plain C, written for speed and with every refusal. The library is measured
  * against it. Same parameters, same answers and same buffers as sargaceu_read and sargaceu_write of include/sargaceu.h, on every input.
  */
 #ifndef BASELINE_H

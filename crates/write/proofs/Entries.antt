@@ -1,4 +1,4 @@
--- "Entries of a buffer past the counted ones are neither read nor written" (document 01): what they hold changes no answer.
+-- What a lent buffer holds beyond the counted entries changes no answer (T7).
 -- Assumes nothing.
 use mathlib.Core.Bool.{Bool, true, false, _&&_}
 use mathlib.Core.Path.{_≡_, ap₂}

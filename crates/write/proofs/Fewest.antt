@@ -1,5 +1,5 @@
--- Fewest bytes and lines (document 01, "Writing"): of all messages that read to a table ours has the fewest of both; no line is too long;
--- and how many there are, by the formulas.
+-- Fewest bytes and lines (W1): of all messages that read to a table ours has the fewest of both; no line is too long (L3); and how many there
+-- are, by the formulas (W2).
 -- Assumes nothing.
 use mathlib.Core.List.{List, [], _∷_}
 use mathlib.Core.Path.{_≡_, refl}
@@ -40,7 +40,7 @@ module _ (L : Limits) (lawful : Lawful L) where
         (line.least-lines L lawful (passed .separators .field) (segmentsOfAccepted lawful passed) (texts (walk L m))
         (texts-sound L (omega (arith, lawful .header)) 0 m) refl)
 
-  -- "A line has at most 219 bytes before its CR": of any table, whatever it holds
+  -- no line is too long (L3): of any table, whatever it holds
   pub cuts-short : (f : ℕ) (ss : List (List ℕ)) → All (λ (l : List ℕ). length l ≤ L .line) (cuts L f ss)
   cuts-short f [] = rw (cuts-nil L f) none
   cuts-short f (s ∷ ss) =
@@ -51,7 +51,7 @@ module _ (L : Limits) (lawful : Lawful L) where
   unfolding linesOf
   lines-short t = cuts-short (t .card .separator) (segmentsOf t)
 
-  -- "A segment of n bytes takes 1 line up to 219, else 1 + (n - 219)/217 rounded up": so many lines
+  -- so many lines: those of each segment, by its bytes (W2)
   pub lines-counted : (t : Table) → length (linesOf L t) ≡ sumOf (λ (s : List ℕ). lineCount L (length s)) (segmentsOf t)
   unfolding linesOf
   lines-counted t = length-cuts L lawful (t .card .separator) (segmentsOf t)

@@ -23,6 +23,7 @@ use Rattle.table.specs.inner.Flat.{leaf}
 use Rattle.table.specs.Back.{leafAt}
 use Rattle.table.specs.inner.BySegment.{segmentOf, withLeaf, bySegment, kindAmong, numberOfField, contextAmong}
 use Rattle.table.proofs.BySegment.{InSegment, Ended, group-first}
+use Rattle.write.specs.inner.Asked.{KindsAndLeaves}
 use Rattle.write.specs.inner.Tests.{groupsIn, leavesBetween, SegmentEnd, FieldLeaf, rowStates, groupsStated}
 use Rattle.write.proofs.Said.{answered-no, answered-yes}
 use Rattle.write.proofs.SegmentTests.{row-segment, leaves-cons, leaves-none, SomeEnd, segment-ends, states-all, states-another}
@@ -229,3 +230,22 @@ grouping-ends {segments} {many} {rows} {text} {count} {i} {first} w h all {state
 pub grouping-all : {segments : List ℕ} {many : ℕ} {rows text : List ℕ} {count i first : ℕ} → Grouping segments many rows text count i first → many ≤ i
     → groupsStated segments 0 many 1 (groupsIn rows text count) ≡ true → first ≡ count
 grouping-all {count = count} {first = first} w h all = eqb-true first count (grouping-done w h ∙ all)
+
+-- so the first of them, which there is, ends the first segment
+pub record FirstStated (segments : List ℕ) (many : ℕ) (rows : List ℕ) (count : ℕ) : Type 0 where
+  pub some : 1 ≤ many
+  pub ends : {stated : ℕ} → stated ≡ countIn segments 0 → SegmentEnd rows count 0 stated
+
+pub first-stated : {segments : List ℕ} {many : ℕ} {rows text : List ℕ} {count : ℕ} → KindsAndLeaves segments many rows text count
+    → FirstStated segments many rows count
+first-stated {segments} {many} {rows} {text} {count} w = go (less-or-not 0 many)
+  where
+    begins : Grouping segments many rows text count 0 0
+    begins = grouping-begins
+
+    ended : (stated : ℕ) → SegmentEnd rows count 0 (0 + stated) → SegmentEnd rows count 0 stated
+    ended stated = subst (SegmentEnd rows count 0) (let e : 0 + stated ≡ stated = omega arith in e)
+
+    go : (0 < many) ⊎ (many ≤ 0) → FirstStated segments many rows count
+    go (inl h) = record { some = omega arith; ends = λ {stated} is. ended stated (grouping-ends begins h (w .grouped) is .ends) }
+    go (inr h) = absurd (omega (arith, w .some, grouping-all begins h (w .grouped)))

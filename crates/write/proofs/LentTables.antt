@@ -1,4 +1,4 @@
--- What the writer answers for a lent table, whatever it holds (document 01, numbers 12 and 13): it writes exactly where the counts lie
+-- What the writer answers for a lent table, whatever it holds (N2, W4): it writes exactly where the counts lie
 -- within the buffers and some message reads to the counted entries, and what it writes reads back to these.
 -- Assumes nothing.
 use mathlib.Core.Bool.{true, false, _&&_}

@@ -1,20 +1,19 @@
 -- The table test of a lent table: its counts, and the table of the counted entries.
 -- Assumes nothing.
 use mathlib.Core.Bool.{true, false}
-use mathlib.Core.List.{List}
-use mathlib.Core.Path.{_≡_, sym, ap, _∙_, subst⁻¹}
-use Prim.Native.Nat.{ℕ, _<_}
+use mathlib.Core.Path.{_≡_, sym, ap, subst⁻¹}
+use Prim.Native.Nat.{ℕ}
+use native.Mathlib.Omega.{arith}
 use Rattle.laws.proofs.Tests.{and-passed, and-both, and-fails-first, and-fails-second}
 use Rattle.form.specs.declared.limits.Limits.{Limits}
 use Rattle.form.specs.Limits.{form}
-use Rattle.order.specs.inner.Levels.{levelIn, levelTable}
-use Rattle.order.specs.Owners.{level}
-use Rattle.order.proofs.LevelTable.{levels-are, levels-below}
+use Rattle.table.specs.inner.Fitting.{FitsRows}
 use Rattle.table.specs.Lent.{Lent, withinLimits, withinBuffers, counted}
 use Rattle.table.proofs.Lent.{few-segments, few-leaves, few-bytes}
 use Rattle.table.proofs.Width.{form-fits}
 use Rattle.write.specs.Writing.{readsBack, isTable}
-use Rattle.write.specs.inner.Asked.{Testable, CountedTable}
+use Rattle.write.specs.Answer.{writtenSize}
+use Rattle.write.specs.inner.Asked.{CountedTable}
 use Rattle.write.proofs.LentTables.{counted-sized}
 
 module _ (L : Limits) (levels : ℕ → ℕ → ℕ) (l : Lent) where
@@ -31,25 +30,28 @@ module _ (L : Limits) (levels : ℕ → ℕ → ℕ) (l : Lent) where
     unfolding isTable
     counted-decides = sym (and-passed (readsBack L levels (counted l)) (and-both few within))
 
-    pub counted-table : Testable L levels → CountedTable L levels (counted l)
+    pub counted-table : FitsRows L → CountedTable L (counted l)
     unfolding counted
     counted-table w =
+        let segments = few-segments L (l .card) few in
+        let leaves = few-leaves L (l .card) few in
         record {
-          testable = w;
-          sized = counted-sized l within;
-          segments = few-segments L (l .card) few;
-          leaves = few-leaves L (l .card) few;
-          text = few-bytes L (l .card) few;
+          lawful = w .lawful;
+          narrow =
+              record {
+                sized = counted-sized l within;
+                segments = omega (arith, segments, w .segments);
+                leaves = omega (arith, leaves, w .leaves);
+                text = omega (arith, few-bytes L (l .card) few, w .bytes);
+              };
+          segments = segments;
+          leaves = leaves;
         }
 
--- document 01's limits and levels
-module _ {L : Limits} {table : List ℕ} (e : L ≡ form) (f : table ≡ levelTable) where
-  pub form-testable : Testable L (levelIn table)
-  form-testable =
-      subst⁻¹ (λ (M : Limits). Testable M (levelIn table)) e
-      (record { fits = form-fits; low = levels-below f })
+-- the form's limits
+module _ {L : Limits} (e : L ≡ form) where
+  pub form-asked : FitsRows L
+  form-asked = subst⁻¹ FitsRows e form-fits
 
-  pub form-table : (l : Lent) → isTable L (levelIn table) l ≡ isTable form level l
-  form-table l =
-      ap (λ (M : Limits). isTable M (levelIn table) l) e
-      ∙ ap (λ (lv : ℕ → ℕ → ℕ). isTable form lv l) (levels-are f)
+  pub form-size : (levels : ℕ → ℕ → ℕ) (l : Lent) → writtenSize L levels l ≡ writtenSize form levels l
+  form-size levels l = ap (λ (M : Limits). writtenSize M levels l) e

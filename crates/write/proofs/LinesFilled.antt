@@ -1,4 +1,4 @@
--- Bytes put one after the other are the lines of the cut segments (document 01, "Writing": "each filled before the next begins").
+-- Bytes put one after the other are the lines of the cut segments (W1).
 -- Assumes nothing.
 use mathlib.Core.Bool.{true, false}
 use mathlib.Core.List.{List, [], _∷_, _++_}

@@ -1,4 +1,4 @@
--- The local conditions say exactly whether some message reads to a table (document 01, number 13): what a writer tests row by row.
+-- The local conditions say exactly whether some message reads to a table (W4): what a writer tests row by row.
 -- Assumes nothing.
 use mathlib.Core.Bool.{true, false}
 use mathlib.Core.List.{List, [], _∷_}

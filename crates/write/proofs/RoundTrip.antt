@@ -1,4 +1,4 @@
--- The round trip (document 01, "Writing" and number 13): what is written for a table that some message reads to is read back to this very
+-- The round trip (W1, W4): what is written for a table that some message reads to is read back to this very
 -- table. So the table test, which reads what would be written, refuses a table only where no message reads to it.
 -- Assumes nothing.
 use mathlib.Core.Bool.{true, false}

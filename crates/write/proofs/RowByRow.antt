@@ -1,5 +1,4 @@
--- Tested row by row, a table is one that some message reads to (document 01, number 13), where its lists have the entries that its card
--- counts.
+-- Tested row by row, a table is one that some message reads to (W4), where its lists have the entries that its card counts.
 -- Assumes nothing.
 use mathlib.Core.Bool.{true}
 use mathlib.Core.List.{List, _∷_}

@@ -60,12 +60,12 @@ unfolding values
 leaves-none rows text i end h = ap (values (leafAt rows text) i) (let e : end - i ≡ 0 = omega arith in e)
 
 -- the end of a segment: the leaves from `first` up to i stand in one
-pub record Running (rows : List ℕ) (count first i : ℕ) : Type 0 where
+record Running (rows : List ℕ) (count first i : ℕ) : Type 0 where
   pub after : first < i
   pub to : i ≤ count
   pub within : (k : ℕ) → first ≤ k → k < i → segmentIn rows k ≡ segmentIn rows first
 
-pub running-begins : {rows : List ℕ} {count first : ℕ} → first < count → Running rows count first (first + 1)
+running-begins : {rows : List ℕ} {count first : ℕ} → first < count → Running rows count first (first + 1)
 running-begins {rows} {count} {first} h =
     record {
       after = omega arith;
@@ -74,17 +74,17 @@ running-begins {rows} {count} {first} h =
     }
 
 module _ {rows : List ℕ} {count first i : ℕ} (w : Running rows count first i) where
-  pub running-on : i < count → segmentIn rows i ≡ segmentIn rows first → Running rows count first (i + 1)
+  running-on : i < count → segmentIn rows i ≡ segmentIn rows first → Running rows count first (i + 1)
   running-on h e = record { after = omega (arith, w .after); to = omega arith; within = λ k low high. go k low (less-or-not k i) (omega arith) }
     where
       go : (k : ℕ) → first ≤ k → (k < i) ⊎ (i ≤ k) → k ≤ i → segmentIn rows k ≡ segmentIn rows first
       go k low (inl less) most = w .within k low less
       go k low (inr more) most = ap (λ (n : ℕ). segmentIn rows n) (let q : k ≡ i = omega arith in q) ∙ e
 
-  pub running-stops : (segmentIn rows i ≡ segmentIn rows first → ⊥) → SegmentEnd rows count first i
+  running-stops : (segmentIn rows i ≡ segmentIn rows first → ⊥) → SegmentEnd rows count first i
   running-stops n = record { from = w .after; to = w .to; within = w .within; other = λ h. n }
 
-  pub running-done : count ≤ i → SegmentEnd rows count first i
+  running-done : count ≤ i → SegmentEnd rows count first i
   running-done h = record { from = w .after; to = w .to; within = w .within; other = λ l e. let z : ⊥ = omega arith in z }
 
 -- each segment ends somewhere

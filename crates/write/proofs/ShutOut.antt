@@ -1,4 +1,4 @@
--- Writers and table tests that the contracts shut out (document 01, "How strong the statements are").
+-- Table tests that the contracts shut out: each would pass a table that no message reads to (W4).
 -- Assumes nothing.
 use mathlib.Core.Bool.{true, false}
 use mathlib.Core.Path.{_≡_, ap, _∙_}
@@ -26,7 +26,7 @@ module _ (L : Limits) (lawful : Lawful L) (levels : ℕ → ℕ → ℕ) (l : Le
   unfolding counted
   ignores-owners wrong e =
       let w = is-table-rows L lawful levels l .0 e in
-      never-both (rows-passed L levels (counted l) (counted-sized l (w .0)) (w .1) .owned) wrong
+      never-both (rows-passed L levels (counted l) (counted-sized l (w .0)) (w .1) .rows .owned) wrong
 
   -- one that ignores the card's count of text bytes
   pub ignores-text-count : (l .card .text ≡ length (textOf (leavesOf (counted l))) → ⊥) → isTable L levels l ≡ true → ⊥

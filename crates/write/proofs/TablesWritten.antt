@@ -1,4 +1,4 @@
--- The writing pass over a lent table that passed the table test (document 01, "Writing"): it asks nothing more, and gives the message.
+-- The writing pass over a lent table that passed the table test (W1, W3): it asks nothing more, and gives the message.
 -- Assumes nothing.
 use mathlib.Core.Bool.{true, false}
 use mathlib.Core.List.{List, _∷_}

@@ -1,4 +1,4 @@
--- What comes back from writing (document 01, "Numbers that come back"): number, place, bytes and lines, and what the output holds then.
+-- What comes back from writing (rules N1 to N3, W3): number, place, bytes and lines, and what the output holds then.
 -- Assumes nothing.
 use mathlib.Core.List.{List}
 use mathlib.Core.Path.{_≡_}
@@ -10,12 +10,12 @@ use Rattle.write.specs.declared.Written.{Written}
 use Rattle.table.specs.Lent.{Lent}
 use Rattle.write.specs.Writing.{Writing, refuses, writes, writing}
 
--- "number, place, bytes, lines": all zero but the number on a refusal
+-- the four numbers of an answer; on a refusal all but the first are 0 (N3)
 unfoldable pub answer : Writing → Written
 answer (refuses number) = record { number = number; place = 0; bytes = 0; lines = 0 }
 answer (writes bytes lines) = record { number = 0; place = 0; bytes = length bytes; lines = lines }
 
--- the message at the front of the output; on a refusal the output is as it was
+-- the message at the front of the output (W3); on a refusal the output is as it was (N3)
 unfoldable pub outputAfter : List ℕ → Writing → List ℕ
 outputAfter output (refuses number) = output
 outputAfter output (writes bytes lines) = sets output 0 bytes

@@ -1,4 +1,4 @@
--- Writing a table (document 01, "Writing" and numbers 12 and 13).
+-- Writing a table (rules W1 to W4, N1, N2): which tables some message reads to, and what is written for them.
 -- Assumes nothing.
 use mathlib.Core.Bool.{Bool, true, false, _&&_}
 use mathlib.Core.List.{List}
@@ -15,7 +15,7 @@ use Rattle.table.specs.Reading.{Outcome, refused, accepted, stated, reading}
 use Rattle.table.specs.Back.{linesOf, written}
 use Rattle.table.specs.Lent.{Lent, withinLimits, withinBuffers, counted}
 
--- "some message within the limits reads to exactly this table"
+-- some message, read within the limits, gives this very table (W4)
 abbrev pub ReadTo : Limits → (ℕ → ℕ → ℕ) → Table → Type 0
 ReadTo L levels t = (message : List ℕ) × (reading L levels (stated L) message ≡ accepted t)
 
@@ -40,20 +40,20 @@ unfoldable pub givesTable : Table → Outcome → Bool
 givesTable t (refused number place) = false
 givesTable t (accepted u) = sameTable t u
 
--- the table test: whether the message that we would write reads to the table; no other message does where this one does not
+-- the table test (W4): whether what would be written reads to the table; where it does not, no other message does
 unfoldable pub readsBack : Limits → (ℕ → ℕ → ℕ) → Table → Bool
 readsBack L levels t = givesTable t (reading L levels (stated L) (written L t))
 
--- the table test of a lent table, whatever it holds
+-- the table test of a lent table, whatever it holds: its counts keep to the limits and to its buffers, and the counted entries pass
 unfoldable pub isTable : Limits → (ℕ → ℕ → ℕ) → Lent → Bool
 isTable L levels l = withinLimits L (l .card) && withinBuffers l && readsBack L levels (counted l)
 
--- the outcome of writing into an output of a given length: refused with a number at the place 0, or the message and its lines
+-- the outcome of writing into an output of a given length: refused with a number at the place 0 (N1), or the message and its lines (W3)
 pub data Writing : Type 0 where
   refuses : (number : ℕ) → Writing
   writes : (bytes : List ℕ) (lines : ℕ) → Writing
 
--- "The writer tests 12, then 13."
+-- the output is tested first, for 12, and then the table, for 13 (N2)
 unfoldable pub writing : Limits → (ℕ → ℕ → ℕ) → Lent → ℕ → Writing
 writing L levels l output =
     elim (ltb output (L .bytes)) [

@@ -1,13 +1,12 @@
-// The tests of leaf rows: each row against the one before it, each text by its bytes.
+// The tests of leaf rows (S2, S4, T3, T4): each row against the one before it, each text by its bytes.
 use form::separators::Separators;
 use table::class::index;
 use table::class::set_classes;
 use table::rows;
 use table::rows::Entry;
-ghost use mathlib.Core.Bool.{true};
-ghost use mathlib.Core.List.{List, [], _∷_};
+ghost use mathlib.Core.List.{[], _∷_};
 ghost use mathlib.Core.Path.{_≡_};
-ghost use Prim.Native.Nat.{ℕ, suc, _+_, _-_, _*_, _≤_, _<_};
+ghost use Prim.Native.Nat.{suc, _+_, _-_, _≤_};
 ghost use lib.Dec.{eqb};
 ghost use lib.ListN.{length, take, drop};
 ghost use Rattle.laws.specs.Lists.{same};
@@ -155,8 +154,8 @@ fn leaf_text(class: &[u8; 256], text: &[u8], from: usize, end: usize) -> bool
     true
 }
 
-// Whether leaf rows that are laid out begin after the header's two at field 3, with texts that may be a leaf's from there on: these are the
-// text from the third leaf's start on.
+// Whether leaf rows that are laid out begin after the header's two at field 3 (S4), with texts that may be a leaf's from there on: these are
+// the text from the third leaf's start on. Only the contract reads `count`.
 pub(crate) fn go_on_from(separators: Separators, rows: &[Entry], text: &[u8], count: usize) -> bool
     requires { ⌜ Headed (now rows) (now text) count ⌝ }
     ensures { λ r. ⌜ r ≡ goOnFrom (splitting separators) thirdPlace
@@ -175,7 +174,8 @@ pub(crate) fn go_on_from(separators: Separators, rows: &[Entry], text: &[u8], co
     )
 }
 
-// Whether the first two of leaf rows that are laid out are a header's: `H` in field 1, four bytes in field 2.
+// Whether the first two of leaf rows that are laid out are a header's: `H` in field 1, four bytes in field 2 (S4). Only the contract reads
+// `count`.
 pub(crate) fn header_leaves(rows: &[Entry], text: &[u8], count: usize) -> bool
     requires { ⌜ LaidOut (now rows) (now text) count ⌝ }
     ensures { λ r. ⌜ r ≡ headerLeavesAt (now (rows .entry)) (now (text .entry)) ⌝ }
@@ -198,7 +198,7 @@ pub(crate) fn header_leaves(rows: &[Entry], text: &[u8], count: usize) -> bool
     rows[rows::LEAF_ROW + rows::LENGTH] == 4
 }
 
-// The separators of a table: the card has the field separator, the text of the second leaf the others.
+// The separators of a table: the card has the field separator (T5), the text of the second leaf the others (S4).
 pub(crate) fn separators_at(field: u8, rows: &[Entry], text: &[u8]) -> Separators
     requires { ⌜ FourWithin (now rows) (now text) ⌝ }
     ensures { λ r. ⌜ r ≡ separatorsAt field (now (rows .entry)) (now (text .entry)) ⌝ }

@@ -1,4 +1,4 @@
-// The leaves of a table one after the other, with one separator between two neighbours, as lines.
+// The leaves of a table one after the other, with one separator between two neighbours (S2), as lines (W1).
 use crate::lines::Going;
 use crate::lines::close;
 use crate::lines::put_inside;

@@ -1,4 +1,4 @@
-// The writer: from a table back to the message, and the test whether some message reads to a table.
+// The writer (rules W1 to W4): from a table back to the message, and the test whether some message reads to a table.
 use form::limits::Form;
 use form::number::Number;
 use table::Card;
@@ -18,7 +18,7 @@ mod segment_rows;
 pub mod size;
 pub mod test;
 
-// What comes back: a number, its place, and the bytes and lines written, all zero on a refusal.
+// What comes back (N1, W3): a number, its place, and the bytes and lines written. On a refusal all but the number are zero (N3).
 pub struct Written {
     pub number: u8,
     pub place: usize,
@@ -26,8 +26,8 @@ pub struct Written {
     pub lines: usize,
 }
 
-// Writes the message of a table at the front of the output: any card and any buffers. An output under 16,384 bytes is refused with 12, a
-// table that no message reads to with 13; output bytes past the message stay as they were.
+// Writes the message of a table at the front of the output (W1): any card and any buffers. A short output is refused with 12, a table that
+// no message reads to with 13 (N1, N2, W4); output bytes past the message stay as they were (W3).
 pub fn write(
     card: Card,
     segments: &[Entry],
@@ -46,7 +46,7 @@ pub fn write(
     refusal(Number::NO_TABLE)
 }
 
-// A refusal at the place 0, with counts that are zero.
+// A refusal at the place 0, with counts that are zero (N1, N3).
 fn refusal(number: u8) -> Written
     ensures { λ r. ⌜ r ≡ answer (refuses number) ⌝ }
 {

@@ -1,14 +1,15 @@
-// Lines filled byte by byte: each is filled before the next begins, and each byte is written once.
+// The lines of segments as they are filled (W1): separators one by one, texts in parts, as much at a time as the line begun has room for. An
+// addendum is begun only where a line is full and more of its segment follows.
 use form::limits::Limits;
 ghost use mathlib.Core.List.{[], _∷_};
 ghost use mathlib.Core.Path.{_≡_};
-ghost use Prim.Native.Nat.{_+_, _-_, _≤_, _<_};
+ghost use Prim.Native.Nat.{_+_, _-_, _≤_};
 ghost use lib.ListN.{length, take, drop};
 ghost use lib.Seq.{sets};
 ghost use Rattle.write.specs.inner.Filling.{stand, placed, segmentClosed, broken, lineOpened, puts};
 ghost use Rattle.write.specs.inner.Asked.{Opens, RoomForByte, RoomForEnd, ByteInside, PartInside};
 
-// CR ends a line.
+// CR ends a line (L1).
 pub(crate) const CR: u8 = 13;
 
 // How far the output is written: its bytes, the bytes that the line begun still holds, the lines closed.
@@ -46,7 +47,7 @@ pub(crate) fn close(limits: Limits, going: Going, output: &mut [u8]) -> Going
     }
 }
 
-// The line begun ends, and its segment goes on in an addendum.
+// The line begun ends, and its segment goes on in an addendum (A1).
 fn break_line(limits: Limits, field: u8, going: Going, output: &mut [u8]) -> Going
     requires { ⌜ RoomForEnd going (now output) 3 ⌝ }
     ensures { λ r. ⌜ stand (now (output .exit)) r ≡ broken limits field (stand (now (output .entry)) going) ⌝ }

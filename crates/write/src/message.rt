@@ -1,4 +1,4 @@
-// The message of a table that has passed the table test.
+// The message of a table that has passed the table test (W1, W3).
 use crate::Written;
 use crate::leaf_rows::separators_at;
 use crate::leaves::put_leaves;

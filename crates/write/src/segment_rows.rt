@@ -1,4 +1,4 @@
-// The tests of segment rows: each row against the leaves of its segment.
+// The tests of segment rows (T2): each row against the leaves of its segment.
 use form::context::Context;
 use form::kind::Kind;
 use form::limits::Limits;
@@ -7,9 +7,8 @@ use order::owners;
 use order::watcher::Watcher;
 use table::rows;
 use table::rows::Entry;
-ghost use mathlib.Core.Bool.{true};
 ghost use mathlib.Core.Path.{_≡_};
-ghost use Prim.Native.Nat.{_+_, _-_, _*_, _≤_, _<_};
+ghost use Prim.Native.Nat.{_+_, _*_, _≤_};
 ghost use lib.Dec.{eqb};
 ghost use lib.ListN.{length};
 ghost use Rattle.laws.specs.Lists.{same};
@@ -20,23 +19,7 @@ ghost use Rattle.order.specs.inner.Place.{misplaced};
 ghost use Rattle.table.specs.Rows.{segmentRowSize, leafRowSize, textOf};
 ghost use Rattle.table.specs.inner.BySegment.{kindAmong, contextAmong, writtenBytes};
 ghost use Rattle.write.specs.inner.Tests.{groupsIn, Decides, leavesBetween, SegmentEnd, FieldLeaf, rowStates, groupsStated, kindColumn, ownerColumn};
-ghost use Rattle.write.specs.inner.Asked.{TextStated, LeafAmong, Following, FieldThere, UpTo, Stretch, SegmentThere, LawfulStretch, Groupable, Grouped, Orderable, Ownable};
-
-// The leaf after the last one of the segment that the leaf `first` stands in.
-fn segment_end(rows: &[Entry], count: usize, first: usize) -> usize
-    requires { ⌜ LeafAmong (now rows) count first ⌝ }
-    ensures { λ r. ⌜ SegmentEnd (now (rows .entry)) count first r ⌝ }
-{
-    let segment = rows[first * rows::LEAF_ROW];
-    let mut i = first + 1;
-    while i < count {
-        if rows[i * rows::LEAF_ROW] != segment {
-            return i;
-        }
-        i += 1;
-    }
-    i
-}
+ghost use Rattle.write.specs.inner.Asked.{TextStated, FirstSegment, Following, FieldThere, UpTo, Stretch, SegmentThere, LawfulStretch, Groupable, Grouped, Orderable, Ownable};
 
 // Whether the segment that begins at the leaf `first` has so many leaves: the last of them stands in it and the leaf after that does not.
 // No leaf between has to be looked at, since segment numbers never fall along places that follow each other.
@@ -110,7 +93,8 @@ fn text_of(rows: &[Entry], leaf: usize) -> Lying
     }
 }
 
-// The kind of the segment of the leaves from `first` up to `end`, or 0. Its first leaf is of field 1, as each segment's is.
+// The kind of the segment of the leaves from `first` up to `end`, or 0 (S1). Its first leaf is of field 1, as each segment's is. Only the
+// contract reads `count`.
 fn kind_of(rows: &[Entry], text: &[u8], count: usize, first: usize, end: usize) -> u8
     requires { ⌜ SegmentThere (now rows) (now text) count first end ⌝ }
     ensures { λ r. ⌜ r ≡ kindAmong (leavesBetween (now (rows .entry)) (now (text .entry)) first end) ⌝ }
@@ -125,12 +109,11 @@ fn kind_of(rows: &[Entry], text: &[u8], count: usize, first: usize, end: usize) 
     Kind::named(&text[start..finish])
 }
 
-// The context that field 7 of the first segment names, or 0.
-pub(crate) fn context_of(rows: &[Entry], text: &[u8], count: usize) -> u8
-    requires { ⌜ Stretch (now rows) (now text) count 0 count ⌝ }
+// The context that field 7 of the first segment names, or 0 (C1). That segment's leaves go up to `end`. Only the contract reads `count`.
+pub(crate) fn context_of(rows: &[Entry], text: &[u8], count: usize, end: usize) -> u8
+    requires { ⌜ FirstSegment (now rows) (now text) count end ⌝ }
     ensures { λ r. ⌜ r ≡ contextAmong (groupsIn (now (rows .entry)) (now (text .entry)) count) ⌝ }
 {
-    let end = segment_end(rows, count, 0);
     let leaf = field_leaf(rows, 7, 0, end);
     if leaf == end {
         return 0;
@@ -189,7 +172,7 @@ pub(crate) fn grouped(
     first == count
 }
 
-// Whether the kinds that the segment rows state stand where the context allows them.
+// Whether the kinds that the segment rows state stand where the context allows them (C2, C3).
 pub(crate) fn ordered(table: &[u8; 847], context: u8, segments: &[Entry], many: usize) -> bool
     requires { ⌜ Orderable (now table) (now segments) many ⌝ }
     ensures { λ r. ⌜ r ≡ eqb (misplaced context (kindColumn (now (segments .entry)) many)) 0 ⌝ }
@@ -208,7 +191,7 @@ pub(crate) fn ordered(table: &[u8; 847], context: u8, segments: &[Entry], many: 
     watcher.last == Kind::L
 }
 
-// Whether the owners that the segment rows state are those of their kinds.
+// Whether the owners that the segment rows state are those of their kinds (O2, O3).
 pub(crate) fn owned(table: &[u8; 84], context: u8, segments: &[Entry], many: usize) -> bool
     requires { ⌜ Ownable (levelIn (now table)) (now segments) many ⌝ }
     ensures { λ r. ⌜ r ≡ same (ownerColumn (now (segments .entry)) many)
@@ -230,6 +213,7 @@ pub(crate) fn owned(table: &[u8; 84], context: u8, segments: &[Entry], many: usi
 }
 
 // The bytes of the texts of the leaves from `first` up to `end`, which lie end to end: from the first one's start up to the last one's end.
+// Only the contract reads `text` and `count`, here and in the two functions below.
 fn text_bytes(rows: &[Entry], text: &[u8], count: usize, first: usize, end: usize) -> usize
     requires { ⌜ Stretch (now rows) (now text) count first end ⌝ }
     ensures { λ r. ⌜ (r ≡ length (textOf (leavesBetween (now (rows .entry)) (now (text .entry)) first end))) × (r ≤ length (now (text .entry))) ⌝ }
@@ -237,8 +221,8 @@ fn text_bytes(rows: &[Entry], text: &[u8], count: usize, first: usize, end: usiz
     text_of(rows, end - 1).end - text_of(rows, first).start
 }
 
-// The bytes that are written for the segment of the leaves from `first` up to `end`: its texts and separators, a CR for each line, and
-// `A` and separator for each line but the first.
+// The bytes that are written for the segment of the leaves from `first` up to `end` (W1, W2): its texts and separators, a CR for each line,
+// and `A` and separator for each line but the first.
 fn segment_bytes(
     limits: Limits,
     rows: &[Entry],

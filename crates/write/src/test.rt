@@ -1,7 +1,7 @@
-// The table test: whether some message within the limits reads to exactly this table.
+// The table test (W4): whether some message within the limits reads to a table, and how many bytes are written for it.
 use crate::leaf_rows;
 use crate::segment_rows;
-use form::limits::Form;
+use crate::size;
 use form::limits::Limits;
 use order::followers;
 use order::levels;
@@ -9,47 +9,45 @@ use table::Card;
 use table::rows;
 use table::rows::Entry;
 ghost use mathlib.Core.Path.{_≡_};
-ghost use Prim.Native.Nat.{_*_, _<_};
 ghost use Rattle.form.specs.Limits.{form};
-ghost use Rattle.order.specs.inner.Levels.{levelIn};
 ghost use Rattle.order.specs.Owners.{level};
-ghost use Rattle.write.specs.Writing.{isTable, readsBack};
+ghost use Rattle.write.specs.Writing.{isTable};
+ghost use Rattle.write.specs.Answer.{writtenSize};
 ghost use Rattle.table.specs.Lent.{lent, withinLimits};
-ghost use Rattle.write.specs.inner.Tests.{tableWith, soundLeaves, inOrder};
-ghost use Rattle.write.specs.inner.Asked.{Testable, CountedTable, LaidOut, KindsAndLeaves};
+ghost use Rattle.table.specs.inner.Fitting.{FitsRows};
+ghost use Rattle.write.specs.inner.Tests.{Decides, SoundRows, tableWith, sizeBack, soundLeaves, inOrder};
+ghost use Rattle.write.specs.inner.Asked.{CountedTable, NarrowTable, LaidOut, KindsAndLeaves};
 
-// Yes exactly where some message within the form's limits reads to the table that the card counts in the lent buffers, whatever these hold.
+// Yes exactly where some message within the form's limits reads to the table that the card counts in the lent buffers, whatever these hold
+// (W4). Such a message has some bytes.
 pub fn is_table(card: Card, segments: &[Entry], leaves: &[Entry], text: &[u8]) -> bool
     ensures { λ r. ⌜ r ≡ isTable form level (lent card (now (segments .entry)) (now (leaves .entry)) (now (text .entry))) ⌝ }
 {
-    let levels = levels::table();
-    is_table_of(Form::limits(), &levels, card, segments, leaves, text)
+    size::written_bytes(card, segments, leaves, text) != 0
 }
 
-// The same for any limits and levels.
-pub(crate) fn is_table_of(
+// The bytes that are written for a table under any limits; 0 where no message within them reads to it.
+pub(crate) fn table_bytes(
     limits: Limits,
-    levels: &[u8; 84],
     card: Card,
     segments: &[Entry],
     leaves: &[Entry],
     text: &[u8],
-) -> bool
-    requires { ⌜ Testable limits (levelIn (now levels)) ⌝ }
-    ensures { λ r. ⌜ r ≡ isTable limits (levelIn (now (levels .entry))) (lent card (now (segments .entry)) (now (leaves .entry)) (now (text .entry))) ⌝ }
+) -> usize
+    requires { ⌜ FitsRows limits ⌝ }
+    ensures { λ r. ⌜ r ≡ writtenSize limits level (lent card (now (segments .entry)) (now (leaves .entry)) (now (text .entry))) ⌝ }
 {
     if !within_limits(limits, card) {
-        return false;
+        return 0;
     }
     if !rows::counts_fit(card, segments.len(), leaves.len(), text.len()) {
-        return false;
+        return 0;
     }
     let many = card.segments * rows::SEGMENT_ROW;
     let size = card.leaves * rows::LEAF_ROW;
     let end = card.text;
-    reads_back(
+    counted_bytes(
         limits,
-        levels,
         card,
         &segments[..many],
         &leaves[..size],
@@ -57,7 +55,7 @@ pub(crate) fn is_table_of(
     )
 }
 
-// Whether a card's counts keep to the limits.
+// Whether a card's counts keep to the limits (T6).
 fn within_limits(limits: Limits, card: Card) -> bool
     ensures { λ r. ⌜ r ≡ withinLimits limits card ⌝ }
 {
@@ -70,17 +68,40 @@ fn within_limits(limits: Limits, card: Card) -> bool
     card.text <= limits.bytes
 }
 
-// Whether some message reads to the table of the counted entries.
-fn reads_back(
+// The same of the table of the counted entries. All tests but the last are one call, so that few branches stand before the count of bytes
+// and the compiler puts it in place.
+fn counted_bytes(
     limits: Limits,
-    levels: &[u8; 84],
     card: Card,
     segments: &[Entry],
     leaves: &[Entry],
     text: &[u8],
-) -> bool
-    requires { ⌜ CountedTable limits (levelIn (now levels)) (tableWith card (now segments) (now leaves) (now text)) ⌝ }
-    ensures { λ r. ⌜ r ≡ readsBack limits (levelIn (now (levels .entry))) (tableWith card (now (segments .entry)) (now (leaves .entry)) (now (text .entry))) ⌝ }
+) -> usize
+    requires { ⌜ CountedTable limits (tableWith card (now segments) (now leaves) (now text)) ⌝ }
+    ensures { λ r. ⌜ r ≡ sizeBack limits level (tableWith card (now (segments .entry)) (now (leaves .entry)) (now (text .entry))) ⌝ }
+{
+    if !sound_rows(card, segments, leaves, text) {
+        return 0;
+    }
+    let bytes = segment_rows::message_bytes(
+        limits,
+        segments,
+        card.segments,
+        leaves,
+        text,
+        card.leaves,
+    );
+    if limits.bytes < bytes {
+        return 0;
+    }
+    bytes
+}
+
+// Whether the counted rows and the text pass every test but that of the message's bytes. The levels are bound where they are looked at, past
+// the tests that most refusals come from.
+fn sound_rows(card: Card, segments: &[Entry], leaves: &[Entry], text: &[u8]) -> bool
+    requires { ⌜ NarrowTable (tableWith card (now segments) (now leaves) (now text)) ⌝ }
+    ensures { λ r. ⌜ Decides r (SoundRows level (tableWith card (now (segments .entry)) (now (leaves .entry)) (now (text .entry)))) ⌝ }
 {
     let count = card.leaves;
     if count < 3 {
@@ -95,17 +116,14 @@ fn reads_back(
     if !segment_rows::grouped(segments, card.segments, leaves, text, count) {
         return false;
     }
-    if !segment_rows::owned(levels, card.context, segments, card.segments) {
+    let levels = levels::table();
+    if !segment_rows::owned(&levels, card.context, segments, card.segments) {
         return false;
     }
-    if !in_order(card.context, segments, card.segments, leaves, text, count) {
-        return false;
-    }
-    segment_rows::message_bytes(limits, segments, card.segments, leaves, text, count)
-        <= limits.bytes
+    in_order(card.context, segments, card.segments, leaves, text, count)
 }
 
-// Whether the header's rows keep the header rule and the leaf rows after them go on soundly.
+// Whether the header's rows keep the header rule (H2, S4) and the leaf rows after them go on soundly. Only the contract reads `count`.
 fn sound_leaves(field: u8, leaves: &[Entry], text: &[u8], count: usize) -> bool
     requires { ⌜ LaidOut (now leaves) (now text) count ⌝ }
     ensures { λ r. ⌜ r ≡ soundLeaves field (now (leaves .entry)) (now (text .entry)) count ⌝ }
@@ -120,7 +138,8 @@ fn sound_leaves(field: u8, leaves: &[Entry], text: &[u8], count: usize) -> bool
     leaf_rows::go_on_from(separators, leaves, text, count)
 }
 
-// Whether field 7.7 names the context and the kinds stand where it allows them.
+// Whether field 7 of the first segment names the context (C1) and the kinds stand where it allows them (C2, C3). The first segment row counts
+// that segment's leaves. Only the contract reads `count`.
 fn in_order(
     context: u8,
     segments: &[Entry],
@@ -135,7 +154,8 @@ fn in_order(
     if context == 0 {
         return false;
     }
-    if segment_rows::context_of(leaves, text, count) != context {
+    let end = rows::wide(segments[rows::COUNT]);
+    if segment_rows::context_of(leaves, text, count, end) != context {
         return false;
     }
     let followers = followers::table();

@@ -13,27 +13,27 @@ use Rattle.line.specs.Lines.{CR}
 use Rattle.order.specs.inner.Followers.{followers}
 use Rattle.order.specs.inner.Levels.{LevelsBelow}
 use Rattle.table.specs.declared.Card.{Card}
-use Rattle.table.specs.Rows.{Table, segmentRowSize, leafRowSize, segmentIn, fieldIn, startIn, lengthIn}
-use Rattle.table.specs.inner.Fitting.{FitsRows}
+use Rattle.table.specs.Rows.{Table, segmentRowSize, leafRowSize, segmentIn, fieldIn, startIn, lengthIn, width}
 use Rattle.write.specs.inner.RowByRow.{Sized}
-use Rattle.write.specs.inner.Tests.{groupsIn, InText, PlacesFollow, KindsStated, groupsStated, headerLeavesAt}
+use Rattle.write.specs.inner.Tests.{groupsIn, InText, PlacesFollow, SegmentEnd, KindsStated, groupsStated, headerLeavesAt}
 use Rattle.write.specs.inner.Filling.{Stand, Fits, InSegment, lineOpened}
 use Rattle.write.specs.inner.Passing.{NextAfter, leading}
 use Rattle.write.specs.inner.Message.{Tested}
 use Rattle.write.specs.declared.lines.Going.{Going}
 
--- the test of a lent table: numbers that fit the rows, levels that the owners' test knows
-pub record Testable (L : Limits) (levels : ℕ → ℕ → ℕ) : Type 0 where
-  pub fits : FitsRows L
-  pub low : LevelsBelow levels
-
--- the test of the counted entries: they are as many as the card counts, and its counts keep to the limits
-pub record CountedTable (L : Limits) (levels : ℕ → ℕ → ℕ) (t : Table) : Type 0 where
-  pub testable : Testable L levels
+-- the tests of the rows and the text: they are as many as the card counts, and few enough for a row's numbers
+pub record NarrowTable (t : Table) : Type 0 where
   pub sized : Sized t
+  pub segments : t .card .segments < width
+  pub leaves : t .card .leaves < width
+  pub text : t .card .text < width
+
+-- the test of the counted entries: the card's counts keep to the limits, too
+pub record CountedTable (L : Limits) (t : Table) : Type 0 where
+  pub lawful : Lawful L
+  pub narrow : NarrowTable t
   pub segments : t .card .segments ≤ L .segments
   pub leaves : t .card .leaves ≤ L .leaves
-  pub text : t .card .text ≤ L .bytes
 
 -- leaf rows: one at least
 pub record SomeRows (rows : List ℕ) (count : ℕ) : Type 0 where
@@ -62,11 +62,6 @@ pub record FourWithin (rows text : List ℕ) : Type 0 where
   pub four : lengthIn rows 1 ≡ 4
   pub within : startIn rows 1 + 4 ≤ length text
 
--- one of the leaves
-pub record LeafAmong (rows : List ℕ) (count first : ℕ) : Type 0 where
-  pub sized : length rows ≡ count * leafRowSize
-  pub within : first < count
-
 -- places that follow each other, up to a leaf and on
 pub record Following (rows : List ℕ) (count first : ℕ) : Type 0 where
   pub sized : length rows ≡ count * leafRowSize
@@ -88,6 +83,11 @@ pub record Stretch (rows text : List ℕ) (count first end : ℕ) : Type 0 where
   pub inText : InText rows text count
   pub from : first < end
   pub to : end ≤ count
+
+-- the leaves of the first segment
+pub record FirstSegment (rows text : List ℕ) (count end : ℕ) : Type 0 where
+  pub inText : InText rows text count
+  pub ends : SegmentEnd rows count 0 end
 
 -- where the text of a leaf lies
 pub record TextStated (rows : List ℕ) (leaf start end : ℕ) : Type 0 where
@@ -131,6 +131,7 @@ pub record KindsAndLeaves (segments : List ℕ) (many : ℕ) (rows text : List �
   pub kinds : KindsStated segments many
   pub inText : InText rows text count
   pub some : 0 < count
+  pub grouped : groupsStated segments 0 many 1 (groupsIn rows text count) ≡ true
 
 -- a byte into the line begun; the end of the line; the end of the line, and an addendum
 pub record RoomForByte (going : Going) (output : List ℕ) : Type 0 where

@@ -1,5 +1,5 @@
--- Writing byte by byte (document 01, "Writing"): a model of cutting that antt computes and a loop over bytes follows. CR between two
--- segments closes a line; a byte that finds its line full goes into the next, after CR, `A` and field separator.
+-- Writing byte by byte (W1): a model of cutting that antt computes. The code puts a text in parts, as much as a line has room for, and gives
+-- the same. CR between two segments closes a line; a byte that finds its line full goes into the next, after CR, `A` and field separator.
 -- Assumes nothing.
 use mathlib.Core.Bool.{true, false}
 use mathlib.Core.List.{List, [], _∷_}

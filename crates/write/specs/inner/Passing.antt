@@ -1,4 +1,4 @@
--- The writing pass over leaf rows (document 01, "Writing"): what it asks of the rows and the text, and what it gives.
+-- The writing pass over leaf rows (W1, W3): what it asks of the rows and the text, and what it gives.
 -- Assumes nothing.
 use mathlib.Core.Bool.{true}
 use mathlib.Core.List.{List, _∷_}

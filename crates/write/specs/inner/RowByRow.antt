@@ -1,4 +1,4 @@
--- The local conditions of a table as a writer tests them, row by row (document 01, number 13): a leaf row against the one before it, a
+-- The local conditions of a table as a writer tests them, row by row (W4): a leaf row against the one before it, a
 -- segment row against the leaves of its segment.
 -- Assumes nothing.
 use mathlib.Core.Bool.{true}

@@ -1,4 +1,4 @@
--- The table test as loops make it (models that antt computes): each is a test of a card, of the counted rows as plain lists of numbers, and of
+-- The table test (W4) as loops make it (models that antt computes): each is a test of a card, of the counted rows as plain lists of numbers, and of
 -- the counted text.
 -- Assumes nothing.
 use mathlib.Core.Bool.{Bool, true, false, not, _&&_, cond}
@@ -9,16 +9,19 @@ use lib.Dec.{leb, ltb, eqb}
 use lib.ListN.{length, getD}
 use Rattle.laws.specs.Lists.{same, among}
 use Rattle.laws.specs.Tables.{values}
+use Rattle.form.specs.declared.limits.Limits.{Limits}
 use Rattle.form.specs.Header.{allAllowed, different, five, splitting}
 use Rattle.form.specs.Names.{numberAmong}
 use Rattle.line.specs.Lines.{space}
 use Rattle.table.specs.declared.Card.{Card}
 use Rattle.table.specs.Leaves.{Leaf}
 use Rattle.table.specs.Rows.{Table, segmentRowSize, leafRowSize, kindIn, ownerIn, firstIn, countIn, segmentIn, placeIn, width}
-use Rattle.table.specs.Back.{leafAt, separatorsAt}
+use Rattle.table.specs.Back.{leafAt, separatorsAt, written}
+use Rattle.order.specs.Owners.{owners}
 use Rattle.order.specs.inner.Place.{misplaced}
 use Rattle.table.specs.inner.BySegment.{bySegment, kindAmong, contextAmong, numberOfField}
 use Rattle.table.specs.inner.RowTests.{endToEnd, nextPlace, goOnFrom}
+use Rattle.write.specs.Writing.{readsBack}
 use Rattle.write.specs.inner.Local.{thirdPlace}
 
 -- a test that is passed exactly where something holds
@@ -57,7 +60,7 @@ finer rows at k = values (λ (j : ℕ). getD rows (at + j) 0) k (5 - k)
 unfoldable pub leafByte : List ℕ → ℕ → Bool
 leafByte ps b = leb space b && not (among ps b)
 
--- whether the first two leaf rows are a header's: `H`, and four bytes
+-- whether the first two leaf rows are a header's: `H`, and four bytes (S4)
 unfoldable pub headerLeavesAt : List ℕ → List ℕ → Bool
 headerLeavesAt rows text =
     same (leafAt rows text 0 .place) (1 ∷ 1 ∷ 1 ∷ 1 ∷ 1 ∷ [])
@@ -107,19 +110,33 @@ pub record KindsStated (rows : List ℕ) (n : ℕ) : Type 0 where
   pub few : n < width
   pub kinds : (i : ℕ) → i < n → kindIn rows i ≤ 12
 
--- whether the header's rows keep the header rule and the leaf rows after them go on soundly
+-- whether the header's rows keep the header rule (H2, S4) and the leaf rows after them go on soundly
 unfoldable pub soundLeaves : ℕ → List ℕ → List ℕ → ℕ → Bool
 soundLeaves field rows text count =
     headerLeavesAt rows text
     && (allAllowed (five (separatorsAt field rows text)) && different (five (separatorsAt field rows text)))
     && goOnFrom (splitting (separatorsAt field rows text)) thirdPlace (leavesBetween rows text 2 count)
 
--- whether field 7.7 names the context and the kinds stand where it allows them
+-- whether field 7 of the first segment names the context (C1) and the kinds stand where it allows them (C2, C3)
 unfoldable pub inOrder : ℕ → List ℕ → ℕ → List ℕ → List ℕ → ℕ → Bool
 inOrder context segments many rows text count =
     not (eqb context 0)
     && eqb (contextAmong (groupsIn rows text count)) context
     && eqb (misplaced context (kindColumn segments many)) 0
+
+-- a table whose rows and text pass every test but that of the message's bytes
+pub record SoundRows (levels : ℕ → ℕ → ℕ) (t : Table) : Type 0 where
+  pub three : 3 ≤ t .card .leaves
+  pub laid : endToEnd (t .leafRows) (t .card .text) 0 (t .card .leaves) 0 ≡ true
+  pub sound : soundLeaves (t .card .separator) (t .leafRows) (t .text) (t .card .leaves) ≡ true
+  pub grouped : groupsStated (t .segmentRows) 0 (t .card .segments) 1 (groupsIn (t .leafRows) (t .text) (t .card .leaves)) ≡ true
+  pub owned : same (ownerColumn (t .segmentRows) (t .card .segments))
+      (owners (levels (t .card .context)) (kindColumn (t .segmentRows) (t .card .segments))) ≡ true
+  pub ordered : inOrder (t .card .context) (t .segmentRows) (t .card .segments) (t .leafRows) (t .text) (t .card .leaves) ≡ true
+
+-- the bytes that are written for a table where some message reads to it, else 0
+unfoldable pub sizeBack : Limits → (ℕ → ℕ → ℕ) → Table → ℕ
+sizeBack L levels t = elim (readsBack L levels t) [ true ↦ length (written L t) | false ↦ 0 ]
 
 -- a table of some counted entries
 abbrev pub tableWith : Card → (segmentRows leafRows text : List ℕ) → Table

@@ -1,4 +1,4 @@
--- `write::test::is_table_of` meets its contract. The counts, and then the counted entries.
+-- `write::test::table_bytes` meets its contract. The counts, and then the counted entries.
 -- Assumes nothing.
 use borrow.Author.Needs.{needs}
 use native.Mathlib.Omega.{arith}
@@ -6,14 +6,15 @@ use mathlib.Core.Bool.{true}
 use mathlib.Core.Path.{_≡_, sym, _∙_}
 use lib.Seq.{length-take-le}
 use Prim.Native.Nat.{_*_}
-use Rattle.order.specs.inner.Levels.{levelIn}
+use Rattle.order.specs.Owners.{level}
 use Rattle.table.specs.Rows.{segmentRowSize, leafRowSize}
 use Rattle.table.specs.Lent.{Lent, lent, withinLimits, withinBuffers, counted}
 use Rattle.write.proofs.LentTables.{Within, within-buffers}
-use Rattle.write.proofs.LentTest.{limits-refuse, buffers-refuse, counted-decides, counted-table}
+use Rattle.write.proofs.LentTest.{limits-refuse, buffers-refuse, counted-table}
+use Rattle.write.proofs.Sizes.{no-table-size, counted-size}
 use Rattle.write.proofs.Said.{answered-no, answered-yes}
-use Rattle.write.proofs.test.is_table_of.Statement.{statement}
-use Rattle.write.proofs.test.is_table_of.Tie as tie
+use Rattle.write.proofs.test.table_bytes.Statement.{statement}
+use Rattle.write.proofs.test.table_bytes.Tie as tie
 
 -- the lent table
 abbrev table : tie.Start → Lent
@@ -22,12 +23,16 @@ table s = lent (s .args .card) (s .args .segments .now) (s .args .leaves .now) (
 returns : tie.Need-returns
 returns c =
     let start = c .before .before .before .before .before in
-    limits-refuse (start .args .limits) (levelIn (start .args .levels .now)) (table start) (answered-no (c .before .within-limits .ensures) (c .if1 .taken))
+    let a = start .args in
+    sym (no-table-size (a .limits) (start .pre .lawful) level (table start)
+    (sym (limits-refuse (a .limits) level (table start) (answered-no (c .before .within-limits .ensures) (c .if1 .taken)))))
 
 returns-2 : tie.Need-returns-2
 returns-2 c =
     let start = c .before .before .before .before .before .before .before in
-    buffers-refuse (start .args .limits) (levelIn (start .args .levels .now)) (table start) (answered-no (c .before .counts-fit .ensures) (c .if2 .taken))
+    let a = start .args in
+    sym (no-table-size (a .limits) (start .pre .lawful) level (table start)
+    (sym (buffers-refuse (a .limits) level (table start) (answered-no (c .before .counts-fit .ensures) (c .if2 .taken)))))
 
 -- past both tests of its counts
 abbrev start-of : tie.Else2 → tie.Start
@@ -48,41 +53,41 @@ mul-many c = omega (arith, within (c .before) .segmentRows)
 mul-size : tie.Need-mul-size
 mul-size c = omega (arith, within (c .before .before) .leafRows)
 
-slice-aggregate-reads-back : tie.Need-slice-aggregate-reads-back
-slice-aggregate-reads-back c =
+slice-aggregate-counted-bytes : tie.Need-slice-aggregate-counted-bytes
+slice-aggregate-counted-bytes c =
     let here = c .before .before .before in
     let a = start-of here .args in
     sym (length-take-le (a .card .segments * segmentRowSize) (a .segments .now) (within here .segmentRows))
 
-slice-aggregate-reads-back-2 : tie.Need-slice-aggregate-reads-back-2
-slice-aggregate-reads-back-2 c =
+slice-aggregate-counted-bytes-2 : tie.Need-slice-aggregate-counted-bytes-2
+slice-aggregate-counted-bytes-2 c =
     let here = c .before .before .before .before in
     let a = start-of here .args in
     sym (length-take-le (a .card .leaves * leafRowSize) (a .leaves .now) (within here .leafRows))
 
-slice-aggregate-reads-back-3 : tie.Need-slice-aggregate-reads-back-3
-slice-aggregate-reads-back-3 c =
+slice-aggregate-counted-bytes-3 : tie.Need-slice-aggregate-counted-bytes-3
+slice-aggregate-counted-bytes-3 c =
     let here = c .before .before .before .before .before in
     let a = start-of here .args in
     sym (length-take-le (a .card .text) (a .text .now) (within here .text))
 
-reads-back-requires : tie.Need-reads-back-requires
+counted-bytes-requires : tie.Need-counted-bytes-requires
 unfolding counted
-reads-back-requires c κs =
+counted-bytes-requires c κs =
     let here = c .before .before .before .before .before in
     let start = start-of here in
-    counted-table (start .args .limits) (levelIn (start .args .levels .now)) (table start) (few here) (fit here) (start .pre)
+    counted-table (start .args .limits) level (table start) (few here) (fit here) (start .pre)
 
 returns-3 : tie.Need-returns-3
 unfolding counted
 returns-3 c =
     let here = c .before .before .before .before .before .before in
     let start = start-of here in
-    c .reads-back .ensures ∙ counted-decides (start .args .limits) (levelIn (start .args .levels .now)) (table start) (few here) (fit here)
+    c .counted-bytes .ensures ∙ counted-size (start .args .limits) (start .pre .lawful) level (table start) (few here) (fit here)
 
-pub is-table-of-spec : {M : Type 1} → statement M
-is-table-of-spec =
+pub table-bytes-spec : {M : Type 1} → statement M
+table-bytes-spec =
     tie.close
     (tie.spec
-    (λ c κs. search needs) returns (λ c κs. search needs) returns-2 mul-many mul-size slice-aggregate-reads-back
-    slice-aggregate-reads-back-2 slice-aggregate-reads-back-3 reads-back-requires returns-3)
+    (λ c κs. search needs) returns (λ c κs. search needs) returns-2 mul-many mul-size slice-aggregate-counted-bytes
+    slice-aggregate-counted-bytes-2 slice-aggregate-counted-bytes-3 counted-bytes-requires returns-3)

@@ -1,29 +1,29 @@
--- `write::test::reads_back` meets its contract. Each test that fails refuses the table, and the last decides.
+-- `write::test::sound_rows` meets its contract. Each test that fails refuses the table, and the last decides.
 -- Assumes nothing.
+use borrow.Author.Needs.{needs}
 use native.Mathlib.Omega.{arith}
-use mathlib.Core.Bool.{false, true}
-use mathlib.Core.Path.{_≡_, ap}
+use mathlib.Core.Bool.{true, false, false≢true}
+use mathlib.Core.Path.{_≡_, sym, ap, _∙_}
 use borrow.Author.Tests.{not-true, not-false}
 use Rattle.laws.proofs.Tests.{never-both}
-use Rattle.order.specs.inner.Levels.{levelIn}
+use Rattle.laws.specs.Lists.{same}
+use Rattle.order.specs.Owners.{level, owners}
+use Rattle.order.proofs.LevelTable.{levels-are, levels-below}
 use Rattle.table.specs.Rows.{Table}
-use Rattle.write.specs.inner.Tests.{groupsIn, tableWith, InText, Laid, KindsStated, soundLeaves, groupsStated}
-use Rattle.write.specs.Writing.{readsBack}
+use Rattle.write.specs.inner.Tests.{groupsIn, tableWith, InText, Laid, KindsStated, soundLeaves, groupsStated, kindColumn, ownerColumn, Decides, SoundRows}
 use Rattle.write.proofs.GoingOn.{sound-first}
 use Rattle.write.proofs.Said.{answered-no, answered-yes}
-use Rattle.write.proofs.TableTest.{Passed, passed-laid, laid-in-text, counted-kinds, refused-so, short-decides}
-use Rattle.write.proofs.test.reads_back.Statement.{statement}
-use Rattle.write.proofs.test.reads_back.Tie as tie
-use lib.Dec.{leb}
+use Rattle.write.proofs.TableTest.{sound-laid, laid-in-text, narrow-kinds}
+use Rattle.write.proofs.test.sound_rows.Statement.{statement}
+use Rattle.write.proofs.test.sound_rows.Tie as tie
 use Prim.Native.Nat.{ℕ}
 
 -- the table that is tested, and a test of it that fails
 abbrev table : tie.Start → Table
 table s = tableWith (s .args .card) (s .args .segments .now) (s .args .leaves .now) (s .args .text .now)
 
-refuses : (s : tie.Start) → (Passed (s .args .limits) (levelIn (s .args .levels .now)) (table s) → ⊥)
-    → false ≡ readsBack (s .args .limits) (levelIn (s .args .levels .now)) (table s)
-refuses s = refused-so (s .pre)
+refuses : (s : tie.Start) → (SoundRows level (table s) → ⊥) → Decides false (SoundRows level (table s))
+refuses s n = (λ e. absurd (false≢true e), λ e. n)
 
 -- the start, from the places past one test after the other
 abbrev start-1 : tie.Else1 → tie.Start
@@ -38,20 +38,16 @@ start-3 c = start-2 (c .before .before)
 abbrev start-4 : tie.Else4 → tie.Start
 start-4 c = start-3 (c .before .before)
 
-abbrev start-5 : tie.Else5 → tie.Start
-start-5 c = start-4 (c .before .before)
-
-abbrev start-6 : tie.Else6 → tie.Start
-start-6 c = start-5 (c .before .before)
+-- the levels are bound between the two
+abbrev at-4 : tie.Else5 → tie.Else4
+at-4 c = c .before .before .before .before
 
 -- what the tests have said
 laid-here : (c : tie.Else2) → Laid (table (start-2 c) .leafRows) (table (start-2 c) .card .leaves) (table (start-2 c) .card .text)
 laid-here c = c .before .laid .ensures .0 (not-false (c .before .laid .result) (c .if2 .left))
 
 text-here : (c : tie.Else2) → InText (table (start-2 c) .leafRows) (table (start-2 c) .text) (table (start-2 c) .card .leaves)
-text-here c =
-    let pre = start-2 c .pre in
-    laid-in-text (pre .testable .fits) (pre .sized) (pre .leaves) (pre .text) (laid-here c .ended)
+text-here c = laid-in-text (start-2 c .pre) (laid-here c .ended)
 
 sound-here : (c : tie.Else3) → let t = table (start-3 c) in soundLeaves (t .card .separator) (t .leafRows) (t .text) (t .card .leaves) ≡ true
 sound-here c = answered-yes (c .before .sound-leaves .ensures) (c .if3 .left)
@@ -61,7 +57,7 @@ grouped-here : (c : tie.Else4) → let t = table (start-4 c) in
 grouped-here c = answered-yes (c .before .grouped .ensures) (c .if4 .left)
 
 kinds-here : (c : tie.Else4) → KindsStated (table (start-4 c) .segmentRows) (table (start-4 c) .card .segments)
-kinds-here c = counted-kinds (start-4 c .pre) (grouped-here c)
+kinds-here c = narrow-kinds (start-4 c .pre) (grouped-here c)
 
 returns : tie.Need-returns
 returns c = refuses (c .before .before .before .before) (λ w. omega (arith, w .three, c .if1 .taken))
@@ -72,7 +68,7 @@ laid-requires c κs = record { sized = start-1 c .pre .sized .leafRows; some = o
 returns-2 : tie.Need-returns-2
 returns-2 c =
     let asked = c .before in
-    refuses (start-1 (asked .before)) (λ w. asked .laid .ensures .1 (not-true (asked .laid .result) (c .if2 .taken)) (passed-laid w))
+    refuses (start-1 (asked .before)) (λ w. asked .laid .ensures .1 (not-true (asked .laid .result) (c .if2 .taken)) (sound-laid w))
 
 sound-leaves-requires : tie.Need-sound-leaves-requires
 sound-leaves-requires c κs = record { inText = text-here c; three = c .before .before .if1 .left; next = laid-here c .next }
@@ -94,54 +90,48 @@ grouped-requires c κs =
 returns-4 : tie.Need-returns-4
 returns-4 c = refuses (start-3 (c .before .before)) (λ w. never-both (w .grouped) (answered-no (c .before .grouped .ensures) (c .if4 .taken)))
 
+-- the owners are asked for by the levels in force
+owned-here : (c : tie.After-owned) → let t = table (start-4 (c .before .before .before)) in
+    c .owned .result ≡ same (ownerColumn (t .segmentRows) (t .card .segments)) (owners (level (t .card .context)) (kindColumn (t .segmentRows) (t .card .segments)))
+owned-here c =
+    let t = table (start-4 (c .before .before .before)) in
+    c .owned .ensures
+    ∙ ap (λ (lv : ℕ → ℕ → ℕ). same (ownerColumn (t .segmentRows) (t .card .segments)) (owners (lv (t .card .context)) (kindColumn (t .segmentRows) (t .card .segments))))
+    (levels-are (c .before .before .table .ensures))
+
 owned-requires : tie.Need-owned-requires
-owned-requires c κs = record { kinds = kinds-here c; low = start-4 c .pre .testable .low }
+owned-requires c κs = record { kinds = kinds-here (c .before .before); low = levels-below (c .before .table .ensures) }
 
 returns-5 : tie.Need-returns-5
-returns-5 c = refuses (start-4 (c .before .before)) (λ w. never-both (w .owned) (answered-no (c .before .owned .ensures) (c .if5 .taken)))
+returns-5 c = refuses (start-4 (c .before .before .before .before)) (λ w. never-both (w .owned) (answered-no (owned-here (c .before)) (c .if5 .taken)))
 
 in-order-requires : tie.Need-in-order-requires
 in-order-requires c κs =
-    let grouped = c .before .before in
+    let grouped = at-4 c in
     let laid = grouped .before .before .before .before in
-    record { kinds = kinds-here grouped; inText = text-here laid; some = omega (arith, laid .before .before .if1 .left) }
+    record { kinds = kinds-here grouped; inText = text-here laid; some = omega (arith, laid .before .before .if1 .left); grouped = grouped-here grouped }
 
 returns-6 : tie.Need-returns-6
-returns-6 c = refuses (start-5 (c .before .before)) (λ w. never-both (w .ordered) (answered-no (c .before .in-order .ensures) (c .if6 .taken)))
-
-message-bytes-requires : tie.Need-message-bytes-requires
-message-bytes-requires c κs =
-    let grouped = c .before .before .before .before in
-    let pre = start-4 grouped .pre in
-    record {
-      lawful = pre .testable .fits .lawful;
-      inText = text-here (grouped .before .before .before .before);
-      sized = pre .sized .segmentRows;
-      grouped = grouped-here grouped;
-    }
-
-returns-7 : tie.Need-returns-7
-returns-7 c =
-    let ordered = c .before .before in
-    let owned = ordered .before .before in
-    let grouped = owned .before .before in
+returns-6 c =
+    let owned = c .before in
+    let grouped = at-4 owned in
     let sound = grouped .before .before in
-    let laid = sound .before .before in
-    let start = start-6 ordered in
-    short-decides (start .pre) (ap (λ (n : ℕ). leb n (start .args .limits .bytes)) (c .before .message-bytes .ensures)) (λ h.
-    record {
-      three = laid .before .before .if1 .left;
-      laid = laid-here laid .ended;
-      sound = sound-here sound;
-      grouped = grouped-here grouped;
-      owned = answered-yes (owned .before .owned .ensures) (owned .if5 .left);
-      ordered = answered-yes (ordered .before .in-order .ensures) (ordered .if6 .left);
-      short = h;
-    })
+    let laid = sound .before .before in (
+      λ e.
+          record {
+            three = laid .before .before .if1 .left;
+            laid = laid-here laid .ended;
+            sound = sound-here sound;
+            grouped = grouped-here grouped;
+            owned = answered-yes (owned-here (owned .before)) (owned .if5 .left);
+            ordered = sym (c .in-order .ensures) ∙ e;
+          },
+      λ e w. never-both (w .ordered) (sym (c .in-order .ensures) ∙ e),
+    )
 
-pub reads-back-spec : {M : Type 1} → statement M
-reads-back-spec =
+pub sound-rows-spec : {M : Type 1} → statement M
+sound-rows-spec =
     tie.close
     (tie.spec
-    returns laid-requires returns-2 sound-leaves-requires returns-3 grouped-requires returns-4 owned-requires returns-5 in-order-requires
-    returns-6 message-bytes-requires returns-7)
+    returns laid-requires returns-2 sound-leaves-requires returns-3 grouped-requires returns-4 (λ c κs. search needs) owned-requires returns-5
+    in-order-requires returns-6)
