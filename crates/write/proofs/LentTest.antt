@@ -1,19 +1,23 @@
 -- The table test of a lent table: its counts, and the table of the counted entries.
 -- Assumes nothing.
 use mathlib.Core.Bool.{true, false}
-use mathlib.Core.Path.{_≡_, sym, ap, subst⁻¹}
+use mathlib.Core.List.{List}
+use mathlib.Core.Path.{_≡_, sym, ap₂, subst⁻¹}
 use Prim.Native.Nat.{ℕ}
 use native.Mathlib.Omega.{arith}
 use Rattle.laws.proofs.Tests.{and-passed, and-both, and-fails-first, and-fails-second}
 use Rattle.form.specs.declared.limits.Limits.{Limits}
 use Rattle.form.specs.Limits.{form}
+use Rattle.order.specs.Owners.{level}
+use Rattle.order.specs.inner.Levels.{levelIn, levelTable}
+use Rattle.order.proofs.LevelTable.{levels-are, levels-below}
 use Rattle.table.specs.inner.Fitting.{FitsRows}
 use Rattle.table.specs.Lent.{Lent, withinLimits, withinBuffers, counted}
 use Rattle.table.proofs.Lent.{few-segments, few-leaves, few-bytes}
 use Rattle.table.proofs.Width.{form-fits}
 use Rattle.write.specs.Writing.{readsBack, isTable}
 use Rattle.write.specs.Answer.{writtenSize}
-use Rattle.write.specs.inner.Asked.{CountedTable}
+use Rattle.write.specs.inner.Asked.{Testable, CountedTable}
 use Rattle.write.proofs.LentTables.{counted-sized}
 
 module _ (L : Limits) (levels : ℕ → ℕ → ℕ) (l : Lent) where
@@ -30,28 +34,33 @@ module _ (L : Limits) (levels : ℕ → ℕ → ℕ) (l : Lent) where
     unfolding isTable
     counted-decides = sym (and-passed (readsBack L levels (counted l)) (and-both few within))
 
-    pub counted-table : FitsRows L → CountedTable L (counted l)
+    pub counted-table : Testable L levels → CountedTable L levels (counted l)
     unfolding counted
-    counted-table w =
+    counted-table asked =
+        let w = asked .fits in
         let segments = few-segments L (l .card) few in
         let leaves = few-leaves L (l .card) few in
         record {
           lawful = w .lawful;
-          narrow =
+          rows =
               record {
-                sized = counted-sized l within;
-                segments = omega (arith, segments, w .segments);
-                leaves = omega (arith, leaves, w .leaves);
-                text = omega (arith, few-bytes L (l .card) few, w .bytes);
+                narrow =
+                    record {
+                      sized = counted-sized l within;
+                      segments = omega (arith, segments, w .segments);
+                      leaves = omega (arith, leaves, w .leaves);
+                      text = omega (arith, few-bytes L (l .card) few, w .bytes);
+                    };
+                low = asked .low;
               };
           segments = segments;
           leaves = leaves;
         }
 
--- the form's limits
-module _ {L : Limits} (e : L ≡ form) where
-  pub form-asked : FitsRows L
-  form-asked = subst⁻¹ FitsRows e form-fits
+-- the form's limits and levels
+module _ {L : Limits} (e : L ≡ form) {table : List ℕ} (made : table ≡ levelTable) where
+  pub form-asked : Testable L (levelIn table)
+  form-asked = record { fits = subst⁻¹ FitsRows e form-fits; low = levels-below made }
 
-  pub form-size : (levels : ℕ → ℕ → ℕ) (l : Lent) → writtenSize L levels l ≡ writtenSize form levels l
-  form-size levels l = ap (λ (M : Limits). writtenSize M levels l) e
+  pub form-size : (l : Lent) → writtenSize L (levelIn table) l ≡ writtenSize form level l
+  form-size l = ap₂ (λ (M : Limits) (lv : ℕ → ℕ → ℕ). writtenSize M lv l) e (levels-are made)

@@ -182,9 +182,9 @@ narrow-kinds {t} w h =
     }
 
 -- so the code's tests are the table test
-module _ {L : Limits} {t : Table} (w : CountedTable L t) (levels : ℕ → ℕ → ℕ) where
+module _ {L : Limits} {levels : ℕ → ℕ → ℕ} {t : Table} (w : CountedTable L levels t) where
   abbrev so-many : Sized t
-  so-many = w .narrow .sized
+  so-many = w .rows .narrow .sized
 
   refused-so : (Passed L levels t → ⊥) → false ≡ readsBack L levels t
   refused-so n = go (tested (readsBack L levels t))

@@ -1,6 +1,7 @@
 // How many bytes the writer gives, without writing them.
 use crate::test;
 use form::limits::Form;
+use order::levels;
 use table::Card;
 use table::rows::Entry;
 ghost use mathlib.Core.Path.{_≡_};
@@ -10,9 +11,10 @@ ghost use Rattle.table.specs.Lent.{lent};
 ghost use Rattle.write.specs.Answer.{writtenSize};
 
 // The bytes that the writer gives for a table, whatever the buffers hold; 0 where no message reads to it (W3, W4). The test is called here
-// alone, so that it is compiled for the form's limits.
+// alone, so that it is compiled for the form's limits and levels.
 pub fn written_bytes(card: Card, segments: &[Entry], leaves: &[Entry], text: &[u8]) -> usize
     ensures { λ r. ⌜ r ≡ writtenSize form level (lent card (now (segments .entry)) (now (leaves .entry)) (now (text .entry))) ⌝ }
 {
-    test::table_bytes(Form::limits(), card, segments, leaves, text)
+    let levels = levels::table();
+    test::table_bytes(Form::limits(), &levels, card, segments, leaves, text)
 }

@@ -4,19 +4,18 @@ use crate::segment_rows;
 use crate::size;
 use form::limits::Limits;
 use order::followers;
-use order::levels;
 use table::Card;
 use table::rows;
 use table::rows::Entry;
 ghost use mathlib.Core.Path.{_≡_};
 ghost use Rattle.form.specs.Limits.{form};
 ghost use Rattle.order.specs.Owners.{level};
+ghost use Rattle.order.specs.inner.Levels.{levelIn};
 ghost use Rattle.write.specs.Writing.{isTable};
 ghost use Rattle.write.specs.Answer.{writtenSize};
 ghost use Rattle.table.specs.Lent.{lent, withinLimits};
-ghost use Rattle.table.specs.inner.Fitting.{FitsRows};
 ghost use Rattle.write.specs.inner.Tests.{Decides, SoundRows, tableWith, sizeBack, soundLeaves, inOrder};
-ghost use Rattle.write.specs.inner.Asked.{CountedTable, NarrowTable, LaidOut, KindsAndLeaves};
+ghost use Rattle.write.specs.inner.Asked.{Testable, CountedTable, RowsAsked, LaidOut, KindsAndLeaves};
 
 // Yes exactly where some message within the form's limits reads to the table that the card counts in the lent buffers, whatever these hold
 // (W4). Such a message has some bytes.
@@ -26,16 +25,17 @@ pub fn is_table(card: Card, segments: &[Entry], leaves: &[Entry], text: &[u8]) -
     size::written_bytes(card, segments, leaves, text) != 0
 }
 
-// The bytes that are written for a table under any limits; 0 where no message within them reads to it.
+// The bytes that are written for a table under any limits and levels; 0 where no message within them reads to it.
 pub(crate) fn table_bytes(
     limits: Limits,
+    levels: &[u8; 84],
     card: Card,
     segments: &[Entry],
     leaves: &[Entry],
     text: &[u8],
 ) -> usize
-    requires { ⌜ FitsRows limits ⌝ }
-    ensures { λ r. ⌜ r ≡ writtenSize limits level (lent card (now (segments .entry)) (now (leaves .entry)) (now (text .entry))) ⌝ }
+    requires { ⌜ Testable limits (levelIn (now levels)) ⌝ }
+    ensures { λ r. ⌜ r ≡ writtenSize limits (levelIn (now (levels .entry))) (lent card (now (segments .entry)) (now (leaves .entry)) (now (text .entry))) ⌝ }
 {
     if !within_limits(limits, card) {
         return 0;
@@ -48,6 +48,7 @@ pub(crate) fn table_bytes(
     let end = card.text;
     counted_bytes(
         limits,
+        levels,
         card,
         &segments[..many],
         &leaves[..size],
@@ -72,15 +73,16 @@ fn within_limits(limits: Limits, card: Card) -> bool
 // and the compiler puts it in place.
 fn counted_bytes(
     limits: Limits,
+    levels: &[u8; 84],
     card: Card,
     segments: &[Entry],
     leaves: &[Entry],
     text: &[u8],
 ) -> usize
-    requires { ⌜ CountedTable limits (tableWith card (now segments) (now leaves) (now text)) ⌝ }
-    ensures { λ r. ⌜ r ≡ sizeBack limits level (tableWith card (now (segments .entry)) (now (leaves .entry)) (now (text .entry))) ⌝ }
+    requires { ⌜ CountedTable limits (levelIn (now levels)) (tableWith card (now segments) (now leaves) (now text)) ⌝ }
+    ensures { λ r. ⌜ r ≡ sizeBack limits (levelIn (now (levels .entry))) (tableWith card (now (segments .entry)) (now (leaves .entry)) (now (text .entry))) ⌝ }
 {
-    if !sound_rows(card, segments, leaves, text) {
+    if !sound_rows(levels, card, segments, leaves, text) {
         return 0;
     }
     let bytes = segment_rows::message_bytes(
@@ -97,11 +99,16 @@ fn counted_bytes(
     bytes
 }
 
-// Whether the counted rows and the text pass every test but that of the message's bytes. The levels are bound where they are looked at, past
-// the tests that most refusals come from.
-fn sound_rows(card: Card, segments: &[Entry], leaves: &[Entry], text: &[u8]) -> bool
-    requires { ⌜ NarrowTable (tableWith card (now segments) (now leaves) (now text)) ⌝ }
-    ensures { λ r. ⌜ Decides r (SoundRows level (tableWith card (now (segments .entry)) (now (leaves .entry)) (now (text .entry)))) ⌝ }
+// Whether the counted rows and the text pass every test but that of the message's bytes.
+fn sound_rows(
+    levels: &[u8; 84],
+    card: Card,
+    segments: &[Entry],
+    leaves: &[Entry],
+    text: &[u8],
+) -> bool
+    requires { ⌜ RowsAsked (levelIn (now levels)) (tableWith card (now segments) (now leaves) (now text)) ⌝ }
+    ensures { λ r. ⌜ Decides r (SoundRows (levelIn (now (levels .entry))) (tableWith card (now (segments .entry)) (now (leaves .entry)) (now (text .entry)))) ⌝ }
 {
     let count = card.leaves;
     if count < 3 {
@@ -116,8 +123,7 @@ fn sound_rows(card: Card, segments: &[Entry], leaves: &[Entry], text: &[u8]) -> 
     if !segment_rows::grouped(segments, card.segments, leaves, text, count) {
         return false;
     }
-    let levels = levels::table();
-    if !segment_rows::owned(&levels, card.context, segments, card.segments) {
+    if !segment_rows::owned(levels, card.context, segments, card.segments) {
         return false;
     }
     in_order(card.context, segments, card.segments, leaves, text, count)

@@ -14,6 +14,7 @@ use Rattle.order.specs.inner.Followers.{followers}
 use Rattle.order.specs.inner.Levels.{LevelsBelow}
 use Rattle.table.specs.declared.Card.{Card}
 use Rattle.table.specs.Rows.{Table, segmentRowSize, leafRowSize, segmentIn, fieldIn, startIn, lengthIn, width}
+use Rattle.table.specs.inner.Fitting.{FitsRows}
 use Rattle.write.specs.inner.RowByRow.{Sized}
 use Rattle.write.specs.inner.Tests.{groupsIn, InText, PlacesFollow, SegmentEnd, KindsStated, groupsStated, headerLeavesAt}
 use Rattle.write.specs.inner.Filling.{Stand, Fits, InSegment, lineOpened}
@@ -21,17 +22,27 @@ use Rattle.write.specs.inner.Passing.{NextAfter, leading}
 use Rattle.write.specs.inner.Message.{Tested}
 use Rattle.write.specs.declared.lines.Going.{Going}
 
--- the tests of the rows and the text: they are as many as the card counts, and few enough for a row's numbers
+-- the test of a lent table: numbers that fit the rows, levels that the owners' test knows
+pub record Testable (L : Limits) (levels : ℕ → ℕ → ℕ) : Type 0 where
+  pub fits : FitsRows L
+  pub low : LevelsBelow levels
+
+-- a table whose rows and text are as many as the card counts, and few enough for a row's numbers
 pub record NarrowTable (t : Table) : Type 0 where
   pub sized : Sized t
   pub segments : t .card .segments < width
   pub leaves : t .card .leaves < width
   pub text : t .card .text < width
 
--- the test of the counted entries: the card's counts keep to the limits, too
-pub record CountedTable (L : Limits) (t : Table) : Type 0 where
-  pub lawful : Lawful L
+-- the tests of the rows and the text
+pub record RowsAsked (levels : ℕ → ℕ → ℕ) (t : Table) : Type 0 where
   pub narrow : NarrowTable t
+  pub low : LevelsBelow levels
+
+-- the test of the counted entries: the card's counts keep to the limits, too
+pub record CountedTable (L : Limits) (levels : ℕ → ℕ → ℕ) (t : Table) : Type 0 where
+  pub lawful : Lawful L
+  pub rows : RowsAsked levels t
   pub segments : t .card .segments ≤ L .segments
   pub leaves : t .card .leaves ≤ L .leaves
 

@@ -5,8 +5,8 @@ use native.Mathlib.Omega.{arith}
 use mathlib.Core.Bool.{true}
 use mathlib.Core.Path.{_≡_, sym, _∙_}
 use lib.Seq.{length-take-le}
-use Prim.Native.Nat.{_*_}
-use Rattle.order.specs.Owners.{level}
+use Prim.Native.Nat.{ℕ, _*_}
+use Rattle.order.specs.inner.Levels.{levelIn}
 use Rattle.table.specs.Rows.{segmentRowSize, leafRowSize}
 use Rattle.table.specs.Lent.{Lent, lent, withinLimits, withinBuffers, counted}
 use Rattle.write.proofs.LentTables.{Within, within-buffers}
@@ -20,19 +20,23 @@ use Rattle.write.proofs.test.table_bytes.Tie as tie
 abbrev table : tie.Start → Lent
 table s = lent (s .args .card) (s .args .segments .now) (s .args .leaves .now) (s .args .text .now)
 
+-- the levels it is tested by
+abbrev by-levels : tie.Start → ℕ → ℕ → ℕ
+by-levels s = levelIn (s .args .levels .now)
+
 returns : tie.Need-returns
 returns c =
     let start = c .before .before .before .before .before in
     let a = start .args in
-    sym (no-table-size (a .limits) (start .pre .lawful) level (table start)
-    (sym (limits-refuse (a .limits) level (table start) (answered-no (c .before .within-limits .ensures) (c .if1 .taken)))))
+    sym (no-table-size (a .limits) (start .pre .fits .lawful) (by-levels start) (table start)
+    (sym (limits-refuse (a .limits) (by-levels start) (table start) (answered-no (c .before .within-limits .ensures) (c .if1 .taken)))))
 
 returns-2 : tie.Need-returns-2
 returns-2 c =
     let start = c .before .before .before .before .before .before .before in
     let a = start .args in
-    sym (no-table-size (a .limits) (start .pre .lawful) level (table start)
-    (sym (buffers-refuse (a .limits) level (table start) (answered-no (c .before .counts-fit .ensures) (c .if2 .taken)))))
+    sym (no-table-size (a .limits) (start .pre .fits .lawful) (by-levels start) (table start)
+    (sym (buffers-refuse (a .limits) (by-levels start) (table start) (answered-no (c .before .counts-fit .ensures) (c .if2 .taken)))))
 
 -- past both tests of its counts
 abbrev start-of : tie.Else2 → tie.Start
@@ -76,14 +80,14 @@ unfolding counted
 counted-bytes-requires c κs =
     let here = c .before .before .before .before .before in
     let start = start-of here in
-    counted-table (start .args .limits) level (table start) (few here) (fit here) (start .pre)
+    counted-table (start .args .limits) (by-levels start) (table start) (few here) (fit here) (start .pre)
 
 returns-3 : tie.Need-returns-3
 unfolding counted
 returns-3 c =
     let here = c .before .before .before .before .before .before in
     let start = start-of here in
-    c .counted-bytes .ensures ∙ counted-size (start .args .limits) (start .pre .lawful) level (table start) (few here) (fit here)
+    c .counted-bytes .ensures ∙ counted-size (start .args .limits) (start .pre .fits .lawful) (by-levels start) (table start) (few here) (fit here)
 
 pub table-bytes-spec : {M : Type 1} → statement M
 table-bytes-spec =
