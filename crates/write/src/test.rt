@@ -69,8 +69,8 @@ fn within_limits(limits: Limits, card: Card) -> bool
     card.text <= limits.bytes
 }
 
-// The same of the table of the counted entries. All tests but the last are one call, so that few branches stand before the count of bytes
-// and the compiler puts it in place.
+// The bytes that are written for the table of the counted entries; 0 where no message reads to it. All tests but the last are one call, so
+// that few branches stand before the count of bytes: behind many the compiler would leave it a call of its own.
 fn counted_bytes(
     limits: Limits,
     levels: &[u8; 84],

@@ -4,6 +4,7 @@ use borrow.Author.Needs.{needs}
 use native.Mathlib.Omega.{arith}
 use mathlib.Core.Bool.{true, false, false≢true}
 use mathlib.Core.Path.{_≡_, sym, ap, _∙_}
+use Prim.Native.Nat.{ℕ}
 use borrow.Author.Tests.{not-true, not-false}
 use Rattle.laws.proofs.Tests.{never-both}
 use Rattle.laws.specs.Lists.{same}
@@ -15,7 +16,6 @@ use Rattle.write.proofs.Said.{answered-no, answered-yes}
 use Rattle.write.proofs.TableTest.{sound-laid, laid-in-text, narrow-kinds}
 use Rattle.write.proofs.test.sound_rows.Statement.{statement}
 use Rattle.write.proofs.test.sound_rows.Tie as tie
-use Prim.Native.Nat.{ℕ}
 
 -- the table that is tested, the levels it is tested by, and a test of it that fails
 abbrev table : tie.Start → Table
