@@ -9,7 +9,7 @@ use Rattle.form.specs.Limits.{form}
 use Rattle.line.specs.declared.finder.Found.{Found}
 use Rattle.order.specs.Owners.{level}
 use Rattle.table.specs.Lent.{Lent}
-use Rattle.write.specs.Writing.{isTable}
+use Rattle.write.specs.inner.ReadsBack.{isTable}
 use Rattle.look.specs.declared.leaf.Place.{Place}
 use Rattle.look.specs.inner.Searching.{rowAfter, sameOrder}
 use Rattle.abi.specs.Reading.{ReadInto}

@@ -7,7 +7,7 @@ ghost use mathlib.Core.Path.{_≡_};
 ghost use Rattle.form.specs.Limits.{form};
 ghost use Rattle.order.specs.Owners.{level};
 ghost use Rattle.table.specs.Lent.{lent};
-ghost use Rattle.write.specs.Writing.{isTable};
+ghost use Rattle.write.specs.inner.ReadsBack.{isTable};
 ghost use Rattle.abi.specs.Cards.{cardOf};
 ghost use Rattle.abi.specs.Writing.{WroteInto};
 

@@ -39,6 +39,7 @@ module _ (L : Limits) (lawful : Lawful L) (levels : ℕ → ℕ → ℕ) where
         written-exactly = λ table g. writes.written-exactly L lawful levels table g;
         short-exactly = λ table g. writes.short-exactly L lawful levels table g;
         none-exactly = λ table g. writes.none-exactly L lawful levels table g;
+        tested-exactly = λ table r e. writes.tested-exactly L lawful levels table r e;
         fewest = λ table g yes message read. writes.fewest L lawful levels table g yes message read;
       }
 

@@ -1,4 +1,4 @@
--- Writers that the contract shuts out (document 01, "How strong the statements are"): whatever the table, and on K1's.
+-- Writers that the contract shuts out: whatever the table, and on the table of K1.
 -- Assumes nothing.
 use mathlib.Core.Bool.{true, false}
 use mathlib.Core.List.{List}
@@ -18,7 +18,7 @@ use Rattle.form.proofs.LineCount.{form-lawful}
 use Rattle.line.specs.Cutting.{pieces, addenda, cut, cuts, unlines}
 use Rattle.order.specs.Owners.{level}
 use Rattle.table.specs.Leaves.{onto, split}
-use Rattle.table.specs.Back.{leafAt, leavesOf, separatorsAt, between, unsplitFrom, unsplit, segmentsOf, linesOf, written}
+use Rattle.table.specs.inner.Back.{leafAt, leavesOf, separatorsAt, between, unsplitFrom, unsplit, segmentsOf, linesOf, written}
 use Rattle.table.specs.Examples.{filed, k1}
 use Rattle.table.specs.Lent.{Lent, counted}
 use Rattle.table.specs.Rows.{Table}

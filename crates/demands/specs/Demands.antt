@@ -1,6 +1,6 @@
--- The three demands (docs/PROMISES.md says them in words), as statements about the predicates and equations that the public contracts name: `ReadAs` of
--- the reader, `WroteAs` of the writer, `soughtIn`, `rowAfter` and `sameOrder` of the lookups, `tellOf` of the watcher. Each demand holds of any
--- lawful limits and any levels; that it holds of the form's own is the last line of its section in proofs/Demands.antt.
+-- The three demands (docs/PROMISES.md says them in words), as statements about what the public contracts name: `ReadAs` of the reader,
+-- `WroteAs` of the writer, `isTable` of the table test, `soughtIn`, `rowAfter` and `sameOrder` of the lookups, `tellOf` of the watcher. Each
+-- demand holds of any lawful limits and any levels, and so of the form's own: the last lines of proofs/Demands.antt.
 -- Assumes nothing.
 use mathlib.Core.Bool.{Bool, true, false}
 use mathlib.Core.List.{List, [], _∷_, _++_}
@@ -27,6 +27,7 @@ use Rattle.read.specs.Acceptance.{Read}
 use Rattle.read.specs.Sound.{segmentsIn, SoundLines, SoundMessage}
 use Rattle.write.specs.declared.Written.{Written}
 use Rattle.write.specs.Writing.{ReadTo}
+use Rattle.write.specs.inner.ReadsBack.{isTable}
 use Rattle.write.specs.Answer.{WroteAs}
 use Rattle.write.specs.Wrote.{WroteTable}
 use Rattle.look.specs.declared.leaf.Place.{Place}
@@ -59,8 +60,8 @@ pub record Demand1 (L : Limits) (levels : ℕ → ℕ → ℕ) : Type 0 where
   pub orders-compared : (table : Lent) (row : ℕ) (other : Lent) (other-row : ℕ) (r : Bool) → r ≡ sameOrder table row other other-row
       → (r ≡ true) ↔ SameOrders table row other other-row
 
--- Demand 2. An accepted message gives the table that the rules say; writing gives lines that read back to it; the writer refuses only what no
--- message reads to, or a short output.
+-- Demand 2. What is accepted is filed by the rules; what is written leads back to the table; nothing else makes the writer refuse than an
+-- output that is short or a table to which no message leads.
 pub record Demand2 (L : Limits) (levels : ℕ → ℕ → ℕ) : Type 0 where
   -- accepted: the header is sound and names the separators by which the message is read
   pub accepted-table : (message : List ℕ) {text segments leaves text′ segments′ leaves′ : List ℕ} {r : Answer}
@@ -76,6 +77,8 @@ pub record Demand2 (L : Limits) (levels : ℕ → ℕ → ℕ) : Type 0 where
       → (r .number ≡ shortOutput) ↔ (length output < L .bytes)
   pub none-exactly : (table : Lent) {output output′ : List ℕ} {r : Written} → WroteAs L levels table output r output′
       → (r .number ≡ noTable) ↔ ((L .bytes ≤ length output) × (ReadTo L levels (counted table) → ⊥))
+  -- the table test says yes exactly where some message reads to the table
+  pub tested-exactly : (table : Lent) (r : Bool) → r ≡ isTable L levels table → (r ≡ true) ↔ ReadTo L levels (counted table)
   -- no message that reads to the table has fewer bytes or fewer lines
   pub fewest : (table : Lent) {output output′ : List ℕ} {r : Written} → WroteAs L levels table output r output′ → r .number ≡ 0
       → (message : List ℕ) → reading L levels (stated L) message ≡ accepted (counted table)
@@ -83,7 +86,7 @@ pub record Demand2 (L : Limits) (levels : ℕ → ℕ → ℕ) : Type 0 where
 
 -- Demand 3. Of messages within the limits whose header and lines are sound, read into buffers of the stated sizes.
 pub record Demand3 (L : Limits) (levels : ℕ → ℕ → ℕ) : Type 0 where
-  -- accepted exactly where the context's grammar derives the order of the joined segments
+  -- accepted exactly where the grammar of the context has a derivation of the joined segments' kinds
   pub accepted-exactly : (message : List ℕ) {text segments leaves text′ segments′ leaves′ : List ℕ} {r : Answer} {ps : Separators}
       → SoundMessage L (roomOf text segments leaves) message ps → ReadAs L levels message text segments leaves r text′ segments′ leaves′
       → (r .number ≡ 0) ↔ Derives (grammar (contextIn ps (segmentsIn L ps message))) (kindsOf ps (segmentsIn L ps message))
@@ -102,7 +105,7 @@ pub record Demand3 (L : Limits) (levels : ℕ → ℕ → ℕ) : Type 0 where
   pub watcher-yes : (context : ℕ) (told : List ℕ) (kind : ℕ)
       → (tellOf (watched (begun context) told) kind .yes ≡ true) ↔ Begins (grammar context) (said (begun context) told ++ (kind ∷ []))
   pub watcher-no : (w : Watcher) (kind : ℕ) → tellOf w kind .yes ≡ false → tellOf w kind .watcher ≡ w
-  -- the same joined segments get the same answer, refusals included, and the same table, however each message was cut
+  -- how the lines were cut changes nothing: equal joined segments, equal answers and equal buffers
   pub cut-anyhow : (message other : List ℕ) {text segments leaves text₁ segments₁ leaves₁ text₂ segments₂ leaves₂ : List ℕ} {r s : Answer} {ps qs : Separators}
       → SoundLines L message ps → SoundLines L other qs → segmentsIn L ps message ≡ segmentsIn L qs other
       → ReadAs L levels message text segments leaves r text₁ segments₁ leaves₁ → ReadAs L levels other text segments leaves s text₂ segments₂ leaves₂

@@ -10,7 +10,8 @@ use native.Mathlib.Omega.{arith}
 use lib.Dec.{eqb}
 use lib.ListN.{length, getD}
 use borrow.Author.Tests.{eqb-true, eq-eqb, ne-eqb}
-use Rattle.laws.specs.Lists.{same, among, count, numbered, firstFrom, firstOf}
+use Rattle.laws.specs.Lists.{same, among, count, numbered, firstFrom}
+use Rattle.laws.specs.inner.First.{firstOf}
 use Rattle.laws.proofs.Tests.{Tested, passed, failed, tested, either, never-both, and-first, and-second, and-both}
 
 module _ {ℓ ℓ′} {A : Type ℓ} {B : Type ℓ′} (f : A → B) where

@@ -36,7 +36,3 @@ numbered f n (a ∷ s) = f n a ++ numbered f (suc n) s
 unfoldable pub firstFrom {ℓ} : {A : Type ℓ} → (A → Bool) → ℕ → List A → ℕ
 firstFrom p n [] = 0
 firstFrom p n (a ∷ s) = elim (p a) [ true ↦ n | false ↦ firstFrom p (suc n) s ]
-
--- the first place at which a test held, 0 standing for none: an earlier one, or this place where the test holds here
-unfoldable pub firstOf : ℕ → Bool → ℕ → ℕ
-firstOf earlier holds place = elim (eqb earlier 0) [ true ↦ elim holds [ true ↦ place | false ↦ 0 ] | false ↦ earlier ]

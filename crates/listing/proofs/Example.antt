@@ -16,7 +16,7 @@ use Rattle.line.specs.Cutting.{pieces, addenda, cut, cuts, unlines}
 use Rattle.order.specs.Owners.{level}
 use Rattle.table.specs.Leaves.{onto, split}
 use Rattle.table.specs.Reading.{Outcome, accepted, stated, reading}
-use Rattle.table.specs.Back.{leafAt, leavesOf, separatorsAt, between, unsplitFrom, unsplit, segmentsOf, linesOf, written}
+use Rattle.table.specs.inner.Back.{leafAt, leavesOf, separatorsAt, between, unsplitFrom, unsplit, segmentsOf, linesOf, written}
 use Rattle.table.specs.Examples.{filed, k1}
 use Rattle.read.proofs.ShutOut.{K1, k1-read}
 use Rattle.listing.specs.Decimal.{digitsWithin, decimal}

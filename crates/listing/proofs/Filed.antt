@@ -18,14 +18,15 @@ use Rattle.form.specs.declared.limits.Limits.{Limits}
 use Rattle.form.specs.Limits.{Lawful}
 use Rattle.table.specs.Rows.{Table, segmentRowSize}
 use Rattle.table.specs.Reading.{Room, accepted, reading, stated}
-use Rattle.table.specs.Back.{linesOf, written}
+use Rattle.table.specs.inner.Back.{linesOf, written}
 use Rattle.table.specs.Lent.{Lent, withinLimits, counted, lent}
 use Rattle.table.proofs.Accepting.{Accepted, accepting}
 use Rattle.table.proofs.RowNumbers.{judged-few}
 use Rattle.read.specs.Answering.{roomOf}
 use Rattle.table.proofs.Room.{front-at, roomy-text, roomy-segments, roomy-leaves}
 use Rattle.write.specs.inner.RowByRow.{Sized}
-use Rattle.write.specs.Writing.{ReadTo, isTable, writing}
+use Rattle.write.specs.Writing.{ReadTo, writing}
+use Rattle.write.specs.inner.ReadsBack.{isTable}
 use Rattle.write.specs.Answer.{answer, writtenSize}
 use Rattle.write.proofs.SameTables.{same-parts}
 use Rattle.write.proofs.RoundTrip.{reads-back}

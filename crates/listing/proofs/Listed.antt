@@ -15,7 +15,7 @@ use Rattle.form.specs.Numbers.{shortBuffer}
 use Rattle.table.specs.declared.Card.{Card}
 use Rattle.table.specs.Rows.{Table}
 use Rattle.table.specs.Reading.{Outcome, refused, accepted, reading}
-use Rattle.table.specs.Back.{written}
+use Rattle.table.specs.inner.Back.{written}
 use Rattle.read.specs.declared.Answer.{Answer}
 use Rattle.read.specs.Answering.{answerOf, textPut, segmentsPut, leavesPut, roomOf, Gives, ReadAs}
 use Rattle.read.proofs.OnlyOne.{reading-numbered}

@@ -17,7 +17,7 @@ use Rattle.form.specs.Numbers.{shortBuffer}
 use Rattle.table.specs.declared.Card.{Card}
 use Rattle.table.specs.Rows.{kindIn, ownerIn, firstIn, countIn}
 use Rattle.table.specs.Reading.{Outcome, refused, accepted, reading}
-use Rattle.table.specs.Back.{written}
+use Rattle.table.specs.inner.Back.{written}
 use Rattle.read.specs.Answering.{roomOf, textPut, segmentsPut, leavesPut}
 use Rattle.listing.specs.Decimal.{decimal}
 

@@ -14,7 +14,8 @@ use Rattle.laws.proofs.Parts.{left-cons}
 use Rattle.laws.proofs.Searching.{firstOf, firstOf-holds, Searching, search-begins, search-hit, search-miss, search-done}
 use Rattle.laws.proofs.Tests.{Tested, passed, failed, tested, and-second, and-both, and-fails-first, and-fails-second}
 use Rattle.table.specs.Lent.{Lent, withinBuffers}
-use Rattle.table.specs.Rows.{leafRowSize, segmentIn, fieldIn, placeIn, startIn, lengthIn}
+use Rattle.table.specs.Rows.{leafRowSize, placeIn, startIn, lengthIn}
+use Rattle.table.specs.inner.Columns.{segmentIn, fieldIn}
 use Rattle.table.proofs.Lent.{text-within}
 use Rattle.look.specs.declared.leaf.Sought.{Sought}
 use Rattle.look.specs.declared.leaf.Sought.the-variants.{At, Nothing}

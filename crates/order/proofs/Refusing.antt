@@ -9,7 +9,7 @@ use native.Mathlib.Omega.{arith}
 use lib.Dec.{eqb}
 use lib.ListN.{length}
 use borrow.Author.Tests.{ne-eqb}
-use Rattle.laws.specs.Lists.{firstOf}
+use Rattle.laws.specs.inner.First.{firstOf}
 use Rattle.laws.proofs.Lists.{firstOf-earlier}
 use Rattle.laws.proofs.Tests.{Tested, passed, failed, tested}
 use Rattle.order.specs.Watcher.{watched}

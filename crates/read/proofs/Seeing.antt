@@ -11,7 +11,8 @@ use lib.Dec.{eqb}
 use lib.ListN.{length, getD, drop, length-append, length-map}
 use lib.Seq.{drop-append-le}
 use borrow.Author.Tests.{eq-eqb, ne-eqb}
-use Rattle.laws.specs.Lists.{same, among, count, firstFrom, firstOf}
+use Rattle.laws.specs.Lists.{same, among, count, firstFrom}
+use Rattle.laws.specs.inner.First.{firstOf}
 use Rattle.laws.specs.Texts.{bytes}
 use Rattle.laws.specs.inner.Sums.{sumOf}
 use Rattle.laws.specs.Every.{All, none}

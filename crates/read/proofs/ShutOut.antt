@@ -13,7 +13,8 @@ use Rattle.form.specs.Limits.{form}
 use Rattle.form.specs.Numbers.{longLine}
 use Rattle.order.specs.Owners.{level}
 use Rattle.table.specs.declared.Card.{Card}
-use Rattle.table.specs.Rows.{segmentRowSize, leafRowSize, ownerIn, segmentIn, Table}
+use Rattle.table.specs.Rows.{segmentRowSize, leafRowSize, ownerIn, Table}
+use Rattle.table.specs.inner.Columns.{segmentIn}
 use Rattle.table.specs.Reading.{Room, Outcome, refused, accepted, short, reading, stated}
 use Rattle.table.specs.Examples.{Example, Says, refuses, files, says, read, filed, examples, k1, k6, k10}
 use Rattle.table.proofs.Accepting.{refuse-passed}

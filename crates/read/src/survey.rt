@@ -15,7 +15,7 @@ use order::watcher::Watcher;
 ghost use mathlib.Core.Path.{_≡_};
 ghost use Prim.Native.Nat.{_+_, _-_, _≤_, _<_};
 ghost use lib.ListN.{length, set, take, drop};
-ghost use Rattle.laws.specs.Lists.{firstOf};
+ghost use Rattle.laws.specs.inner.First.{firstOf};
 ghost use Rattle.order.specs.inner.Telling.{followsBy};
 ghost use Rattle.read.specs.inner.Seeing.{nothingSeen, textJoined, kindSeen, watching, segmentShut, segmentBegun};
 ghost use Rattle.read.specs.inner.Underway.{Seeable, StepOf};

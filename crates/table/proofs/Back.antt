@@ -14,7 +14,7 @@ use Rattle.form.specs.Header.{splitting}
 use Rattle.line.specs.Lines.{CR}
 use Rattle.table.specs.Leaves.{Leaf, split}
 use Rattle.table.specs.Rows.{Table, allLeaves, tableOf}
-use Rattle.table.specs.Back.{leafAt, leavesOf, separatorsAt, separatorsIn, between, unsplitFrom, unsplit, segmentsOf}
+use Rattle.table.specs.inner.Back.{leafAt, leavesOf, separatorsAt, separatorsIn, between, unsplitFrom, unsplit, segmentsOf}
 use Rattle.table.specs.inner.Flat.{leaf, raised, flat, Without, gluedTo, glued}
 use Rattle.table.specs.inner.Filed.{headerBytes, Filed}
 use Rattle.table.proofs.Splitting.{split-gluedTo}

@@ -16,7 +16,7 @@ use Rattle.laws.proofs.Parts.{left-cons}
 use Rattle.laws.proofs.Tests.{and-first, and-second, and-both}
 use Rattle.table.specs.Leaves.{Leaf}
 use Rattle.table.specs.Rows.{leafRowSize, leafRowsFrom, textOf, placeIn, startIn, lengthIn}
-use Rattle.table.specs.Back.{leafAt}
+use Rattle.table.specs.inner.Back.{leafAt}
 use Rattle.table.specs.inner.RowTests.{endToEnd}
 
 -- the step laws of the test

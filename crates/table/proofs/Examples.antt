@@ -17,7 +17,7 @@ use Rattle.order.specs.Owners.{levels, level, nearest, isC, owner, ownersAfter,
 use Rattle.table.specs.Leaves.{onto, split, leaves, segmentLeaves, headerLeaves, leavesFrom, messageLeaves, kindOfSegment, contextOfHeader}
 use Rattle.table.specs.Rows.{segmentRowsFrom, leafRowsFrom, textOf, kindsOf, contextIn, allLeaves, tableOf}
 use Rattle.table.specs.Reading.{refuseIf, refuseAt, stated, short, firstUnknown, judged, ofMessage, reading}
-use Rattle.table.specs.Back.{leafAt, leavesOf, separatorsAt, between, unsplitFrom, unsplit, segmentsOf, linesOf, written}
+use Rattle.table.specs.inner.Back.{leafAt, leavesOf, separatorsAt, between, unsplitFrom, unsplit, segmentsOf, linesOf, written}
 use Rattle.table.specs.Examples.{Example, Says, says, read, filed, examples, k1, k5, k6, k10, k11, k12}
 
 -- reading each message gives what the example says

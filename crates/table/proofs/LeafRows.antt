@@ -17,7 +17,7 @@ use Rattle.form.specs.declared.separators.Separators.{Separators}
 use Rattle.form.specs.Header.{splitting}
 use Rattle.table.specs.Leaves.{Leaf, segmentLeaves, headerLeaves, leavesFrom, messageLeaves}
 use Rattle.table.specs.Rows.{leafRowSize, leafRowsFrom, textOf, allLeaves, tableOf}
-use Rattle.table.specs.Back.{leafAt, leavesOf}
+use Rattle.table.specs.inner.Back.{leafAt, leavesOf}
 use Rattle.table.specs.inner.Flat.{leaf, raised, flat, under}
 use Rattle.table.proofs.Flat.{flat-separator, flat-text, segment-flat, header-flat}
 use Rattle.table.proofs.Places.{length-raised}

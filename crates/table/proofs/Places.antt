@@ -13,7 +13,7 @@ use Rattle.laws.specs.Lists.{among, firstFrom}
 use Rattle.laws.specs.Every.{All, none, also}
 use Rattle.laws.proofs.Tests.{Tested, passed, failed, tested}
 use Rattle.laws.proofs.Lists.{among-miss, first-hit, first-miss, first-least}
-use Rattle.table.specs.Back.{between}
+use Rattle.table.specs.inner.Back.{between}
 use Rattle.table.specs.inner.Flat.{ones, raised}
 use Rattle.table.proofs.Flat.{raised-here, raised-later}
 

@@ -15,7 +15,7 @@ use Rattle.laws.proofs.Lists.{among-miss, among-first}
 use Rattle.laws.proofs.Tests.{Tested, passed, failed, tested, and-first, and-second, and-both, and-fails-first, and-fails-second, not-holds}
 use Rattle.form.specs.Header.{different}
 use Rattle.line.specs.Lines.{space}
-use Rattle.table.specs.Back.{between}
+use Rattle.table.specs.inner.Back.{between}
 use Rattle.table.specs.inner.Flat.{ones, raised}
 use Rattle.table.specs.inner.Sound.{Plain, onward}
 use Rattle.table.specs.inner.RowTests.{nextPlace, leafText}

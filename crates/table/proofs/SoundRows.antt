@@ -22,7 +22,7 @@ use Rattle.line.specs.Lines.{CR}
 use Rattle.table.specs.Leaves.{Leaf}
 use Rattle.table.specs.Rows.{textOf}
 use Rattle.table.specs.inner.Flat.{ones, leaf, raised}
-use Rattle.table.specs.Back.{between}
+use Rattle.table.specs.inner.Back.{between}
 use Rattle.table.specs.inner.Sound.{Plain, Sound, last, next}
 use Rattle.table.specs.inner.RowTests.{nextPlace, leafText, goOn, goOnFrom}
 use Rattle.table.proofs.LeafTexts.{AllText}

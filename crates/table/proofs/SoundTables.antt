@@ -12,7 +12,7 @@ use Rattle.form.specs.Header.{splitting}
 use Rattle.line.specs.Lines.{CR}
 use Rattle.table.specs.Leaves.{Leaf, split}
 use Rattle.table.specs.Rows.{Table, allLeaves}
-use Rattle.table.specs.Back.{leavesOf, separatorsIn, between, unsplitFrom, unsplit, segmentsOf}
+use Rattle.table.specs.inner.Back.{leavesOf, separatorsIn, between, unsplitFrom, unsplit, segmentsOf}
 use Rattle.table.specs.inner.Flat.{Without, flat, glued}
 use Rattle.table.specs.inner.Filed.{headerBytes, Filed}
 use Rattle.table.specs.inner.Sound.{Sound}

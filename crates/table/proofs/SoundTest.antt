@@ -9,7 +9,7 @@ use Rattle.laws.specs.Lists.{same, among}
 use Rattle.laws.specs.Every.{none, also}
 use Rattle.laws.proofs.Tests.{Tested, passed, failed, tested, and-both, and-first, and-second}
 use Rattle.laws.proofs.Lists.{same-self, same-equal}
-use Rattle.table.specs.Back.{between}
+use Rattle.table.specs.inner.Back.{between}
 use Rattle.table.specs.inner.Flat.{raised}
 use Rattle.table.specs.inner.Sound.{Plain, plain, onward}
 use Rattle.table.proofs.Places.{between-raised}

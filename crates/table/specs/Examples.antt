@@ -11,7 +11,7 @@ use Rattle.line.specs.Cutting.{cut}
 use Rattle.order.specs.Owners.{level}
 use Rattle.table.specs.Rows.{Table}
 use Rattle.table.specs.Reading.{Outcome, refused, accepted, stated, reading}
-use Rattle.table.specs.Back.{segmentsOf, written}
+use Rattle.table.specs.inner.Back.{segmentsOf, written}
 
 -- what an example says: a refusal, or a table with the bytes that it is written in and the lines that each segment takes
 pub data Says : Type 0 where

@@ -1,7 +1,6 @@
 pub mod Leaves
 pub mod Rows
 pub mod Reading
-pub mod Back
 pub mod Examples
 pub mod Lent
 pub mod inner

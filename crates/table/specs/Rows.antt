@@ -46,12 +46,6 @@ pub record RowIs (rows : List ℕ) (i kind owner first count : ℕ) : Type 0 whe
   pub count-is : countIn rows i ≡ count
 
 -- the columns of a leaf's row (T3), in row i of the leaf rows, counted from 0: segment and field, the whole place, start and length of the text
-abbrev pub segmentIn : List ℕ → ℕ → ℕ
-segmentIn rows i = getD rows (i * leafRowSize) 0
-
-abbrev pub fieldIn : List ℕ → ℕ → ℕ
-fieldIn rows i = getD rows (i * leafRowSize + 1) 0
-
 abbrev pub placeIn : List ℕ → ℕ → List ℕ
 placeIn rows i = take 5 (drop (i * leafRowSize) rows)
 

@@ -11,11 +11,12 @@ use Rattle.form.specs.declared.separators.Separators.{Separators}
 use Rattle.form.specs.Limits.{Lawful}
 use Rattle.table.specs.declared.Card.{Card}
 use Rattle.line.specs.Cutting.{unlines}
-use Rattle.table.specs.Back.{leavesOf, separatorsAt, segmentsOf, linesOf, written}
+use Rattle.table.specs.inner.Back.{leavesOf, separatorsAt, segmentsOf, linesOf, written}
 use Rattle.write.specs.declared.Written.{Written}
 use Rattle.write.specs.declared.lines.Going.{Going}
 use Rattle.table.specs.Lent.{Lent, counted, lent}
-use Rattle.write.specs.Writing.{writes, isTable, writing}
+use Rattle.write.specs.Writing.{writes, writing}
+use Rattle.write.specs.inner.ReadsBack.{isTable}
 use Rattle.write.specs.inner.Passing.{Writable, WrittenOut}
 use Rattle.write.specs.Answer.{answer, outputAfter, GivesWriting}
 use Rattle.write.specs.inner.Message.{messageWritten, Tested}

@@ -1,10 +1,10 @@
 -- What the writer's contract says (rules N1 to N3, W1 to W4): one outcome on all inputs; 12 exactly where the output is short, 13 exactly where
 -- no message reads to the lent table, and a refusal leaves the output; what is written reads to the table, in the fewest bytes and lines.
 -- Assumes nothing.
-use mathlib.Core.Bool.{true, false, true≢false}
+use mathlib.Core.Bool.{Bool, true, false, true≢false}
 use mathlib.Core.List.{List, _++_}
 use mathlib.Core.Logic.{_↔_}
-use mathlib.Core.Path.{_≡_, sym, ap, ap₂, _∙_, subst⁻¹}
+use mathlib.Core.Path.{_≡_, refl, sym, ap, ap₂, _∙_, subst⁻¹}
 use Prim.Native.Nat.{ℕ, _+_, _≤_, _<_}
 use native.Mathlib.Omega.{arith}
 use lib.Dec.{ltb}
@@ -18,17 +18,21 @@ use Rattle.form.specs.declared.limits.Limits.{Limits}
 use Rattle.form.specs.Limits.{Lawful}
 use Rattle.form.specs.Numbers.{shortOutput, noTable}
 use Rattle.line.specs.Lines.{walk, texts}
+use Rattle.line.specs.Joining.{joined}
+use Rattle.line.specs.Cutting.{cuts}
 use Rattle.line.proofs.Walking.{texts-sound}
 use Rattle.table.specs.Lent.{Lent, withinBuffers, counted}
 use Rattle.table.specs.Reading.{accepted, reading, stated}
-use Rattle.table.specs.Back.{linesOf, written}
+use Rattle.table.proofs.Accepting.{accepting}
+use Rattle.table.specs.inner.Back.{linesOf, written}
 use Rattle.write.specs.declared.Written.{Written}
-use Rattle.write.specs.Writing.{ReadTo, refuses, writes, isTable, writing}
+use Rattle.write.specs.Writing.{ReadTo, refuses, writes, writing}
+use Rattle.write.specs.inner.ReadsBack.{isTable}
 use Rattle.write.specs.Answer.{answer, outputAfter, WroteAs}
 use Rattle.write.specs.Wrote.{WroteTable}
 use Rattle.write.proofs.Fewest.{least-bytes, least-lines}
-use Rattle.write.proofs.LentTables.{within-buffers, is-table, short-refused, no-table-refused, table-written-out, writes-back}
-use Rattle.write.proofs.RoundTrip.{reads-back}
+use Rattle.write.proofs.LentTables.{within-buffers, is-table, short-refused, no-table-refused, table-written-out, accepted-lines, writes-back}
+use Rattle.write.proofs.RoundTrip.{table-lines, table-separator, reads-back}
 use Rattle.write.proofs.RowByRow.{row-by-row}
 
 -- what is stored at the front of a list that has room for it, and what is left behind it
@@ -62,6 +66,9 @@ module _ (L : Limits) (lawful : Lawful L) (levels : ℕ → ℕ → ℕ) (table 
   pub table-exactly : (isTable L levels table ≡ true) ↔ ReadTo L levels (counted table)
   table-exactly = (λ h. is-table L lawful levels table .0 h .1, λ to. is-table L lawful levels table .1 (within to, to))
 
+  pub tested-exactly : (r : Bool) → r ≡ isTable L levels table → (r ≡ true) ↔ ReadTo L levels (counted table)
+  tested-exactly r e = (λ yes. table-exactly .0 (sym e ∙ yes), λ to. e ∙ table-exactly .1 to)
+
   -- the three outcomes of writing, and when each comes
   data Outcome (output : ℕ) : Type 0 where
     short : output < L .bytes → writing L levels table output ≡ refuses shortOutput → Outcome output
@@ -79,6 +86,17 @@ module _ (L : Limits) (lawful : Lawful L) (levels : ℕ → ℕ → ℕ) (table 
       by (failed s) (failed r) =
           none (ltb-false output (L .bytes) s) (λ to. true≢false (sym (table-exactly .1 to) ∙ r))
           (no-table-refused L lawful levels table output s r)
+
+  -- what is written is the cut of its own joined segments
+  cut-itself : (bytes : List ℕ) → bytes ≡ written L (counted table) → reading L levels (stated L) bytes ≡ accepted (counted table)
+      → texts (walk L bytes) ≡ cuts L (table .card .separator) (joined (table .card .separator) (texts (walk L bytes)))
+  unfolding counted
+  cut-itself bytes message read =
+      let w = accepting L levels (stated L) bytes (counted table) .0 read in
+      ap (λ (s : List ℕ). texts (walk L s)) message
+      ∙ accepted-lines L lawful levels w
+      ∙ table-lines lawful w
+      ∙ ap (λ (f : ℕ). cuts L f (joined f (texts (walk L bytes)))) (sym (table-separator lawful w))
 
   module _ {output output′ : List ℕ} {r : Written} (wrote : WroteAs L levels table output r output′) where
     -- one outcome
@@ -160,6 +178,10 @@ module _ (L : Limits) (lawful : Lawful L) (levels : ℕ → ℕ → ℕ) (table 
           lines = ap (λ (a : Written). a .lines) told ∙ w .walked ∙ sym (ap (λ (s : List ℕ). length (texts (walk L s))) front);
           short =
               subst⁻¹ (λ (s : List ℕ). All (λ (t : List ℕ). length t ≤ L .line) (texts (walk L s))) front (walked-short L lawful bytes);
+          filled =
+              subst⁻¹
+              (λ (s : List ℕ). texts (walk L s) ≡ cuts L (table .card .separator) (joined (table .card .separator) (texts (walk L s)))) front
+              (cut-itself bytes refl (w .reads));
           rest = ap₂ drop size stored ∙ drop-append-seam bytes (drop (length bytes) output) ∙ sym (ap (λ (n : ℕ). drop n output) size);
         }
 

@@ -8,9 +8,10 @@ use lib.ListN.{length}
 use Rattle.form.specs.declared.limits.Limits.{Limits}
 use Rattle.form.specs.Numbers.{shortOutput, noTable}
 use Rattle.table.specs.Rows.{Table}
-use Rattle.table.specs.Back.{linesOf, written}
+use Rattle.table.specs.inner.Back.{linesOf, written}
 use Rattle.table.specs.Lent.{Lent, withinLimits, withinBuffers, counted}
-use Rattle.write.specs.Writing.{Writing, refuses, writes, readsBack, isTable, writing}
+use Rattle.write.specs.Writing.{Writing, refuses, writes, writing}
+use Rattle.write.specs.inner.ReadsBack.{readsBack, isTable}
 
 module _ (L : Limits) (levels : ℕ → ℕ → ℕ) where
   -- what the two answers are made of

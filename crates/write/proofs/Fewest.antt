@@ -18,7 +18,7 @@ use Rattle.line.proofs.Walking.{texts-sound}
 use Rattle.line.proofs.Fewest as line
 use Rattle.table.specs.Rows.{Table}
 use Rattle.table.specs.Reading.{Room, accepted, reading}
-use Rattle.table.specs.Back.{segmentsOf, linesOf, written}
+use Rattle.table.specs.inner.Back.{segmentsOf, linesOf, written}
 use Rattle.table.proofs.Accepting.{Accepted, accepting}
 use Rattle.table.proofs.Filing.{segmentsOfAccepted}
 use Rattle.write.proofs.RoundTrip.{table-lines, table-written}

@@ -17,8 +17,9 @@ use Rattle.laws.proofs.Tests.{and-first, and-second, and-fails-first}
 use Rattle.form.specs.Header.{allAllowed, different, five, splitting}
 use Rattle.line.specs.Lines.{space}
 use Rattle.table.specs.inner.Flat.{ones}
-use Rattle.table.specs.Rows.{leafRowSize, fieldIn, placeIn, startIn}
-use Rattle.table.specs.Back.{leafAt, separatorsAt}
+use Rattle.table.specs.Rows.{leafRowSize, placeIn, startIn}
+use Rattle.table.specs.inner.Columns.{fieldIn}
+use Rattle.table.specs.inner.Back.{leafAt, separatorsAt}
 use Rattle.table.specs.inner.RowTests.{endToEnd, nextPlace, leafText, goOn, goOnFrom}
 use Rattle.table.proofs.EndToEnd.{ends-start, ends-later, ends-last, ended-from}
 use Rattle.write.specs.inner.Local.{thirdPlace}

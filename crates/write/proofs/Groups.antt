@@ -18,9 +18,10 @@ use Rattle.laws.proofs.Tables.{length-values, getD-values}
 use Rattle.laws.proofs.Tests.{Tested, passed, failed, tested, never-both, and-first, and-passed, and-fails-first}
 use Rattle.form.specs.Names.{numberAmong, contextNames}
 use Rattle.table.specs.Leaves.{Leaf}
-use Rattle.table.specs.Rows.{countIn, segmentIn, fieldIn}
+use Rattle.table.specs.Rows.{countIn}
+use Rattle.table.specs.inner.Columns.{segmentIn, fieldIn}
 use Rattle.table.specs.inner.Flat.{leaf}
-use Rattle.table.specs.Back.{leafAt}
+use Rattle.table.specs.inner.Back.{leafAt}
 use Rattle.table.specs.inner.BySegment.{segmentOf, withLeaf, bySegment, kindAmong, numberOfField, contextAmong}
 use Rattle.table.proofs.BySegment.{InSegment, Ended, group-first}
 use Rattle.write.specs.inner.Asked.{KindsAndLeaves}

@@ -18,8 +18,9 @@ use Rattle.laws.proofs.Parts.{left-cons}
 use Rattle.laws.proofs.Tests.{Tested, passed, failed, tested, and-first, and-second, and-passed, and-both, never-both}
 use Rattle.form.specs.declared.separators.Separators.{Separators}
 use Rattle.table.specs.inner.Flat.{ones}
-use Rattle.table.specs.Rows.{leafRowSize, fieldIn, placeIn, startIn, lengthIn}
-use Rattle.table.specs.Back.{leafAt, separatorsAt}
+use Rattle.table.specs.Rows.{leafRowSize, placeIn, startIn, lengthIn}
+use Rattle.table.specs.inner.Columns.{fieldIn}
+use Rattle.table.specs.inner.Back.{leafAt, separatorsAt}
 use Rattle.table.specs.inner.RowTests.{nextPlace}
 use Rattle.table.proofs.RowTests.{next-same, next-raised}
 use Rattle.write.specs.inner.Tests.{finer, headerLeavesAt}

@@ -14,7 +14,7 @@ use Rattle.laws.proofs.Cases.{equal-or-not}
 use Rattle.laws.proofs.Tests.{never-both}
 use Rattle.form.specs.Header as header
 use Rattle.table.specs.Rows.{leafRowSize, textOf, startIn, lengthIn, placeIn, width}
-use Rattle.table.specs.Back.{leafAt}
+use Rattle.table.specs.inner.Back.{leafAt}
 use Rattle.table.specs.inner.RowTests.{nextPlace}
 use Rattle.write.specs.inner.Asked.{TextStated}
 use Rattle.write.specs.inner.Tests.{Decides, InText, Laid, leavesBetween}

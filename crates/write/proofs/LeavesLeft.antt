@@ -20,7 +20,7 @@ use Rattle.form.specs.Header.{splitting}
 use Rattle.line.specs.Lines.{CR}
 use Rattle.line.specs.Cutting.{unlines}
 use Rattle.table.specs.Leaves.{Leaf}
-use Rattle.table.specs.Back.{leafAt, between, unsplitFrom, unsplit}
+use Rattle.table.specs.inner.Back.{leafAt, between, unsplitFrom, unsplit}
 use Rattle.write.specs.declared.lines.Going.{Going}
 use Rattle.write.specs.inner.Filling.{Stand, stand, segmentClosed, puts, Fits, InSegment}
 use Rattle.write.specs.inner.Asked.{PartInside, RoomForEnd, SeparatorFits}

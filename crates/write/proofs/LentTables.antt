@@ -23,7 +23,7 @@ use Rattle.line.proofs.Written.{walk-written}
 use Rattle.table.specs.inner.Filed.{headerBytes}
 use Rattle.table.specs.Rows.{Table, segmentRowSize, leafRowSize, textOf}
 use Rattle.table.specs.Reading.{accepted, reading, stated}
-use Rattle.table.specs.Back.{leavesOf, linesOf, written}
+use Rattle.table.specs.inner.Back.{leavesOf, linesOf, written}
 use Rattle.table.proofs.Lent.{segments-within, leaves-within, text-within}
 use Rattle.table.proofs.Accepting.{Accepted, accepting}
 use Rattle.table.proofs.BySegment.{concat-bySegment}
@@ -33,7 +33,8 @@ use Rattle.table.proofs.SegmentBytes.{texts-written}
 use Rattle.table.specs.Lent.{Lent, withinLimits, countsFit, withinBuffers, counted}
 use Rattle.write.specs.inner.Local.{groupsOf, Local}
 use Rattle.write.specs.inner.RowByRow.{Sized, RowByRow}
-use Rattle.write.specs.Writing.{ReadTo, readsBack, isTable, refuses, writes, writing}
+use Rattle.write.specs.Writing.{ReadTo, refuses, writes, writing}
+use Rattle.write.specs.inner.ReadsBack.{readsBack, isTable}
 use Rattle.write.proofs.LocalTables.{read-local}
 use Rattle.write.proofs.RoundTrip.{table-lines, table-written, reads-back, reads-same}
 use Rattle.write.proofs.RowByRow.{row-by-row, rows-local}
@@ -131,7 +132,7 @@ module _ (L : Limits) (lawful : Lawful L) (levels : ℕ → ℕ → ℕ) where
 
   -- the lines of what is written for a table are those that the walk hands out
   module _ {t : Table} {m : List ℕ} (w : Accepted L levels (stated L) m t) where
-    accepted-lines : texts (walk L (written L t)) ≡ linesOf L t
+    pub accepted-lines : texts (walk L (written L t)) ≡ linesOf L t
     unfolding headerBytes
     accepted-lines =
         ap (λ (s : List ℕ). texts (walk L s)) (table-written lawful w)

@@ -15,7 +15,7 @@ use Rattle.table.specs.inner.Fitting.{FitsRows}
 use Rattle.table.specs.Lent.{Lent, withinLimits, withinBuffers, counted}
 use Rattle.table.proofs.Lent.{few-segments, few-leaves, few-bytes}
 use Rattle.table.proofs.Width.{form-fits}
-use Rattle.write.specs.Writing.{readsBack, isTable}
+use Rattle.write.specs.inner.ReadsBack.{readsBack, isTable}
 use Rattle.write.specs.Answer.{writtenSize}
 use Rattle.write.specs.inner.Asked.{Testable, CountedTable}
 use Rattle.write.proofs.LentTables.{counted-sized}

@@ -29,7 +29,7 @@ use Rattle.table.specs.inner.Flat.{leaf}
 use Rattle.table.specs.inner.Filed.{headerBytes, Filed}
 use Rattle.table.specs.Rows.{Table, segmentRowSize, leafRowSize, kindsOf, contextIn, segmentRowsOf, leafRowsFrom, textOf, allLeaves, tableOf}
 use Rattle.table.specs.Reading.{Room, short, stated}
-use Rattle.table.specs.Back.{leafAt, leavesOf, separatorsAt, separatorsIn, segmentsOf, linesOf, written}
+use Rattle.table.specs.inner.Back.{leafAt, leavesOf, separatorsAt, separatorsIn, segmentsOf, linesOf, written}
 use Rattle.table.specs.inner.Sound.{Sound}
 use Rattle.table.specs.inner.BySegment.{writtenBytes}
 use Rattle.table.proofs.Accepting.{Known, Judged, Accepted, accepting}
@@ -40,7 +40,8 @@ use Rattle.table.proofs.LeafTexts.{AllText, text-leaves}
 use Rattle.table.proofs.LeafRows.{leavesOf-table}
 use Rattle.table.proofs.SoundTables.{headed, afterHeader, filed-leaves, filed-sound, table-filed, table-leaves}
 use Rattle.write.specs.inner.Local.{groupsOf, kindsAmong, thirdPlace, Local}
-use Rattle.write.specs.Writing.{ReadTo, readsBack}
+use Rattle.write.specs.Writing.{ReadTo}
+use Rattle.write.specs.inner.ReadsBack.{readsBack}
 use Rattle.write.proofs.TableLeaves.{headed-leaves, same-groups, same-kinds, same-context, same-count, same-bytes, leaf-count}
 use Rattle.write.proofs.SameTables.{same-numbers, same-parts}
 use Rattle.write.proofs.RoundTrip.{written-accepted, reads-back, reads-same}

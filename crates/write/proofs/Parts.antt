@@ -10,7 +10,7 @@ use Rattle.laws.proofs.Tests.{and-passed, and-both, and-fails-first, and-fails-
 use Rattle.form.specs.declared.separators.Separators.{Separators}
 use Rattle.form.specs.Header.{allAllowed, different, five, splitting}
 use Rattle.order.specs.inner.Place.{misplaced}
-use Rattle.table.specs.Back.{separatorsAt}
+use Rattle.table.specs.inner.Back.{separatorsAt}
 use Rattle.table.specs.inner.BySegment.{contextAmong}
 use Rattle.table.specs.inner.RowTests.{goOnFrom}
 use Rattle.write.specs.inner.Local.{thirdPlace}

@@ -17,7 +17,7 @@ use Rattle.form.specs.Header.{splitting}
 use Rattle.table.specs.Leaves.{Leaf}
 use Rattle.table.specs.inner.Flat.{leaf}
 use Rattle.table.specs.Rows.{Table, segmentRowSize, segmentRowsFrom, kindIn, ownerIn}
-use Rattle.table.specs.Back.{leafAt, leavesOf, separatorsAt, separatorsIn}
+use Rattle.table.specs.inner.Back.{leafAt, leavesOf, separatorsAt, separatorsIn}
 use Rattle.table.specs.inner.BySegment.{kindAmong}
 use Rattle.table.specs.inner.RowTests.{goOnFrom}
 use Rattle.table.proofs.SegmentRows.{row-states}

@@ -16,7 +16,8 @@ use Rattle.laws.proofs.Cases.{equal-or-not}
 use Rattle.laws.proofs.Lists.{same-equal}
 use Rattle.laws.proofs.Tests.{and-first, and-second}
 use Rattle.form.specs.Header as header
-use Rattle.table.specs.Rows.{leafRowSize, segmentIn, fieldIn, placeIn}
+use Rattle.table.specs.Rows.{leafRowSize, placeIn}
+use Rattle.table.specs.inner.Columns.{segmentIn, fieldIn}
 use Rattle.table.specs.inner.Flat.{ones}
 use Rattle.table.specs.inner.RowTests.{nextPlace}
 use Rattle.table.proofs.RowTests.{next-raised}

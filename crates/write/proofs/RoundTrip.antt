@@ -23,12 +23,13 @@ use Rattle.line.proofs.Written.{Worded, no-fault-written, joined-written}
 use Rattle.table.specs.inner.Filed.{headerBytes, Filed}
 use Rattle.table.specs.Rows.{Table, tableOf}
 use Rattle.table.specs.Reading.{Room, accepted, short, reading, stated}
-use Rattle.table.specs.Back.{segmentsOf, linesOf, written}
+use Rattle.table.specs.inner.Back.{segmentsOf, linesOf, written}
 use Rattle.table.proofs.Accepting.{Judged, Accepted, accepting}
 use Rattle.table.proofs.Back.{filed-some, segmentsOf-table}
 use Rattle.table.proofs.Filing.{segmentsOfAccepted, accepted-header, accepted-worded, accepted-filed, all-whole}
 use Rattle.table.proofs.HeaderBytes.{bytes-sound, header-text}
-use Rattle.write.specs.Writing.{ReadTo, readsBack}
+use Rattle.write.specs.Writing.{ReadTo}
+use Rattle.write.specs.inner.ReadsBack.{readsBack}
 use Rattle.write.proofs.SameTables.{gives-accepted}
 
 -- what is written begins with the header's bytes: the first line keeps them

@@ -18,7 +18,7 @@ use Rattle.line.specs.Lines.{CR}
 use Rattle.table.specs.Leaves.{Leaf}
 use Rattle.table.specs.inner.Filed.{headerBytes}
 use Rattle.table.specs.Rows.{Table, leafRowSize, leafRowsFrom, textOf}
-use Rattle.table.specs.Back.{leafAt, leavesOf, separatorsIn, segmentsOf}
+use Rattle.table.specs.inner.Back.{leafAt, leavesOf, separatorsIn, segmentsOf}
 use Rattle.table.specs.inner.RowTests.{endToEnd, goOnFrom}
 use Rattle.table.specs.inner.Sound.{Sound}
 use Rattle.table.proofs.EndToEnd.{end-to-end}
@@ -28,7 +28,7 @@ use Rattle.table.proofs.SegmentRows.{owners-stated, length-stated}
 use Rattle.table.proofs.SoundRows.{coarsest-different, begin-sound}
 use Rattle.write.specs.inner.Local.{HeaderRows, groupsOf, kindsAmong, thirdPlace, Local}
 use Rattle.write.specs.inner.RowByRow.{Sized, RowByRow}
-use Rattle.write.specs.Writing.{readsBack}
+use Rattle.write.specs.inner.ReadsBack.{readsBack}
 use Rattle.write.proofs.TableLeaves.{headed-leaves}
 use Rattle.write.proofs.LocalTables.{local-leaves, reads-back-local}
 

@@ -13,7 +13,7 @@ use Rattle.laws.proofs.Tests.{Tested, passed, failed, tested, never-both}
 use Rattle.form.specs.declared.separators.Separators.{Separators}
 use Rattle.form.specs.Header.{splitting}
 use Rattle.line.specs.Lines.{CR}
-use Rattle.table.specs.Back.{between}
+use Rattle.table.specs.inner.Back.{between}
 use Rattle.table.specs.inner.RowTests.{nextPlace}
 use Rattle.table.proofs.Places.{between-here, between-later}
 use Rattle.table.proofs.RowTests.{next-same}
@@ -21,7 +21,8 @@ use Rattle.write.specs.inner.Asked.{NextThere, NextInside}
 use Rattle.write.proofs.PlaceTests.{five-at}
 use Rattle.write.specs.inner.Filling.{InSegment}
 use Rattle.write.specs.inner.Passing.{leading}
-use Rattle.table.specs.Rows.{leafRowSize, segmentIn, placeIn}
+use Rattle.table.specs.Rows.{leafRowSize, placeIn}
+use Rattle.table.specs.inner.Columns.{segmentIn}
 
 -- no separator between two places is CR where none of all is
 between-clear : {ps : List ℕ} → InSegment ps → (from to : List ℕ) → eqb (between ps from to) CR ≡ false

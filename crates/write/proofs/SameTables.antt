@@ -15,7 +15,7 @@ use Rattle.laws.proofs.Tests.{and-first, and-second, and-both}
 use Rattle.table.specs.declared.Card.{Card}
 use Rattle.table.specs.Rows.{Table}
 use Rattle.table.specs.Reading.{Outcome, refused, accepted}
-use Rattle.write.specs.Writing.{sameCard, sameTable, givesTable}
+use Rattle.write.specs.inner.ReadsBack.{sameCard, sameTable, givesTable}
 
 -- cards of the same numbers are equal, and tables of the same parts
 cardOf : ℕ → ℕ → ℕ → ℕ → ℕ → Card

@@ -15,8 +15,9 @@ use Rattle.laws.specs.Tables.{values}
 use Rattle.laws.proofs.Cases.{less-or-not, equal-or-not}
 use Rattle.laws.proofs.Tests.{and-first, and-second, and-passed, and-both, and-fails-first, and-fails-second}
 use Rattle.form.specs.Names.{numberAmong}
-use Rattle.table.specs.Rows.{leafRowSize, kindIn, firstIn, countIn, segmentIn, fieldIn, startIn, lengthIn}
-use Rattle.table.specs.Back.{leafAt}
+use Rattle.table.specs.Rows.{leafRowSize, kindIn, firstIn, countIn, startIn, lengthIn}
+use Rattle.table.specs.inner.Columns.{segmentIn, fieldIn}
+use Rattle.table.specs.inner.Back.{leafAt}
 use Rattle.table.specs.inner.BySegment.{segmentOf, fieldOf, goesOn, numberOfField}
 use Rattle.table.proofs.FieldNames.{number-one, number-more, number-later}
 use Rattle.write.specs.inner.Asked.{FieldThere, TextStated}

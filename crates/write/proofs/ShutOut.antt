@@ -10,10 +10,10 @@ use Rattle.form.specs.declared.limits.Limits.{Limits}
 use Rattle.form.specs.Limits.{Lawful}
 use Rattle.order.specs.Owners.{owners}
 use Rattle.table.specs.Rows.{textOf}
-use Rattle.table.specs.Back.{leavesOf}
+use Rattle.table.specs.inner.Back.{leavesOf}
 use Rattle.table.specs.Lent.{Lent, counted}
 use Rattle.write.specs.inner.Tests.{kindColumn, ownerColumn}
-use Rattle.write.specs.Writing.{isTable}
+use Rattle.write.specs.inner.ReadsBack.{isTable}
 use Rattle.write.proofs.RowByRow.{rows-local}
 use Rattle.write.proofs.LentTables.{counted-sized, is-table-rows}
 use Rattle.write.proofs.TableTest.{rows-passed}

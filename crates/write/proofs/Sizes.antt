@@ -12,10 +12,10 @@ use Rattle.form.specs.declared.limits.Limits.{Limits}
 use Rattle.form.specs.Limits.{Lawful}
 use Rattle.form.proofs.HeaderRule.{sound-header}
 use Rattle.table.specs.Reading.{stated}
-use Rattle.table.specs.Back.{linesOf, written}
+use Rattle.table.specs.inner.Back.{linesOf, written}
 use Rattle.table.specs.Lent.{Lent, withinLimits, withinBuffers, counted}
 use Rattle.table.proofs.Accepting.{accepting}
-use Rattle.write.specs.Writing.{readsBack, isTable}
+use Rattle.write.specs.inner.ReadsBack.{readsBack, isTable}
 use Rattle.write.specs.Answer.{answer, writtenSize}
 use Rattle.write.specs.inner.Tests.{sizeBack}
 use Rattle.write.proofs.LentTables.{table-written-out, no-table-refused, writes-back}

@@ -19,7 +19,7 @@ use Rattle.table.specs.Leaves.{Leaf, messageLeaves}
 use Rattle.table.specs.inner.Flat.{leaf}
 use Rattle.table.specs.inner.Filed.{headerBytes, Filed}
 use Rattle.table.specs.Rows.{Table, kindsOf, contextIn, allLeaves}
-use Rattle.table.specs.Back.{leafAt, leavesOf, separatorsAt, separatorsIn}
+use Rattle.table.specs.inner.Back.{leafAt, leavesOf, separatorsAt, separatorsIn}
 use Rattle.table.specs.inner.Sound.{Sound, last, next}
 use Rattle.table.specs.inner.BySegment.{bySegment, kindAmong, contextAmong, writtenBytes}
 use Rattle.table.proofs.BySegment.{segments-found, length-messageLeaves}

@@ -21,7 +21,7 @@ use Rattle.order.specs.Owners.{owners}
 use Rattle.order.proofs.Owner.{length-owners}
 use Rattle.table.specs.Leaves.{Leaf}
 use Rattle.table.specs.Rows.{Table, segmentRowsOf, kindIn}
-use Rattle.table.specs.Back.{leavesOf, written}
+use Rattle.table.specs.inner.Back.{leavesOf, written}
 use Rattle.table.specs.inner.BySegment.{fieldOf, goesOn, numberOfField, kindAmong, contextAmong, writtenBytes}
 use Rattle.table.specs.inner.RowTests.{endToEnd}
 use Rattle.table.proofs.SegmentRows.{owners-stated}
@@ -29,7 +29,7 @@ use Rattle.write.specs.inner.Local.{groupsOf, kindsAmong}
 use Rattle.write.specs.inner.RowByRow.{Sized, RowByRow}
 use Rattle.write.specs.inner.Asked.{NarrowTable, CountedTable}
 use Rattle.write.specs.inner.Tests.{groupsIn, InText, Laid, KindsStated, groupsStated, kindColumn, ownerColumn, inOrder, SoundRows, sizeBack}
-use Rattle.write.specs.Writing.{readsBack}
+use Rattle.write.specs.inner.ReadsBack.{readsBack}
 use Rattle.write.proofs.LocalTables.{local-bytes}
 use Rattle.write.proofs.RowByRow.{row-by-row, rows-local}
 use Rattle.write.proofs.GoingOn.{sound-next}

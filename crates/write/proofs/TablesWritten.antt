@@ -23,14 +23,14 @@ use Rattle.line.specs.Lines.{CR, space}
 use Rattle.line.specs.Cutting.{cuts, unlines}
 use Rattle.table.specs.Leaves.{Leaf, split}
 use Rattle.table.specs.inner.Flat.{leaf}
-use Rattle.table.specs.Back.{leafAt, leavesOf, separatorsAt, separatorsIn, unsplit, segmentsOf, linesOf, written}
+use Rattle.table.specs.inner.Back.{leafAt, leavesOf, separatorsAt, separatorsIn, unsplit, segmentsOf, linesOf, written}
 use Rattle.table.specs.inner.RowTests.{nextPlace}
 use Rattle.table.proofs.EndToEnd.{ended-within, ended-first, ended-next}
 use Rattle.write.specs.declared.lines.Going.{Going}
 use Rattle.table.specs.Lent.{Lent, withinBuffers, counted}
 use Rattle.write.specs.inner.Local.{Local}
 use Rattle.write.specs.inner.RowByRow.{RowByRow}
-use Rattle.write.specs.Writing.{isTable}
+use Rattle.write.specs.inner.ReadsBack.{isTable}
 use Rattle.write.specs.inner.Filling.{InSegment}
 use Rattle.write.specs.inner.Asked.{FourWithin}
 use Rattle.write.specs.inner.Passing.{linesOfRows, NextAfter, Writable, WrittenOut}

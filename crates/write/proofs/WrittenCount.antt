@@ -18,7 +18,7 @@ use Rattle.form.specs.Limits.{Lawful, lineCount, linesUnder, roundedUp}
 use Rattle.form.proofs.LineCount.{one-line, more-lines, lines-lawful}
 use Rattle.table.specs.Leaves.{Leaf}
 use Rattle.table.specs.Rows.{textOf}
-use Rattle.table.specs.Back.{leafAt}
+use Rattle.table.specs.inner.Back.{leafAt}
 use Rattle.table.specs.inner.BySegment.{segmentOf, withLeaf, bySegment, segmentBytes, writtenBytes}
 use Rattle.table.proofs.BySegment.{concat-bySegment}
 use Rattle.write.specs.inner.Tests.{groupsIn, InText, leavesBetween, SegmentEnd}

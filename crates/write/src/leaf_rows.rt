@@ -12,7 +12,7 @@ ghost use lib.ListN.{length, take, drop};
 ghost use Rattle.laws.specs.Lists.{same};
 ghost use Rattle.laws.specs.Tables.{values};
 ghost use Rattle.form.specs.Header.{splitting};
-ghost use Rattle.table.specs.Back.{leafAt, separatorsAt};
+ghost use Rattle.table.specs.inner.Back.{leafAt, separatorsAt};
 ghost use Rattle.table.specs.inner.Classes.{classTable};
 ghost use Rattle.table.specs.inner.RowTests.{nextPlace, leafText, goOnFrom};
 ghost use Rattle.write.specs.inner.Local.{thirdPlace};

@@ -11,7 +11,7 @@ ghost use mathlib.Core.Path.{_≡_};
 ghost use Rattle.form.specs.Limits.{form};
 ghost use Rattle.order.specs.Owners.{level};
 ghost use Rattle.order.specs.inner.Levels.{levelIn};
-ghost use Rattle.write.specs.Writing.{isTable};
+ghost use Rattle.write.specs.inner.ReadsBack.{isTable};
 ghost use Rattle.write.specs.Answer.{writtenSize};
 ghost use Rattle.table.specs.Lent.{lent, withinLimits};
 ghost use Rattle.write.specs.inner.Tests.{Decides, SoundRows, tableWith, sizeBack, soundLeaves, inOrder};

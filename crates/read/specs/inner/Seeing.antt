@@ -4,7 +4,7 @@ use mathlib.Core.Bool.{Bool, true, false, not}
 use mathlib.Core.List.{List}
 use Prim.Native.Nat.{ℕ, _+_}
 use lib.Dec.{eqb}
-use Rattle.laws.specs.Lists.{firstOf}
+use Rattle.laws.specs.inner.First.{firstOf}
 use Rattle.form.specs.Names.{kindNames, contextNames}
 use Rattle.form.specs.inner.Spelling.{packedAmong}
 use Rattle.order.specs.Watcher.{begun}

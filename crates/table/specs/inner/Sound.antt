@@ -7,7 +7,7 @@ use Prim.Native.Nat.{ℕ}
 use Rattle.laws.specs.Lists.{same, among}
 use Rattle.laws.specs.Every.{All}
 use Rattle.table.specs.Leaves.{Leaf}
-use Rattle.table.specs.Back.{between}
+use Rattle.table.specs.inner.Back.{between}
 use Rattle.table.specs.inner.Flat.{leaf, raised}
 
 -- that no byte of a text is one of some separators

@@ -13,7 +13,8 @@ use Rattle.line.specs.Lines.{CR}
 use Rattle.order.specs.inner.Followers.{followers}
 use Rattle.order.specs.inner.Levels.{LevelsBelow}
 use Rattle.table.specs.declared.Card.{Card}
-use Rattle.table.specs.Rows.{Table, segmentRowSize, leafRowSize, segmentIn, fieldIn, startIn, lengthIn, width}
+use Rattle.table.specs.Rows.{Table, segmentRowSize, leafRowSize, startIn, lengthIn, width}
+use Rattle.table.specs.inner.Columns.{segmentIn, fieldIn}
 use Rattle.table.specs.inner.Fitting.{FitsRows}
 use Rattle.write.specs.inner.RowByRow.{Sized}
 use Rattle.write.specs.inner.Tests.{groupsIn, InText, PlacesFollow, SegmentEnd, KindsStated, groupsStated, headerLeavesAt}

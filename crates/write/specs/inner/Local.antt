@@ -16,7 +16,7 @@ use Rattle.order.specs.Owners.{owners}
 use Rattle.table.specs.Leaves.{Leaf}
 use Rattle.table.specs.inner.Flat.{leaf}
 use Rattle.table.specs.Rows.{Table, segmentRowsOf, leafRowsFrom, textOf}
-use Rattle.table.specs.Back.{leafAt, leavesOf, separatorsIn}
+use Rattle.table.specs.inner.Back.{leafAt, leavesOf, separatorsIn}
 use Rattle.table.specs.inner.Sound.{Sound}
 use Rattle.table.specs.inner.BySegment.{bySegment, kindAmong, contextAmong, writtenBytes}
 

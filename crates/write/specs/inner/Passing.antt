@@ -14,7 +14,7 @@ use Rattle.form.specs.Header.{splitting}
 use Rattle.line.specs.Lines.{CR}
 use Rattle.line.specs.Cutting.{cuts, unlines}
 use Rattle.table.specs.Leaves.{split}
-use Rattle.table.specs.Back.{leafAt, between, unsplit}
+use Rattle.table.specs.inner.Back.{leafAt, between, unsplit}
 use Rattle.table.specs.inner.RowTests.{nextPlace}
 use Rattle.write.specs.inner.Filling.{InSegment}
 use Rattle.write.specs.declared.lines.Going.{Going}

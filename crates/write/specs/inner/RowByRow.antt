@@ -8,7 +8,7 @@ use lib.ListN.{length, drop}
 use Rattle.form.specs.declared.limits.Limits.{Limits}
 use Rattle.form.specs.Header.{splitting}
 use Rattle.table.specs.Rows.{Table, segmentRowSize, leafRowSize}
-use Rattle.table.specs.Back.{leavesOf, separatorsIn}
+use Rattle.table.specs.inner.Back.{leavesOf, separatorsIn}
 use Rattle.table.specs.inner.RowTests.{endToEnd, goOnFrom, statedRows}
 use Rattle.write.specs.inner.Local.{HeaderRows, KindRows, FewRows, groupsOf, thirdPlace}
 

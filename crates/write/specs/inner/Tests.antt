@@ -15,13 +15,14 @@ use Rattle.form.specs.Names.{numberAmong}
 use Rattle.line.specs.Lines.{space}
 use Rattle.table.specs.declared.Card.{Card}
 use Rattle.table.specs.Leaves.{Leaf}
-use Rattle.table.specs.Rows.{Table, segmentRowSize, leafRowSize, kindIn, ownerIn, firstIn, countIn, segmentIn, placeIn, width}
-use Rattle.table.specs.Back.{leafAt, separatorsAt, written}
+use Rattle.table.specs.Rows.{Table, segmentRowSize, leafRowSize, kindIn, ownerIn, firstIn, countIn, placeIn, width}
+use Rattle.table.specs.inner.Columns.{segmentIn}
+use Rattle.table.specs.inner.Back.{leafAt, separatorsAt, written}
 use Rattle.order.specs.Owners.{owners}
 use Rattle.order.specs.inner.Place.{misplaced}
 use Rattle.table.specs.inner.BySegment.{bySegment, kindAmong, contextAmong, numberOfField}
 use Rattle.table.specs.inner.RowTests.{endToEnd, nextPlace, goOnFrom}
-use Rattle.write.specs.Writing.{readsBack}
+use Rattle.write.specs.inner.ReadsBack.{readsBack}
 use Rattle.write.specs.inner.Local.{thirdPlace}
 
 -- a test that is passed exactly where something holds

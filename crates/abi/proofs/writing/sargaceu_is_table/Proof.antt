@@ -5,7 +5,7 @@ use Rattle.form.specs.Limits.{form}
 use Rattle.order.specs.Owners.{level}
 use Rattle.table.specs.declared.Card.{Card}
 use Rattle.table.specs.Lent.{lent}
-use Rattle.write.specs.Writing.{isTable}
+use Rattle.write.specs.inner.ReadsBack.{isTable}
 use borrow.Author.Needs.{needs}
 use Rattle.abi.proofs.writing.sargaceu_is_table.Statement.{statement}
 use Rattle.abi.proofs.writing.sargaceu_is_table.Tie as tie
