@@ -11,7 +11,7 @@ use lib.Dec.{eqb}
 use lib.ListN.{length, getD}
 use borrow.Author.Tests.{eqb-true, eq-eqb, ne-eqb}
 use Rattle.laws.specs.Lists.{same, among, count, numbered, firstFrom}
-use Rattle.laws.specs.inner.First.{firstOf}
+use Rattle.laws.specs.inner.First.{firstHeld}
 use Rattle.laws.proofs.Tests.{Tested, passed, failed, tested, either, never-both, and-first, and-second, and-both}
 
 module _ {ℓ ℓ′} {A : Type ℓ} {B : Type ℓ′} (f : A → B) where
@@ -238,34 +238,34 @@ found-among b n (a ∷ s) e = go (tested (eqb b a)) (found-among b (suc n) s)
     go (passed h) ih = among-hit a s b h
     go (failed h) ih = among-miss a s b h ∙ ih (λ z. e (first-miss (eqb b) n a s h ∙ z))
 
--- `firstOf`: an earlier place stays, and else this one counts
+-- `firstHeld`: an earlier place stays, and else this one counts
 module _ (earlier : ℕ) (holds : Bool) (place : ℕ) where
-  pub firstOf-earlier : (earlier ≡ 0 → ⊥) → firstOf earlier holds place ≡ earlier
-  unfolding firstOf
-  firstOf-earlier h = rw (ne-eqb earlier 0 h, firstOf)
+  pub firstHeld-earlier : (earlier ≡ 0 → ⊥) → firstHeld earlier holds place ≡ earlier
+  unfolding firstHeld
+  firstHeld-earlier h = rw (ne-eqb earlier 0 h, firstHeld)
 
-  pub firstOf-here : earlier ≡ 0 → firstOf earlier holds place ≡ elim holds [ true ↦ place | false ↦ 0 ]
-  unfolding firstOf
-  firstOf-here h = rw (eq-eqb earlier 0 h, firstOf)
+  pub firstHeld-here : earlier ≡ 0 → firstHeld earlier holds place ≡ elim holds [ true ↦ place | false ↦ 0 ]
+  unfolding firstHeld
+  firstHeld-here h = rw (eq-eqb earlier 0 h, firstHeld)
 
 -- with one more element, the first that passes is an earlier one or this
 module _ {ℓ} {A : Type ℓ} (p : A → Bool) where
   pub first-append : (n : ℕ) (s : List A) (a : A)
-      → firstFrom p (suc n) (s ++ a ∷ []) ≡ firstOf (firstFrom p (suc n) s) (p a) (suc n + length s)
-  unfolding firstFrom firstOf
-  first-append n [] a = ap (firstOf 0 (p a)) (sym (add-zero (suc n)))
+      → firstFrom p (suc n) (s ++ a ∷ []) ≡ firstHeld (firstFrom p (suc n) s) (p a) (suc n + length s)
+  unfolding firstFrom firstHeld
+  first-append n [] a = ap (firstHeld 0 (p a)) (sym (add-zero (suc n)))
   first-append n (b ∷ s) a = go (tested (p b)) (first-append (suc n) s a)
     where
-      go : Tested (p b) → firstFrom p (suc (suc n)) (s ++ a ∷ []) ≡ firstOf (firstFrom p (suc (suc n)) s) (p a) (suc (suc n) + length s)
-          → firstFrom p (suc n) (b ∷ (s ++ a ∷ [])) ≡ firstOf (firstFrom p (suc n) (b ∷ s)) (p a) (suc n + suc (length s))
+      go : Tested (p b) → firstFrom p (suc (suc n)) (s ++ a ∷ []) ≡ firstHeld (firstFrom p (suc (suc n)) s) (p a) (suc (suc n) + length s)
+          → firstFrom p (suc n) (b ∷ (s ++ a ∷ [])) ≡ firstHeld (firstFrom p (suc n) (b ∷ s)) (p a) (suc n + suc (length s))
       go (passed e) ih =
           let here : firstFrom p (suc n) (b ∷ s) ≡ suc n = first-hit p (suc n) b s e in
           first-hit p (suc n) b (s ++ a ∷ []) e ∙ sym here
-          ∙ sym (firstOf-earlier (firstFrom p (suc n) (b ∷ s)) (p a) (suc n + suc (length s)) (λ z. omega arith))
+          ∙ sym (firstHeld-earlier (firstFrom p (suc n) (b ∷ s)) (p a) (suc n + suc (length s)) (λ z. omega arith))
       go (failed e) ih =
           let place : suc (suc n) + length s ≡ suc n + suc (length s) = omega arith in
           first-miss p (suc n) b (s ++ a ∷ []) e ∙ ih
-          ∙ ap₂ (λ (f k : ℕ). firstOf f (p a) k) (sym (first-miss p (suc n) b s e)) place
+          ∙ ap₂ (λ (f k : ℕ). firstHeld f (p a) k) (sym (first-miss p (suc n) b s e)) place
 
   -- no more pass than there are
   pub count-within : (s : List A) → count p s ≤ length s

@@ -9,8 +9,8 @@ use native.Mathlib.Omega.{arith}
 use lib.Dec.{eqb}
 use lib.ListN.{length}
 use borrow.Author.Tests.{ne-eqb}
-use Rattle.laws.specs.inner.First.{firstOf}
-use Rattle.laws.proofs.Lists.{firstOf-earlier}
+use Rattle.laws.specs.inner.First.{firstHeld}
+use Rattle.laws.proofs.Lists.{firstHeld-earlier}
 use Rattle.laws.proofs.Tests.{Tested, passed, failed, tested}
 use Rattle.order.specs.Watcher.{watched}
 use Rattle.order.specs.inner.Telling.{tellOf}
@@ -35,8 +35,8 @@ watched-append w (j ∷ ks) k = watched-append (tellOf w j .watcher) ks k
 
 -- its first no is an earlier one, or this
 pub no-append : (at : ℕ) (w : Watcher) (ks : List ℕ) (k : ℕ)
-    → firstNo (suc at) w (ks ++ k ∷ []) ≡ firstOf (firstNo (suc at) w ks) (not (tellOf (watched w ks) k .yes)) (suc at + length ks)
-unfolding firstNo firstOf watched
+    → firstNo (suc at) w (ks ++ k ∷ []) ≡ firstHeld (firstNo (suc at) w ks) (not (tellOf (watched w ks) k .yes)) (suc at + length ks)
+unfolding firstNo firstHeld watched
 no-append at w [] k = go (tested (tellOf w k .yes))
   where
     go : Tested (tellOf w k .yes) → firstNo (suc at) w (k ∷ []) ≡ elim (not (tellOf w k .yes)) [ true ↦ suc at + 0 | false ↦ 0 ]
@@ -48,16 +48,16 @@ no-append at w (j ∷ ks) k = go (tested (tellOf w j .yes)) (no-append (suc at) 
     last = not (tellOf (watched w (j ∷ ks)) k .yes)
 
     go : Tested (tellOf w j .yes)
-        → firstNo (suc (suc at)) (tellOf w j .watcher) (ks ++ k ∷ []) ≡ firstOf (firstNo (suc (suc at)) (tellOf w j .watcher) ks) last (suc (suc at) + length ks)
-        → firstNo (suc at) w (j ∷ (ks ++ k ∷ [])) ≡ firstOf (firstNo (suc at) w (j ∷ ks)) last (suc at + suc (length ks))
+        → firstNo (suc (suc at)) (tellOf w j .watcher) (ks ++ k ∷ []) ≡ firstHeld (firstNo (suc (suc at)) (tellOf w j .watcher) ks) last (suc (suc at) + length ks)
+        → firstNo (suc at) w (j ∷ (ks ++ k ∷ [])) ≡ firstHeld (firstNo (suc at) w (j ∷ ks)) last (suc at + suc (length ks))
     go (passed e) ih =
         let place : suc (suc at) + length ks ≡ suc at + suc (length ks) = omega arith in
         no-later (suc at) w j (ks ++ k ∷ []) e ∙ ih
-        ∙ ap₂ (λ (f p : ℕ). firstOf f last p) (sym (no-later (suc at) w j ks e)) place
+        ∙ ap₂ (λ (f p : ℕ). firstHeld f last p) (sym (no-later (suc at) w j ks e)) place
     go (failed e) ih =
         let here : firstNo (suc at) w (j ∷ ks) ≡ suc at = no-here (suc at) w j ks e in
         no-here (suc at) w j (ks ++ k ∷ []) e ∙ sym here
-        ∙ sym (firstOf-earlier (firstNo (suc at) w (j ∷ ks)) last (suc at + suc (length ks)) (λ z. omega arith))
+        ∙ sym (firstHeld-earlier (firstNo (suc at) w (j ∷ ks)) last (suc at + suc (length ks)) (λ z. omega arith))
 
 -- the place of refusal 10 once all kinds have been told: the first no, or one past the end where the last kind, C aside, is no L
 unfoldable pub placeTold : ℕ → ℕ → ℕ → ℕ

@@ -12,7 +12,7 @@ use lib.ListN.{length, getD, drop, length-append, length-map}
 use lib.Seq.{drop-append-le}
 use borrow.Author.Tests.{eq-eqb, ne-eqb}
 use Rattle.laws.specs.Lists.{same, among, count, firstFrom}
-use Rattle.laws.specs.inner.First.{firstOf}
+use Rattle.laws.specs.inner.First.{firstHeld}
 use Rattle.laws.specs.Texts.{bytes}
 use Rattle.laws.specs.inner.Sums.{sumOf}
 use Rattle.laws.specs.Every.{All, none}
@@ -101,13 +101,13 @@ module _ (s : Survey) (may : ℕ → ℕ → ℕ → Bool) where
 
   pub closed-as : {kind : ℕ} {watcher : Watcher} {told : Told} {unknown misplaced : ℕ}
       → kind ≡ kindSeen s → watcher ≡ watching s → told ≡ tellBy may watcher kind
-      → unknown ≡ firstOf (s .unknown) (eqb kind 0) (s .segments) → misplaced ≡ firstOf (s .misplaced) (not (told .yes)) (s .segments)
+      → unknown ≡ firstHeld (s .unknown) (eqb kind 0) (s .segments) → misplaced ≡ firstHeld (s .misplaced) (not (told .yes)) (s .segments)
       → closedStruct unknown misplaced (told .watcher) ≡ segmentShut may s
   unfolding toldNow
   closed-as {told = told} {unknown = unknown} k v x u p =
       ap (λ (b : ℕ). closedStruct unknown b (told .watcher)) p
-      ∙ ap₂ (λ (a : ℕ) (y : Told). closedStruct a (firstOf (s .misplaced) (not (y .yes)) (s .segments)) (y .watcher))
-      (u ∙ ap (λ (j : ℕ). firstOf (s .unknown) (eqb j 0) (s .segments)) k) (x ∙ ap₂ (tellBy may) v k)
+      ∙ ap₂ (λ (a : ℕ) (y : Told). closedStruct a (firstHeld (s .misplaced) (not (y .yes)) (s .segments)) (y .watcher))
+      (u ∙ ap (λ (j : ℕ). firstHeld (s .unknown) (eqb j 0) (s .segments)) k) (x ∙ ap₂ (tellBy may) v k)
 
 -- leaves: a text joined to the last segment brings one for each separator, one more segment brings one
 module _ (ps : Separators) where
@@ -233,16 +233,16 @@ module _ (ps : Separators) (s : Survey) (table : List ℕ) (is : table ≡ follo
     unknown-closed : segmentShut (followsBy table) s .unknown ≡ firstUnknown (kindsOf ps (segmentsOf done last))
     unfolding firstUnknown
     unknown-closed =
-        ap₂ (λ (a : ℕ) (b : Bool). firstOf a b (s .segments)) (w .judged .unknown) (zero-test (kindSeen s) ∙ ap (eqb 0) (kind-seen ps s done last w))
-        ∙ ap (firstOf (firstUnknown (kindsOf ps done)) (eqb 0 (kindOfSegment ps last))) (sym place-here)
+        ap₂ (λ (a : ℕ) (b : Bool). firstHeld a b (s .segments)) (w .judged .unknown) (zero-test (kindSeen s) ∙ ap (eqb 0) (kind-seen ps s done last w))
+        ∙ ap (firstHeld (firstUnknown (kindsOf ps done)) (eqb 0 (kindOfSegment ps last))) (sym place-here)
         ∙ sym (first-append (eqb 0) 0 (kindsOf ps done) (kindOfSegment ps last))
         ∙ ap (firstFrom (eqb 0) 1) (sym (kinds-last done last))
 
     misplaced-closed : segmentShut (followsBy table) s .misplaced ≡ firstNo 1 (watcherOf done last) (kindsOf ps (segmentsOf done last))
     misplaced-closed =
-        ap₂ (λ (a : ℕ) (b : Bool). firstOf a (not b) (s .segments)) (misplaced-seen done last w) (ap (λ (x : Told). x .yes) told-seen)
+        ap₂ (λ (a : ℕ) (b : Bool). firstHeld a (not b) (s .segments)) (misplaced-seen done last w) (ap (λ (x : Told). x .yes) told-seen)
         ∙ ap
-        (firstOf (firstNo 1 (watcherOf done last) (kindsOf ps done))
+        (firstHeld (firstNo 1 (watcherOf done last) (kindsOf ps done))
         (not (tellOf (watched (watcherOf done last) (kindsOf ps done)) (kindOfSegment ps last) .yes)))
         (sym place-here)
         ∙ sym (no-append 0 (watcherOf done last) (kindsOf ps done) (kindOfSegment ps last))

@@ -15,7 +15,7 @@ use order::watcher::Watcher;
 ghost use mathlib.Core.Path.{_≡_};
 ghost use Prim.Native.Nat.{_+_, _-_, _≤_, _<_};
 ghost use lib.ListN.{length, set, take, drop};
-ghost use Rattle.laws.specs.inner.First.{firstOf};
+ghost use Rattle.laws.specs.inner.First.{firstHeld};
 ghost use Rattle.order.specs.inner.Telling.{followsBy};
 ghost use Rattle.read.specs.inner.Seeing.{nothingSeen, textJoined, kindSeen, watching, segmentShut, segmentBegun};
 ghost use Rattle.read.specs.inner.Underway.{Seeable, StepOf};
@@ -157,7 +157,7 @@ fn note(kinds: &mut [u8], segment: usize, kind: u8)
 
 // The first place at which a test held, 0 standing for none: the earlier one, or this place where the test holds here.
 fn first_of(earlier: usize, holds: bool, place: usize) -> usize
-    ensures { λ r. ⌜ r ≡ firstOf earlier holds place ⌝ }
+    ensures { λ r. ⌜ r ≡ firstHeld earlier holds place ⌝ }
 {
     if earlier != 0 {
         return earlier;

@@ -5,5 +5,5 @@ use Prim.Native.Nat.{ℕ}
 use lib.Dec.{eqb}
 
 -- the first place at which a test held, 0 standing for none: an earlier one, or this place where the test holds here
-unfoldable pub firstOf : ℕ → Bool → ℕ → ℕ
-firstOf earlier holds place = elim (eqb earlier 0) [ true ↦ elim holds [ true ↦ place | false ↦ 0 ] | false ↦ earlier ]
+unfoldable pub firstHeld : ℕ → Bool → ℕ → ℕ
+firstHeld earlier holds place = elim (eqb earlier 0) [ true ↦ elim holds [ true ↦ place | false ↦ 0 ] | false ↦ earlier ]

@@ -4,7 +4,7 @@ use mathlib.Core.Bool.{Bool, true, false, not}
 use mathlib.Core.List.{List}
 use Prim.Native.Nat.{ℕ, _+_}
 use lib.Dec.{eqb}
-use Rattle.laws.specs.inner.First.{firstOf}
+use Rattle.laws.specs.inner.First.{firstHeld}
 use Rattle.form.specs.Names.{kindNames, contextNames}
 use Rattle.form.specs.inner.Spelling.{packedAmong}
 use Rattle.order.specs.Watcher.{begun}
@@ -64,8 +64,8 @@ segmentShut may s =
     record {
       segments = s .segments;
       separators = s .separators;
-      unknown = firstOf (s .unknown) (eqb (kindSeen s) 0) (s .segments);
-      misplaced = firstOf (s .misplaced) (not (toldNow may s .yes)) (s .segments);
+      unknown = firstHeld (s .unknown) (eqb (kindSeen s) 0) (s .segments);
+      misplaced = firstHeld (s .misplaced) (not (toldNow may s .yes)) (s .segments);
       watcher = toldNow may s .watcher;
       kind = s .kind;
       context = s .context;
