@@ -19,17 +19,33 @@ static void show(const char *what, size_t row, uint16_t field, uint16_t subfield
         printf("%s %.*s\n", what, (int)leaf[1], (const char *)text + leaf[0]);
 }
 
+/* Every leaf of a field: a value of 10^4 is two repetitions, and the second line of a text is one. */
+static void show_whole(const char *what, size_t row, uint16_t field)
+{
+    const uint16_t *segment = segments + (row - 1) * SARGACEU_SEGMENT_ROW;
+    bool shown = false;
+    for (size_t i = 0; i < segment[3]; i++) {
+        const uint16_t *leaf = leaves + (segment[2] - 1 + i) * SARGACEU_LEAF_ROW;
+        if (leaf[1] != field)
+            continue;
+        printf("%s %.*s", shown ? " /" : what, leaf[6], (const char *)text + leaf[5]);
+        shown = true;
+    }
+    if (shown)
+        printf("\n");
+}
+
 static void comments(size_t row) /* a C belongs to the segment before it */
 {
     for (size_t c = next(0, SARGACEU_C, row); c != 0; c = next(c, SARGACEU_C, row))
-        show("    comment", c, 4, 1);
+        show_whole("    comment", c, 4);
 }
 
 static void results(size_t order)
 {
     for (size_t x = next(0, SARGACEU_OBX, order); x != 0; x = next(x, SARGACEU_OBX, order)) {
         show("  result", x, 4, 1);
-        show("    value", x, 6, 1);
+        show_whole("    value", x, 6);
         comments(x);
     }
 }

@@ -34,7 +34,7 @@ fn patients(table: &Table) -> io::Result<()> {
 fn results(table: &Table, order: Row) -> io::Result<()> {
     for result in table.children(order, Kind::OBX) {
         show(table, "  result", result.field(4))?;
-        show(table, "    value", result.field(6))?;
+        show_whole(table, "    value", result, 6)?;
         comments(table, result)?;
     }
     Ok(())
@@ -43,7 +43,7 @@ fn results(table: &Table, order: Row) -> io::Result<()> {
 /// A comment belongs to the segment before it, so it is found under that row.
 fn comments(table: &Table, row: Row) -> io::Result<()> {
     let mut comments = table.children(row, Kind::C);
-    comments.try_for_each(|comment| show(table, "    comment", comment.field(4)))
+    comments.try_for_each(|comment| show_whole(table, "    comment", comment, 4))
 }
 
 /// A line with the leaf at a place; a leaf that is not there is not shown.
@@ -54,4 +54,20 @@ fn show(table: &Table, what: &str, place: Place) -> io::Result<()> {
         }
         None => Ok(()),
     }
+}
+
+/// A line with every leaf of a field: a value of `10^4` is two repetitions, and the second line of a text is one.
+fn show_whole(table: &Table, what: &str, row: Row, field: u16) -> io::Result<()> {
+    let leaves = table
+        .row(row)
+        .into_iter()
+        .flat_map(|segment| segment.leaves());
+    let texts: Vec<_> = leaves
+        .filter(|leaf| leaf.place().field == field)
+        .map(|leaf| leaf.bytes())
+        .collect();
+    if texts.is_empty() {
+        return Ok(());
+    }
+    io::stdout().write_all(&[what.as_bytes(), b" ", &texts.join(&b" / "[..]), b"\n"].concat())
 }
