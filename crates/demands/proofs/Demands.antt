@@ -23,7 +23,7 @@ module _ (L : Limits) (lawful : Lawful L) (levels : ℕ → ℕ → ℕ) where
   demand-1 =
       record {
         one-reading = λ message g h. reader.only-one L levels message g h;
-        refused-reading = λ message g refused. reader.refused-unchanged L levels message g refused;
+        refused-reading = λ message g refused. reads.refused-unchanged L levels message g refused;
         one-writing = λ table g h. writes.one-writing L lawful levels table g h;
         refused-writing = λ table g refused. writes.refused-as-it-was L lawful levels table g refused;
         leaf-found = looks.finds-exactly;
@@ -47,7 +47,7 @@ module _ (L : Limits) (lawful : Lawful L) (levels : ℕ → ℕ → ℕ) where
   demand-3 =
       record {
         accepted-exactly = λ message sound g. acceptance.accepted-exactly L levels message _ sound g;
-        misplaced-at = λ message sound g ten. reads.first-misplaced L levels message _ g sound ten;
+        misplaced-at = λ message sound roomy g ten. reads.first-misplaced L levels message _ g sound roomy ten;
         one-derivation = order.one-derivation;
         each-owner = λ message read i h. owners.owners-column read i h;
         watcher-yes = watcher.yes-exactly;

@@ -1,6 +1,7 @@
 -- The three demands (docs/PROMISES.md says them in words), as statements about what the public contracts name: `ReadAs` of the reader,
 -- `WroteAs` of the writer, `isTable` of the table test, `soughtIn`, `rowAfter` and `sameOrder` of the lookups, `tellOf` of the watcher. Each
--- demand holds of any lawful limits and any levels, and so of the form's own: the last lines of proofs/Demands.antt.
+-- demand holds of any lawful limits and any levels, and so of the form's own: the last lines of proofs/Demands.antt. Types from specs.declared
+-- are the structs and enums of src/, field by field; names from specs.inner need not be read, since each is fixed by a statement below.
 -- Assumes nothing.
 use mathlib.Core.Bool.{Bool, true, false}
 use mathlib.Core.List.{List, [], _∷_, _++_}
@@ -20,7 +21,7 @@ use Rattle.order.specs.Watcher.{begun, watched, said}
 use Rattle.order.specs.inner.Telling.{tellOf}
 use Rattle.table.specs.Lent.{Lent, counted}
 use Rattle.table.specs.Rows.{kindsOf, contextIn, RowOf}
-use Rattle.table.specs.Reading.{accepted, reading, stated}
+use Rattle.table.specs.Reading.{accepted, reading, stated, short}
 use Rattle.read.specs.declared.Answer.{Answer}
 use Rattle.read.specs.Answering.{ReadAs, noCard, roomOf}
 use Rattle.read.specs.Acceptance.{Read}
@@ -43,10 +44,10 @@ pub record Demand1 (L : Limits) (levels : ℕ → ℕ → ℕ) : Type 0 where
       → ReadAs L levels message text segments leaves r text₁ segments₁ leaves₁
       → ReadAs L levels message text segments leaves s text₂ segments₂ leaves₂
       → (r ≡ s) × (text₁ ≡ text₂) × (segments₁ ≡ segments₂) × (leaves₁ ≡ leaves₂)
-  -- refused, it leaves the three buffers as they were, and the card is all zero
+  -- refused, it leaves the three buffers as they were, the card is all zero, and the number is 1 to 11
   pub refused-reading : (message : List ℕ) {text segments leaves text′ segments′ leaves′ : List ℕ} {r : Answer}
       → ReadAs L levels message text segments leaves r text′ segments′ leaves′ → (r .number ≡ 0 → ⊥)
-      → (text′ ≡ text) × (segments′ ≡ segments) × (leaves′ ≡ leaves) × (r .card ≡ noCard)
+      → (text′ ≡ text) × (segments′ ≡ segments) × (leaves′ ≡ leaves) × (r .card ≡ noCard) × (r .number ≤ 11)
   -- the writer has one outcome
   pub one-writing : (table : Lent) {output output₁ output₂ : List ℕ} {r s : Written}
       → WroteAs L levels table output r output₁ → WroteAs L levels table output s output₂ → (r ≡ s) × (output₁ ≡ output₂)
@@ -92,7 +93,7 @@ pub record Demand3 (L : Limits) (levels : ℕ → ℕ → ℕ) : Type 0 where
       → (r .number ≡ 0) ↔ Derives (grammar (contextIn ps (segmentsIn L ps message))) (kindsOf ps (segmentsIn L ps message))
   -- refused with 10 at the first segment that may not stand there, or one past the last
   pub misplaced-at : (message : List ℕ) {text segments leaves text′ segments′ leaves′ : List ℕ} {r : Answer} {ps : Separators}
-      → SoundMessage L (roomOf text segments leaves) message ps → ReadAs L levels message text segments leaves r text′ segments′ leaves′
+      → SoundLines L message ps → short L (roomOf text segments leaves) ≡ false → ReadAs L levels message text segments leaves r text′ segments′ leaves′
       → r .number ≡ misplacedKind
       → (n : ℕ) × (r .place ≡ suc n) × FirstMisplaced (contextIn ps (segmentsIn L ps message)) (kindsOf ps (segmentsIn L ps message)) n
   -- the derivation is unique

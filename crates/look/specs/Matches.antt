@@ -16,7 +16,7 @@ use Rattle.look.specs.declared.leaf.Sought.the-variants.{At, Nothing}
 use Rattle.look.specs.Looking.{fits, segmentsFit, hasKindAndOwner, orderAt, orderPlace}
 use Rattle.look.specs.inner.Searching.{soughtIn}
 
--- i is the first of the numbers from `from` up to `to` at which a test holds; it holds at none of them
+-- i is the first of the numbers from `from` on and below `to` at which a test holds; it holds at none of them
 pub record FirstFit (test : ℕ → Bool) (from to i : ℕ) : Type 0 where
   pub later : from ≤ i
   pub within : i < to

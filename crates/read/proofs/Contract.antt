@@ -21,15 +21,16 @@ use Rattle.order.specs.inner.Place.{misplaced}
 use Rattle.order.proofs.Misplaced.{misplaced-means}
 use Rattle.table.specs.Leaves.{split, contextOfHeader}
 use Rattle.table.specs.Rows.{Table, kindsOf, contextIn}
-use Rattle.table.specs.Reading.{Outcome, refused, accepted, refuseIf, refuseAt, judged, reading}
+use Rattle.table.specs.Reading.{Outcome, refused, accepted, refuseIf, refuseAt, short, judged, reading}
 use Rattle.table.proofs.Accepting.{accepting, refuse-passed}
 use Rattle.read.specs.declared.Answer.{Answer}
-use Rattle.read.specs.Answering.{answerOf, roomOf, Gives, ReadAs}
+use Rattle.read.specs.Answering.{noCard, answerOf, roomOf, Gives, ReadAs}
 use Rattle.read.specs.Acceptance.{Read}
-use Rattle.read.specs.Sound.{segmentsIn, SoundLines, SoundMessage}
+use Rattle.read.specs.Sound.{segmentsIn, SoundLines}
 use Rattle.read.proofs.Acceptance.{accepted-read, number-accepted, sound-lines-judged}
 use Rattle.read.proofs.CutAnyhow.{same-contract}
-use Rattle.read.proofs.OnlyOne.{only-one, reading-numbered}
+use Rattle.read.proofs.OnlyOne.{Numbered, only-one, reading-numbered}
+use Rattle.read.proofs.OnlyOne as reader
 
 module _ (L : Limits) (levels : ℕ → ℕ → ℕ) (message : List ℕ) {text segments leaves text′ segments′ leaves′ : List ℕ} {r : Answer}
     (read : ReadAs L levels message text segments leaves r text′ segments′ leaves′) where
@@ -40,6 +41,19 @@ module _ (L : Limits) (levels : ℕ → ℕ → ℕ) (message : List ℕ) {text 
       let t = number-accepted (reading L levels room message) read (reading-numbered L levels room message) .0 e in
       let w = accepting L levels room message (t .0) .0 (t .1) in
       (w .separators, accepted-read L levels message (w .separators) (w .header) read e)
+
+  -- a refused call changes no buffer, its card is all zero, and its number is one of the reader's
+  refused-number : (o : Outcome) → Numbered o → Gives o text segments leaves r text′ segments′ leaves′ → r .number ≤ 11
+  unfolding answerOf
+  refused-number (accepted t) h g = omega (arith, ap (λ (a : Answer). a .number) (g .answer))
+  refused-number (refused n p) h g = omega (arith, ap (λ (a : Answer). a .number) (g .answer), h .1)
+
+  pub refused-unchanged : (r .number ≡ 0 → ⊥)
+      → (text′ ≡ text) × (segments′ ≡ segments) × (leaves′ ≡ leaves) × (r .card ≡ noCard) × (r .number ≤ 11)
+  refused-unchanged h =
+      let room = roomOf text segments leaves in
+      let kept = reader.refused-unchanged L levels message read h in
+      (kept .0, kept .1, kept .2, kept .3, refused-number (reading L levels room message) (reading-numbered L levels room message) read)
 
 -- a test that refuses with another number was passed
 module _ {n k p : ℕ} {else : Outcome} (other : n ≡ k → ⊥) where
@@ -101,14 +115,14 @@ module _ (L : Limits) (levels : ℕ → ℕ → ℕ) (ps : Separators) (segs : L
 
 module _ (L : Limits) (levels : ℕ → ℕ → ℕ) (message : List ℕ) (ps : Separators) {text segments leaves text′ segments′ leaves′ : List ℕ} {r : Answer}
     (read : ReadAs L levels message text segments leaves r text′ segments′ leaves′) where
-  pub first-misplaced : SoundMessage L (roomOf text segments leaves) message ps → r .number ≡ misplacedKind
+  pub first-misplaced : SoundLines L message ps → short L (roomOf text segments leaves) ≡ false → r .number ≡ misplacedKind
       → (q : ℕ) × (r .place ≡ suc q) × FirstMisplaced (contextIn ps (segmentsIn L ps message)) (kindsOf ps (segmentsIn L ps message)) q
   unfolding answerOf
-  first-misplaced s e =
+  first-misplaced sound roomy e =
       let segs = segmentsIn L ps message in
       let room = roomOf text segments leaves in
       let same : reading L levels room message ≡ judged L levels ps segs
-      = sound-lines-judged L levels room message ps (s .sound) ∙ refuse-passed shortBuffer (judged L levels ps segs) (s .roomy) in
+      = sound-lines-judged L levels room message ps sound ∙ refuse-passed shortBuffer (judged L levels ps segs) roomy in
       by (judged L levels ps segs) refl (subst (λ (o : Outcome). Gives o text segments leaves r text′ segments′ leaves′) same read)
     where
       by : (o : Outcome) → judged L levels ps (segmentsIn L ps message) ≡ o → Gives o text segments leaves r text′ segments′ leaves′

@@ -45,7 +45,7 @@ pub record RowIs (rows : List ℕ) (i kind owner first count : ℕ) : Type 0 whe
   pub first-is : firstIn rows i ≡ first
   pub count-is : countIn rows i ≡ count
 
--- the columns of a leaf's row (T3), in row i of the leaf rows, counted from 0: segment and field, the whole place, start and length of the text
+-- the columns of a leaf's row (T3), in row i of the leaf rows, counted from 0: the whole place, start and length of the text
 abbrev pub placeIn : List ℕ → ℕ → List ℕ
 placeIn rows i = take 5 (drop (i * leafRowSize) rows)
 
