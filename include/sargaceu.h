@@ -2,7 +2,7 @@
  * Sargaceu: the reader, the writer and the lookups for laboratory messages in H.PR.I.M. Santé 2.4.
  *
  * Every function takes any bytes, any numbers and any lengths, and returns. None allocates, none keeps anything between two calls,
- * and none touches memory but the buffers of that call, so calls on different buffers may run at the same time.
+ * and none touches memory but the buffers of that call, so calls may run at the same time where none writes to a buffer that another uses.
  *
  * A buffer goes in as a pointer and a count of its elements. Four things no function can test, and every caller owes them: the pointer is
  * not null, not even where the count is 0; as many elements as the count says are there; the pointer is aligned as its type asks (uint16_t

@@ -28,7 +28,7 @@ answer_by() { # PROGRAM PURPOSE [ARGUMENT..]
     (: 3>&1) 2>/dev/null || trouble "standard output is closed"
     if [ $# -eq 1 ]; then expect_file "$1"; else expect_input; fi
     bring_up_to_date "$program" "$repository/target/bin/$crate" check "$crate"
-    if [ $# -eq 1 ]; then listing=$(run "$program" <"$1" 2>&1); else listing=$(run "$program" 2>&1); fi
+    if [ $# -eq 1 ]; then listing=$({ run "$program" <"$1"; } 2>&1); else listing=$(run "$program" 2>&1); fi
     tell $? "${1:-standard input}"
 }
 

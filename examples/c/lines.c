@@ -12,7 +12,7 @@ static bool take_all(void)
     while ((message = realloc(message, room)) != NULL) {
         bytes += fread(message + bytes, 1, room - bytes, stdin);
         if (bytes < room)
-            return true;
+            return !ferror(stdin);
         room *= 2;
     }
     return false;

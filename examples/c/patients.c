@@ -53,6 +53,8 @@ static void results(size_t order)
 int main(void)
 {
     size_t bytes = fread(message, 1, sizeof message, stdin);
+    if (ferror(stdin))
+        return 2;
     uint8_t number = sargaceu_read(message, bytes, text, SARGACEU_TEXT, segments, SARGACEU_SEGMENTS,
                                    leaves, SARGACEU_LEAVES, answer, SARGACEU_READ_ANSWER);
     if (number != SARGACEU_ACCEPTED) {

@@ -9,6 +9,8 @@ int main(void)
 {
     size_t answer[SARGACEU_READ_ANSWER], leaf[SARGACEU_LEAF_ANSWER], *card = answer + 1;
     size_t bytes = fread(message, 1, sizeof message, stdin); /* one byte over the limit: a longer file is refused, not cut */
+    if (ferror(stdin))
+        return 2;
     uint8_t number = sargaceu_read(message, bytes, text, SARGACEU_TEXT, segments, SARGACEU_SEGMENTS,
                                    leaves, SARGACEU_LEAVES, answer, SARGACEU_READ_ANSWER);
     if (number != SARGACEU_ACCEPTED) {

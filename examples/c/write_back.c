@@ -31,7 +31,10 @@ static bool same(const struct table *a, const struct table *b)
 int main(void)
 {
     size_t written[SARGACEU_WRITE_ANSWER];
-    uint8_t number = read_into(&first, message, fread(message, 1, sizeof message, stdin));
+    size_t bytes = fread(message, 1, sizeof message, stdin);
+    if (ferror(stdin))
+        return 2;
+    uint8_t number = read_into(&first, message, bytes);
     if (number != SARGACEU_ACCEPTED) {
         printf("refused: %d at %zu\n", number, first.answer[0]);
         return 1;

@@ -1,8 +1,8 @@
 //! The functions of `include/sargaceu.h`, as the archive has them.
 //!
-//! The header asks two things of a caller, and Rust's slices bring both. No pointer is null: a slice's pointer never is, and it is
-//! aligned, also where the slice is empty. A buffer that is written overlaps no other: it is borrowed as `&mut` during the call. Bytes
-//! and numbers have no forbidden values, so whatever is written there may be read.
+//! The header asks four things of a caller, and Rust's slices bring all of them. No pointer is null and each is aligned, also where the
+//! slice is empty; as many elements as the count says are there. A buffer that is written overlaps no other: it is borrowed as `&mut`
+//! during the call. Bytes and numbers have no forbidden values, so whatever is written there may be read.
 
 extern "C" {
     pub fn sargaceu_read(

@@ -26,7 +26,7 @@
 //!   [`children`](Table::children) finds the rows that belong to a row, [`leaf`](Table::leaf) the text at a [`Place`],
 //!   [`same_order`](Table::same_order) compares two orders.
 //! - [`write`](Table::write) and [`to_message`](Table::to_message) give a message that reads to the same table.
-//! - [`lines`] walks the lines of a file, a [`Watcher`] says which [`Kind`] may come next in a [`Context`], and [`Buffers::list`] lists a
+//! - [`lines()`] walks the lines of a file, a [`Watcher`] says which [`Kind`] may come next in a [`Context`], and [`Buffers::list`] lists a
 //!   message.
 //!
 //! No function panics, whatever it is given. Where the crate asserts something, it is what the library promises.

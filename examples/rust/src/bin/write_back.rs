@@ -8,7 +8,8 @@ fn main() -> io::Result<ExitCode> {
     let mut message = Vec::new();
     io::stdin().read_to_end(&mut message)?;
     match write_back(&message) {
-        Ok(()) => Ok(ExitCode::SUCCESS),
+        Ok(true) => Ok(ExitCode::SUCCESS),
+        Ok(false) => Ok(ExitCode::FAILURE),
         Err(refusal) => {
             println!("refused: {} at {}", refusal.number as u8, refusal.place);
             Ok(ExitCode::FAILURE)
@@ -16,7 +17,8 @@ fn main() -> io::Result<ExitCode> {
     }
 }
 
-fn write_back(message: &[u8]) -> Result<(), Refusal> {
+/// Whether what was written reads to the same table.
+fn write_back(message: &[u8]) -> Result<bool, Refusal> {
     let mut buffers = Buffers::new();
     let table = buffers.read(message)?;
 
@@ -35,5 +37,5 @@ fn write_back(message: &[u8]) -> Result<(), Refusal> {
             "another table"
         }
     );
-    Ok(())
+    Ok(same)
 }
