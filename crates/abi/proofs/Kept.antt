@@ -22,12 +22,13 @@ use Rattle.read.specs.Answering.{answerOf, textPut, segmentsPut, leavesPut}
 use Rattle.write.specs.Writing.{Writing, refuses, writes}
 use Rattle.write.specs.Answer.{answer, outputAfter}
 use Rattle.look.specs.declared.leaf.Sought.{Sought}
-use Rattle.look.specs.declared.leaf.Sought.the-variants.{At, Nothing}
+use Rattle.look.specs.declared.leaf.Sought.the-variants.{At, Empty, NotThere}
+use Rattle.look.specs.Looking.{soughtNumber}
 use Rattle.abi.specs.Cards.{cardNumbers}
 use Rattle.abi.specs.Putting.{putAll}
 use Rattle.abi.specs.Reading.{readNumbers, TellsOutcome, ReadInto}
 use Rattle.abi.specs.Writing.{writeNumbers, TellsWriting, WroteInto}
-use Rattle.abi.specs.Looking.{isThere, leafNumbers, TellsSought}
+use Rattle.abi.specs.Looking.{leafNumbers, TellsSought}
 use Rattle.abi.specs.Lines.{FoundLine}
 use Rattle.abi.specs.Watching.{watcherBytes, watcherOf, saysYes, Watched}
 use Rattle.abi.proofs.Puts.{put-short, put-whole}
@@ -63,18 +64,20 @@ unfolding answer outputAfter writeNumbers
 write-refusal-kept (refuses n) g h = (g .message, g .answers)
 write-refusal-kept (writes bytes lines) g h = absurd (h (g .number))
 
--- `sargaceu_find_leaf` says no: the answer is kept
-pub leaf-not-there-kept : (s : Sought) {numbers numbers′ : List ℕ} → TellsSought s numbers false numbers′ → numbers′ ≡ numbers
-unfolding isThere leafNumbers
-leaf-not-there-kept (At start n) g = absurd (never-both refl (sym (g .found)))
-leaf-not-there-kept Nothing {numbers} g = g .numbers ∙ put-whole numbers [] (omega arith)
+-- `sargaceu_find_leaf` or `sargaceu_find_leaf_in_segment` says not there: the answer is kept
+pub leaf-not-there-kept : (s : Sought) {numbers numbers′ : List ℕ} → TellsSought s numbers 0 numbers′ → numbers′ ≡ numbers
+unfolding soughtNumber leafNumbers
+leaf-not-there-kept (At start n) g = let z : _≡_ {A = ℕ} 0 1 = g .told in absurd (omega arith)
+leaf-not-there-kept Empty g = let z : _≡_ {A = ℕ} 0 2 = g .told in absurd (omega arith)
+leaf-not-there-kept NotThere {numbers} g = g .numbers ∙ put-whole numbers [] (omega arith)
 
 -- it is kept as well where two numbers do not fit it, whatever was found
-pub leaf-short-kept : (s : Sought) {numbers : List ℕ} {r : Bool} {numbers′ : List ℕ}
+pub leaf-short-kept : (s : Sought) {numbers : List ℕ} {r : ℕ} {numbers′ : List ℕ}
     → TellsSought s numbers r numbers′ → length numbers < 2 → numbers′ ≡ numbers
 unfolding leafNumbers
 leaf-short-kept (At start n) {numbers} g h = g .numbers ∙ put-short numbers (start ∷ n ∷ []) h
-leaf-short-kept Nothing {numbers} g h = g .numbers ∙ put-whole numbers [] (omega arith)
+leaf-short-kept Empty {numbers} g h = g .numbers ∙ put-short numbers (0 ∷ 0 ∷ []) h
+leaf-short-kept NotThere {numbers} g h = g .numbers ∙ put-whole numbers [] (omega arith)
 
 -- `sargaceu_line` into an answer that is short: 1, and the answer is kept
 pub line-short-kept : (found : Found) (at : ℕ) (numbers : List ℕ) {r : ℕ} {numbers′ : List ℕ}

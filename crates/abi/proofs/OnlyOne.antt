@@ -14,7 +14,7 @@ use Rattle.look.specs.declared.leaf.Place.{Place}
 use Rattle.look.specs.inner.Searching.{rowAfter, sameOrder}
 use Rattle.abi.specs.Reading.{ReadInto}
 use Rattle.abi.specs.Writing.{WroteInto}
-use Rattle.abi.specs.Looking.{FoundLeaf}
+use Rattle.abi.specs.Looking.{FoundLeaf, FoundLeafInSegment}
 use Rattle.abi.specs.Lines.{FoundLine}
 use Rattle.abi.specs.Watching.{Watched}
 
@@ -42,9 +42,13 @@ write table output answer g h = (
 pub is-table : (table : Lent) (r s : Bool) → r ≡ isTable form level table → s ≡ isTable form level table → r ≡ s
 is-table table r s g h = only-one g h
 
-pub find-leaf : (table : Lent) (place : Place) (answer : List ℕ) {r s : Bool} {answer₁ answer₂ : List ℕ}
+pub find-leaf : (table : Lent) (place : Place) (answer : List ℕ) {r s : ℕ} {answer₁ answer₂ : List ℕ}
     → FoundLeaf table place answer r answer₁ → FoundLeaf table place answer s answer₂ → (r ≡ s) × (answer₁ ≡ answer₂)
-find-leaf table place answer g h = (only-one (g .found) (h .found), only-one (g .numbers) (h .numbers))
+find-leaf table place answer g h = (only-one (g .told) (h .told), only-one (g .numbers) (h .numbers))
+
+pub find-leaf-in-segment : (table : Lent) (place : Place) (answer : List ℕ) {r s : ℕ} {answer₁ answer₂ : List ℕ}
+    → FoundLeafInSegment table place answer r answer₁ → FoundLeafInSegment table place answer s answer₂ → (r ≡ s) × (answer₁ ≡ answer₂)
+find-leaf-in-segment table place answer g h = (only-one (g .told) (h .told), only-one (g .numbers) (h .numbers))
 
 pub next-row : (rows : List ℕ) (count after kind owner r s : ℕ)
     → r ≡ rowAfter rows count after kind owner → s ≡ rowAfter rows count after kind owner → r ≡ s

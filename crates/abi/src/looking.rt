@@ -1,4 +1,4 @@
-// The lookups (F1 to F3).
+// The lookups (F1 to F4).
 use crate::answer;
 use crate::card;
 use look::leaf::Place;
@@ -8,9 +8,9 @@ ghost use mathlib.Core.Path.{_≡_};
 ghost use Rattle.table.specs.Lent.{lent};
 ghost use Rattle.look.specs.inner.Searching.{rowAfter, sameOrder};
 ghost use Rattle.abi.specs.Cards.{cardOf};
-ghost use Rattle.abi.specs.Looking.{givenPlace, FoundLeaf};
+ghost use Rattle.abi.specs.Looking.{givenPlace, TellsSought, FoundLeaf, FoundLeafInSegment};
 
-// Whether the leaf at a place is there (F1); where its text starts and how long it is go into the answer.
+// The leaf at a place (F1): 1 found, 2 found empty, 0 not there. Where its text starts and how long it is go into the answer.
 #[no_mangle]
 pub extern "C" fn sargaceu_find_leaf(
     card: &[usize],
@@ -23,7 +23,7 @@ pub extern "C" fn sargaceu_find_leaf(
     subfield: rows::Entry,
     subsubfield: rows::Entry,
     answer: &mut [usize],
-) -> bool
+) -> u8
     ensures { λ r. ⌜ FoundLeaf (lent (cardOf (now (card .entry))) (now (segments .entry)) (now (leaves .entry)) (now (text .entry)))
         (givenPlace segment field repetition subfield subsubfield) (now (answer .entry)) r (now (answer .exit)) ⌝ }
 {
@@ -35,13 +35,61 @@ pub extern "C" fn sargaceu_find_leaf(
         subsubfield,
     };
     let sought = look::leaf::find_leaf(card::card_of(card), segments, leaves, text, place);
+    tell_sought(sought, answer)
+}
+
+// The same among the leaf rows that the segment row of the place names (F4).
+#[no_mangle]
+pub extern "C" fn sargaceu_find_leaf_in_segment(
+    card: &[usize],
+    segments: &[rows::Entry],
+    leaves: &[rows::Entry],
+    text: &[u8],
+    segment: rows::Entry,
+    field: rows::Entry,
+    repetition: rows::Entry,
+    subfield: rows::Entry,
+    subsubfield: rows::Entry,
+    answer: &mut [usize],
+) -> u8
+    ensures { λ r. ⌜ FoundLeafInSegment (lent (cardOf (now (card .entry))) (now (segments .entry)) (now (leaves .entry)) (now (text .entry)))
+        (givenPlace segment field repetition subfield subsubfield) (now (answer .entry)) r (now (answer .exit)) ⌝ }
+{
+    let place = Place {
+        segment,
+        field,
+        repetition,
+        subfield,
+        subsubfield,
+    };
+    let sought = look::leaf::find_leaf_in_segment(
+        card::card_of(card),
+        segments,
+        leaves,
+        text,
+        place,
+    );
+    tell_sought(sought, answer)
+}
+
+// The number of what was sought. Start and length go into the answer, and 0 and 0 for a leaf that is empty: who takes every leaf that is there
+// by its start and length then gets an empty text, and not what the answer held before.
+fn tell_sought(sought: Sought, answer: &mut [usize]) -> u8
+    ensures { λ r. ⌜ TellsSought sought (now (answer .entry)) r (now (answer .exit)) ⌝ }
+{
+    let number = sought.number();
     match sought {
         Sought::At(start, length) => {
             let numbers = [start, length];
             answer::put_numbers(answer, &numbers);
-            true
+            number
         }
-        Sought::Nothing => false,
+        Sought::Empty => {
+            let numbers = [0, 0];
+            answer::put_numbers(answer, &numbers);
+            number
+        }
+        Sought::NotThere => number,
     }
 }
 

@@ -2,7 +2,7 @@
 -- counted entries and of the buffers' lengths alone.
 -- Assumes nothing.
 use mathlib.Core.Bool.{Bool, true, false, _&&_}
-use mathlib.Core.List.{List}
+use mathlib.Core.List.{List, []}
 use mathlib.Core.Path.{_≡_, refl, sym, ap, ap₂, _∙_, subst⁻¹}
 use Prim.Native.Nat.{ℕ, suc, _+_, _-_, _*_, _<_}
 use native.Mathlib.Omega.{arith}
@@ -18,55 +18,83 @@ use Rattle.laws.proofs.Searching.{firstOf-same}
 use Rattle.laws.proofs.Tests.{Tested, passed, failed, tested, and-first, and-second, and-where}
 use Rattle.table.specs.declared.Card.{Card}
 use Rattle.table.specs.Lent.{Lent, lent, withinBuffers, counted, SameCounted}
-use Rattle.table.specs.Rows.{Table, segmentRowSize, leafRowSize, kindIn, ownerIn, startIn, lengthIn}
+use Rattle.table.specs.Rows.{Table, segmentRowSize, leafRowSize, kindIn, ownerIn, firstIn, countIn, startIn, lengthIn}
 use Rattle.table.proofs.Lent.{same-within}
 use Rattle.look.specs.declared.leaf.Sought.{Sought}
-use Rattle.look.specs.declared.leaf.Sought.the-variants.{At, Nothing}
+use Rattle.look.specs.declared.leaf.Sought.the-variants.{At, Empty, NotThere}
 use Rattle.look.specs.declared.leaf.Place.{Place}
-use Rattle.look.specs.Looking.{fits, segmentsFit, hasKindAndOwner, isOrder, orderAt, orderPlace}
+use Rattle.look.specs.Looking.{fits, leafFits, isAmong, isNamed, namedFits, foundOf, segmentsFit, hasKindAndOwner, isOrder, orderAt, orderPlace}
 use Rattle.look.specs.Matches.{soughtPart, lookedUp}
-use Rattle.look.specs.inner.Searching.{soughtFrom, soughtIn, rowFrom, rowAfter, sameTexts, sameOrder}
+use Rattle.look.specs.inner.Searching.{soughtFrom, soughtBy, soughtIn, soughtInSegment, rowFrom, rowAfter, sameTexts, sameOrder}
 use Rattle.look.specs.inner.Ordering.{orderText}
-use Rattle.look.proofs.Seeking.{foundAt, sought-first, Within, sought-counted, sought-uncounted, sought-in-card}
+use Rattle.look.proofs.Seeking.{foundAt, sought-first, Within, sought-counted, sought-uncounted, leaf-in-card}
 use Rattle.look.proofs.RowSearch.{row-first}
 use Rattle.look.proofs.Orders.{order-text, no-order, same-order-texts}
 
 -- the search for a leaf, in the counted rows
 
-module _ (rows : List ℕ) (bytes : ℕ) (p : Place) (m : ℕ) where
-  fits-taken : (k : ℕ) → k < m → fits (take (m * leafRowSize) rows) bytes p k ≡ fits rows bytes p k
-  unfolding fits
-  fits-taken k h =
+-- a table that is lent whole
+abbrev whole : Table → Lent
+whole T = lent (T .card) (T .segmentRows) (T .leafRows) (T .text)
+
+module _ (t : Lent) where
+  -- what a counted leaf row says
+  start-taken : (k : ℕ) → k < t .card .leaves → startIn (counted t .leafRows) k ≡ startIn (t .leafRows) k
+  unfolding counted
+  start-taken k h = getD-take (t .card .leaves * leafRowSize) (t .leafRows) (k * leafRowSize + 5) 0 (omega arith)
+
+  length-taken : (k : ℕ) → k < t .card .leaves → lengthIn (counted t .leafRows) k ≡ lengthIn (t .leafRows) k
+  unfolding counted
+  length-taken k h = getD-take (t .card .leaves * leafRowSize) (t .leafRows) (k * leafRowSize + 6) 0 (omega arith)
+
+  fits-taken : (p : Place) (k : ℕ) → k < t .card .leaves → leafFits (whole (counted t)) p k ≡ leafFits t p k
+  unfolding fits counted
+  fits-taken p k h =
       rw (
-        part-taken rows (k * leafRowSize) 5 (m * leafRowSize) (omega arith),
-        getD-take (m * leafRowSize) rows (k * leafRowSize + 5) 0 (omega arith),
-        getD-take (m * leafRowSize) rows (k * leafRowSize + 6) 0 (omega arith),
+        part-taken (t .leafRows) (k * leafRowSize) 5 (t .card .leaves * leafRowSize) (omega arith),
+        getD-take (t .card .leaves * leafRowSize) (t .leafRows) (k * leafRowSize + 5) 0 (omega arith),
+        getD-take (t .card .leaves * leafRowSize) (t .leafRows) (k * leafRowSize + 6) 0 (omega arith),
       )
 
-  found-taken : (k : ℕ) → k < m → foundAt (take (m * leafRowSize) rows) k ≡ foundAt rows k
-  found-taken k h =
-      rw (
-        getD-take (m * leafRowSize) rows (k * leafRowSize + 5) 0 (omega arith),
-        getD-take (m * leafRowSize) rows (k * leafRowSize + 6) 0 (omega arith),
-      )
+  -- what a counted segment row names
+  named-taken : (s k : ℕ) → isNamed (whole (counted t)) s k ≡ isNamed t s k
+  unfolding isNamed counted
+  named-taken s k =
+      let most = t .card .segments * segmentRowSize in
+      and-where (leb 1 s && leb s (t .card .segments))
+      (isAmong (firstIn (take most (t .segmentRows)) (s - 1)) (countIn (take most (t .segmentRows)) (s - 1)) k)
+      (isAmong (firstIn (t .segmentRows) (s - 1)) (countIn (t .segmentRows) (s - 1)) k)
+      (λ e.
+      let least = leb-true 1 s (and-first (leb 1 s) (leb s (t .card .segments)) e) in
+      let counts = leb-true s (t .card .segments) (and-second (leb 1 s) (leb s (t .card .segments)) e) in
+      ap₂ (λ (first count : ℕ). isAmong first count k)
+      (getD-take most (t .segmentRows) ((s - 1) * segmentRowSize + 2) 0 (omega arith))
+      (getD-take most (t .segmentRows) ((s - 1) * segmentRowSize + 3) 0 (omega arith)))
 
-  sought-taken : soughtFrom rows bytes p 0 m ≡ soughtFrom (take (m * leafRowSize) rows) bytes p 0 m
-  sought-taken =
-      sym (sought-first (take (m * leafRowSize) rows) bytes p 0 m
-      ∙ firstOf-same (fits (take (m * leafRowSize) rows) bytes p) (fits rows bytes p) (foundAt (take (m * leafRowSize) rows)) (foundAt rows) Nothing 0 m
-      (λ k g h. fits-taken k (omega arith)) (λ k g h. found-taken k (omega arith))
-      ∙ sym (sought-first rows bytes p 0 m))
+-- a search in a table, where its counts fit
+searched : (Lent → ℕ → Bool) → Table → Bool → Sought
+searched test T b = elim b [ true ↦ soughtFrom (test (whole T)) (T .leafRows) 0 (T .card .leaves) | false ↦ NotThere ]
 
-searched : Table → Place → Bool → Sought
-searched T p b = elim b [ true ↦ soughtFrom (T .leafRows) (T .card .text) p 0 (T .card .leaves) | false ↦ Nothing ]
+-- by a test that looks at counted entries alone
+module _ (test : Lent → ℕ → Bool) (local : (t : Lent) (k : ℕ) → k < t .card .leaves → test (whole (counted t)) k ≡ test t k) where
+  sought-taken : (t : Lent) → soughtFrom (test (whole (counted t))) (counted t .leafRows) 0 (t .card .leaves) ≡ soughtFrom (test t) (t .leafRows) 0 (t .card .leaves)
+  sought-taken t =
+      sought-first (test (whole (counted t))) (counted t .leafRows) 0 (t .card .leaves)
+      ∙ firstOf-same (test (whole (counted t))) (test t) (foundAt (counted t .leafRows)) (foundAt (t .leafRows)) NotThere 0 (t .card .leaves)
+      (λ k g h. local t k (omega arith)) (λ k g h. ap₂ foundOf (start-taken t k (omega arith)) (length-taken t k (omega arith)))
+      ∙ sym (sought-first (test t) (t .leafRows) 0 (t .card .leaves))
 
-sought-by-entries : (t : Lent) (p : Place) → soughtIn t p ≡ searched (counted t) p (withinBuffers t)
-unfolding searched counted
-sought-by-entries t p = go (tested (withinBuffers t))
-  where
-    go : Tested (withinBuffers t) → soughtIn t p ≡ searched (counted t) p (withinBuffers t)
-    go (passed e) = sought-counted t p e ∙ sought-taken (t .leafRows) (t .card .text) p (t .card .leaves) ∙ sym (rw (e, searched))
-    go (failed e) = sought-uncounted t p e ∙ sym (rw (e, searched))
+  sought-by-entries : (t : Lent) → soughtBy (test t) t ≡ searched test (counted t) (withinBuffers t)
+  unfolding searched counted
+  sought-by-entries t = go (tested (withinBuffers t))
+    where
+      go : Tested (withinBuffers t) → soughtBy (test t) t ≡ searched test (counted t) (withinBuffers t)
+      go (passed e) = sought-counted (test t) t e ∙ sym (sought-taken t) ∙ sym (rw (e, searched))
+      go (failed e) = sought-uncounted (test t) t e ∙ sym (rw (e, searched))
+
+  uncounted-sought : (t u : Lent) → SameCounted t u → soughtBy (test t) t ≡ soughtBy (test u) u
+  uncounted-sought t u w =
+      sought-by-entries t ∙ ap₂ (λ (T : Table) (b : Bool). searched test T b) (w .entries) (same-within t u w) ∙ sym (sought-by-entries u)
 
 -- the search for a row, in the counted rows
 
@@ -121,47 +149,56 @@ order-by-entries t row =
 
 partIn : Table → List ℕ → Sought → List ℕ
 partIn T substitute (At start n) = take n (drop start (T .text))
-partIn T substitute Nothing = substitute
+partIn T substitute Empty = []
+partIn T substitute NotThere = substitute
 
 part-by-entries : (card : Card) (segments leaves : List ℕ) (text substitute : RefT (List ℕ)) (s : Sought) → Within (card .text) s
     → soughtPart text substitute s .bytes ≡ partIn (counted (lent card segments leaves (now text))) (now substitute) s
 unfolding soughtPart partIn counted
 part-by-entries card segments leaves text substitute (At start n) h = sym (part-taken (now text) start n (card .text) h)
-part-by-entries card segments leaves text substitute Nothing h = refl
+part-by-entries card segments leaves text substitute Empty h = refl
+part-by-entries card segments leaves text substitute NotThere h = refl
 
 -- where they lie, in a text area that lies where another does
 module _ (text text′ substitute : RefT (List ℕ)) where
   same-block : ptr text .0 ≡ ptr text′ .0 → (s : Sought) → soughtPart text substitute s .block ≡ soughtPart text′ substitute s .block
   unfolding soughtPart
   same-block e (At start n) = e
-  same-block e Nothing = refl
+  same-block e Empty = e
+  same-block e NotThere = refl
 
   same-offset : ptr text .1 ≡ ptr text′ .1 → (s : Sought) → soughtPart text substitute s .offset ≡ soughtPart text′ substitute s .offset
   unfolding soughtPart
   same-offset e (At start n) = ap (λ (k : ℕ). start + k) e
-  same-offset e Nothing = refl
+  same-offset e Empty = ap (λ (k : ℕ). 0 + k) e
+  same-offset e NotThere = refl
 
 texts-by-entries : (t u : Lent) (s r : Sought) → Within (t .card .text) s → Within (u .card .text) r
     → sameTexts (t .text) s (u .text) r ≡ sameTexts (counted t .text) s (counted u .text) r
 unfolding sameTexts counted
 texts-by-entries t u (At a n) (At b m) h k =
     sym (ap₂ (λ (x y : List ℕ). same x y) (part-taken (t .text) a n (t .card .text) h) (part-taken (u .text) b m (u .card .text) k))
-texts-by-entries t u (At a n) Nothing h k = refl
-texts-by-entries t u Nothing r h k = refl
+texts-by-entries t u (At a n) Empty h k = refl
+texts-by-entries t u (At a n) NotThere h k = refl
+texts-by-entries t u Empty r h k = refl
+texts-by-entries t u NotThere r h k = refl
 
 order-in-card : (t : Lent) (row : ℕ) → Within (t .card .text) (orderText t row)
 order-in-card t row = go (tested (orderAt t row))
   where
     go : Tested (orderAt t row) → Within (t .card .text) (orderText t row)
-    go (passed e) = subst⁻¹ (Within (t .card .text)) (order-text t row e) (sought-in-card t (orderPlace row))
+    go (passed e) = subst⁻¹ (Within (t .card .text)) (order-text t row e) (leaf-in-card t (orderPlace row))
     go (failed e) = subst⁻¹ (Within (t .card .text)) (no-order t row e) tt
 
 -- the answers
 
 module _ (t u : Lent) (w : SameCounted t u) where
   pub uncounted-leaf : (p : Place) → soughtIn t p ≡ soughtIn u p
-  uncounted-leaf p =
-      sought-by-entries t p ∙ ap₂ (λ (T : Table) (b : Bool). searched T p b) (w .entries) (same-within t u w) ∙ sym (sought-by-entries u p)
+  uncounted-leaf p = uncounted-sought (λ l. leafFits l p) (λ l. fits-taken l p) t u w
+
+  pub uncounted-leaf-in-segment : (p : Place) → soughtInSegment t p ≡ soughtInSegment u p
+  uncounted-leaf-in-segment p =
+      uncounted-sought (λ l. namedFits l p) (λ l k h. ap₂ _&&_ (named-taken l (p .segment) k) (fits-taken l p k h)) t u w
 
   pub uncounted-row : (after kind owner : ℕ)
       → rowAfter (t .segmentRows) (t .card .segments) after kind owner ≡ rowAfter (u .segmentRows) (u .card .segments) after kind owner
@@ -176,7 +213,7 @@ module _ (t u : Lent) (w : SameCounted t u) where
   uncounted-order-text : (row : ℕ) → orderText t row ≡ orderText u row
   unfolding orderText
   uncounted-order-text row =
-      ap₂ (λ (b : Bool) (s : Sought). elim b [ true ↦ s | false ↦ Nothing ]) (uncounted-order row) (uncounted-leaf (orderPlace row))
+      ap₂ (λ (b : Bool) (s : Sought). elim b [ true ↦ s | false ↦ NotThere ]) (uncounted-order row) (uncounted-leaf (orderPlace row))
 
 -- of the text that is handed back: its bytes, and the whole part where the text area lies at the same place
 module _ (card card′ : Card) (segments leaves segments′ leaves′ : List ℕ) (text text′ : RefT (List ℕ))
@@ -189,9 +226,9 @@ module _ (card card′ : Card) (segments leaves segments′ leaves′ : List ℕ
 
   pub uncounted-bytes : lookedUp card segments leaves text p substitute .bytes ≡ lookedUp card′ segments′ leaves′ text′ p substitute .bytes
   uncounted-bytes =
-      part-by-entries card segments leaves text substitute (soughtIn one p) (sought-in-card one p)
+      part-by-entries card segments leaves text substitute (soughtIn one p) (leaf-in-card one p)
       ∙ ap₂ (λ (T : Table) (s : Sought). partIn T (now substitute) s) (w .entries) (uncounted-leaf one other w p)
-      ∙ sym (part-by-entries card′ segments′ leaves′ text′ substitute (soughtIn other p) (sought-in-card other p))
+      ∙ sym (part-by-entries card′ segments′ leaves′ text′ substitute (soughtIn other p) (leaf-in-card other p))
 
   pub uncounted-text : ptr text .0 ≡ ptr text′ .0 → ptr text .1 ≡ ptr text′ .1
       → lookedUp card segments leaves text p substitute ≡ lookedUp card′ segments′ leaves′ text′ p substitute

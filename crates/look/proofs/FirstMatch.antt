@@ -1,4 +1,4 @@
--- What the lookups answer (rules F1 to F3): the first row that fits, or none where none does.
+-- What the lookups answer (rules F1 to F4): the first row that fits, or none where none does.
 -- Assumes nothing.
 use mathlib.Core.Bool.{Bool, true, false, _&&_}
 use mathlib.Core.List.{List}
@@ -8,107 +8,81 @@ use Prim.Native.Nat.{ℕ, zero, suc, _+_, _-_, _≤_, _<_}
 use native.Mathlib.Omega.{arith}
 use lib.ListN.{take, drop}
 use Rattle.laws.specs.Lists.{same}
-use Rattle.laws.proofs.Cases.{less-or-not}
+use Rattle.laws.proofs.Cases.{less-or-not, equal-or-not}
 use Rattle.laws.proofs.Lists.{same-self, same-equal}
-use Rattle.laws.proofs.Searching.{firstOf, firstOf-hit, firstOf-miss}
+use Rattle.laws.proofs.Searching.{firstOf}
 use Rattle.laws.proofs.Tests.{Tested, passed, failed, tested, and-first, and-second, and-both, never-both}
 use Rattle.table.specs.Lent.{Lent, withinBuffers}
+use Rattle.table.specs.Rows.{startIn, lengthIn}
 use Rattle.look.specs.declared.leaf.Place.{Place}
 use Rattle.look.specs.declared.leaf.Sought.{Sought}
-use Rattle.look.specs.declared.leaf.Sought.the-variants.{At, Nothing}
-use Rattle.look.specs.Looking.{segmentsFit, hasKindAndOwner, orderAt, orderPlace}
-use Rattle.look.specs.inner.Searching.{soughtIn, rowAfter, sameTexts, sameOrder}
-use Rattle.look.specs.Matches.{FirstFit, NoFit, leafFits, Finds, FindsRow, SameOrders}
-use Rattle.look.proofs.Seeking.{foundAt, sought-first, sought-counted, sought-uncounted}
+use Rattle.look.specs.declared.leaf.Sought.the-variants.{At, Empty, NotThere}
+use Rattle.look.specs.Looking.{leafFits, namedFits, foundOf, segmentsFit, hasKindAndOwner, orderAt, orderPlace}
+use Rattle.look.specs.inner.Searching.{soughtBy, soughtIn, soughtInSegment, rowAfter, sameTexts, sameOrder}
+use Rattle.look.specs.Matches.{FirstFit, FindsBy, Finds, FindsInSegment, FindsRow, SameOrders}
+use Rattle.look.proofs.Seeking.{foundAt, found-empty, found-some, sought-first, sought-counted, sought-uncounted}
+use Rattle.look.proofs.FirstFits.{first-means, first-found, none-found}
 use Rattle.look.proofs.RowSearch.{row-first, rows-past}
 
--- a test that fails at i and at every later number fails from i on
-from-here : (test : ℕ → Bool) (i j : ℕ) → i ≤ j → test i ≡ false → (suc i ≤ j → test j ≡ false) → test j ≡ false
-from-here test i j from miss later = pick (less-or-not i j)
-  where
-    pick : (i < j) ⊎ (j ≤ i) → test j ≡ false
-    pick (inl h) = later (omega (arith, h))
-    pick (inr h) = let same : j ≡ i = omega (arith, from, h) in ap test same ∙ miss
+at-least-one : (n : ℕ) → (n ≡ 0 → ⊥) → 1 ≤ n
+at-least-one zero w = absurd (w refl)
+at-least-one (suc n) w = omega arith
 
--- what holds of a hit at the first number that fits, and of none where no number does, holds of what a search finds
-module _ {A : Type 0} (test : ℕ → Bool) (hit : ℕ → A) (none : A) (P : A → Type 0) where
-  first-means : (i n end : ℕ) → end ≡ i + n → (NoFit test i end → P none) → ((k : ℕ) → FirstFit test i end k → P (hit k))
-      → P (firstOf test hit none i n)
-  unfolding firstOf
-  first-means i zero end e empty each = empty (λ j from to. absurd (omega (arith, e, from, to)))
-  first-means i (suc n) end e empty each = by (tested (test i)) (first-means (suc i) n end (omega (arith, e)))
+-- a lookup by the first row that passes a test
+module _ (test : ℕ → Bool) (t : Lent) where
+  searched : withinBuffers t ≡ true → soughtBy test t ≡ firstOf test (foundAt (t .leafRows)) NotThere 0 (t .card .leaves)
+  searched h = sought-counted test t h ∙ sought-first test (t .leafRows) 0 (t .card .leaves)
+
+  -- what the first row states
+  states : withinBuffers t ≡ true → (k : ℕ) → FirstFit test 0 (t .card .leaves) k → FindsBy test t (foundAt (t .leafRows) k)
+  states h k f = by (equal-or-not (lengthIn (t .leafRows) k) 0)
     where
-      by : Tested (test i)
-          → ((NoFit test (suc i) end → P none) → ((k : ℕ) → FirstFit test (suc i) end k → P (hit k)) → P (firstOf test hit none (suc i) n))
-          → P (firstOf test hit none i (suc n))
-      by (passed h) later =
-          subst⁻¹ P (firstOf-hit test hit none i n h)
-          (each i (record { later = omega arith; within = omega (arith, e); fits = h; first = λ j from to. absurd (omega (arith, from, to)) }))
-      by (failed h) later =
-          subst⁻¹ P (firstOf-miss test hit none i n h)
-          (later
-          (λ no. empty (λ j from to. from-here test i j from h (λ g. no j g to)))
-          (λ k f.
-          each k
-          (record {
-            later = omega (arith, f .later);
-            within = f .within;
-            fits = f .fits;
-            first = λ j from to. from-here test i j from h (λ g. f .first j g to);
-          })))
+      by : (lengthIn (t .leafRows) k ≡ 0) ⊎ (lengthIn (t .leafRows) k ≡ 0 → ⊥) → FindsBy test t (foundAt (t .leafRows) k)
+      by (inl e) = subst⁻¹ (FindsBy test t) (found-empty (startIn (t .leafRows) k) (lengthIn (t .leafRows) k) e) (h, (k, f, e))
+      by (inr e) =
+          subst⁻¹ (FindsBy test t) (found-some (startIn (t .leafRows) k) (lengthIn (t .leafRows) k) e)
+          (h, (k, f, refl, refl, at-least-one (lengthIn (t .leafRows) k) e))
 
--- and a number that is the first to fit is what a search finds
-module _ {A : Type 0} (test : ℕ → Bool) (hit : ℕ → A) (none : A) where
-  first-found : (i n end k : ℕ) → end ≡ i + n → FirstFit test i end k → hit k ≡ firstOf test hit none i n
-  first-found i n end k e f =
-      first-means test hit none (λ (a : A). hit k ≡ a) i n end e
-      (λ no. absurd (never-both (f .fits) (no k (f .later) (f .within))))
-      (λ j g. ap hit (one-first f g))
+  finds-by : (r : Sought) → r ≡ soughtBy test t → FindsBy test t r
+  finds-by r e = subst⁻¹ (FindsBy test t) e (by (tested (withinBuffers t)))
     where
-      one-first : {j : ℕ} → FirstFit test i end k → FirstFit test i end j → k ≡ j
-      one-first {j} f g = pick (less-or-not k j) (less-or-not j k)
-        where
-          pick : (k < j) ⊎ (j ≤ k) → (j < k) ⊎ (k ≤ j) → k ≡ j
-          pick (inl h) other = absurd (never-both (f .fits) (g .first k (f .later) h))
-          pick (inr h) (inl g′) = absurd (never-both (g .fits) (f .first j (g .later) g′))
-          pick (inr h) (inr g′) = omega (arith, h, g′)
-
-  none-found : (i n end : ℕ) → end ≡ i + n → NoFit test i end → none ≡ firstOf test hit none i n
-  none-found i n end e misses =
-      first-means test hit none (λ (a : A). none ≡ a) i n end e (λ w. refl) (λ j g. absurd (never-both (g .fits) (misses j (g .later) (g .within))))
-
--- the leaf lookup
-module _ (t : Lent) (p : Place) where
-  searched : withinBuffers t ≡ true → soughtIn t p ≡ firstOf (leafFits t p) (foundAt (t .leafRows)) Nothing 0 (t .card .leaves)
-  searched h = sought-counted t p h ∙ sought-first (t .leafRows) (t .card .text) p 0 (t .card .leaves)
-
-  finds : (r : Sought) → r ≡ soughtIn t p → Finds t p r
-  finds r e = subst⁻¹ (Finds t p) e (by (tested (withinBuffers t)))
-    where
-      by : Tested (withinBuffers t) → Finds t p (soughtIn t p)
+      by : Tested (withinBuffers t) → FindsBy test t (soughtBy test t)
       by (passed h) =
-          subst⁻¹ (Finds t p) (searched h)
-          (first-means (leafFits t p) (foundAt (t .leafRows)) Nothing (Finds t p) 0 (t .card .leaves) (t .card .leaves) (omega arith)
-          (λ no w. no) (λ k f. (h, (k, f, refl, refl))))
-      by (failed h) = subst⁻¹ (Finds t p) (sought-uncounted t p h) (λ w. absurd (never-both w h))
+          subst⁻¹ (FindsBy test t) (searched h)
+          (first-means test (foundAt (t .leafRows)) NotThere (FindsBy test t) 0 (t .card .leaves) (t .card .leaves) (omega arith)
+          (λ no w. no) (states h))
+      by (failed h) = subst⁻¹ (FindsBy test t) (sought-uncounted test t h) (λ w. absurd (never-both w h))
 
-  found : (r : Sought) → Finds t p r → r ≡ soughtIn t p
-  found (At start n) f =
+  first-row : withinBuffers t ≡ true → (k : ℕ) → FirstFit test 0 (t .card .leaves) k → foundAt (t .leafRows) k ≡ soughtBy test t
+  first-row h k f =
+      first-found test (foundAt (t .leafRows)) NotThere 0 (t .card .leaves) (t .card .leaves) k (omega arith) f ∙ sym (searched h)
+
+  found-by : (r : Sought) → FindsBy test t r → r ≡ soughtBy test t
+  found-by (At start n) f =
       let w = f .1 in
-      let rows = t .leafRows in
-      let k = w .0 in
       ap₂ At (w .2) (w .3)
-      ∙ first-found (leafFits t p) (foundAt rows) Nothing 0 (t .card .leaves) (t .card .leaves) k (omega arith) (w .1)
-      ∙ sym (searched (f .0))
-  found Nothing f = by (tested (withinBuffers t))
+      ∙ sym (found-some (startIn (t .leafRows) (w .0)) (lengthIn (t .leafRows) (w .0)) (λ e. omega (arith, e, w .3, w .4)))
+      ∙ first-row (f .0) (w .0) (w .1)
+  found-by Empty f =
+      let w = f .1 in
+      sym (found-empty (startIn (t .leafRows) (w .0)) (lengthIn (t .leafRows) (w .0)) (w .2)) ∙ first-row (f .0) (w .0) (w .1)
+  found-by NotThere f = by (tested (withinBuffers t))
     where
-      by : Tested (withinBuffers t) → Nothing ≡ soughtIn t p
+      by : Tested (withinBuffers t) → NotThere ≡ soughtBy test t
       by (passed h) =
-          none-found (leafFits t p) (foundAt (t .leafRows)) Nothing 0 (t .card .leaves) (t .card .leaves) (omega arith) (f h) ∙ sym (searched h)
-      by (failed h) = sym (sought-uncounted t p h)
+          none-found test (foundAt (t .leafRows)) NotThere 0 (t .card .leaves) (t .card .leaves) (omega arith) (f h) ∙ sym (searched h)
+      by (failed h) = sym (sought-uncounted test t h)
 
+  finds-by-exactly : (r : Sought) → (r ≡ soughtBy test t) ↔ FindsBy test t r
+  finds-by-exactly r = (finds-by r, found-by r)
+
+-- the leaf lookup, and the lookup within a segment
+module _ (t : Lent) (p : Place) where
   pub finds-exactly : (r : Sought) → (r ≡ soughtIn t p) ↔ Finds t p r
-  finds-exactly r = (finds r, found r)
+  finds-exactly = finds-by-exactly (leafFits t p) t
+
+  pub finds-in-segment-exactly : (r : Sought) → (r ≡ soughtInSegment t p) ↔ FindsInSegment t p r
+  finds-in-segment-exactly = finds-by-exactly (namedFits t p) t
 
 -- the row finder
 module _ (rows : List ℕ) (count after kind owner : ℕ) where
@@ -161,14 +135,16 @@ module _ (t : Lent) (row : ℕ) (u : Lent) (other : ℕ) where
         second = second;
         start = a;
         size = n;
-        found = finds t (orderPlace row) (At a n) (sym e);
+        found = finds-exactly t (orderPlace row) (At a n) .0 (sym e);
         start-other = b;
         size-other = m;
-        found-other = finds u (orderPlace other) (At b m) (sym f);
+        found-other = finds-exactly u (orderPlace other) (At b m) .0 (sym f);
         same = same-equal (take n (drop a (t .text))) (take m (drop b (u .text))) h;
       }
-  both-found (At a n) Nothing e f first second h = absurd (never-both h refl)
-  both-found Nothing v e f first second h = absurd (never-both h refl)
+  both-found (At a n) Empty e f first second h = absurd (never-both h refl)
+  both-found (At a n) NotThere e f first second h = absurd (never-both h refl)
+  both-found Empty v e f first second h = absurd (never-both h refl)
+  both-found NotThere v e f first second h = absurd (never-both h refl)
 
   pub same-orders : (r : Bool) → r ≡ sameOrder t row u other → (r ≡ true) ↔ SameOrders t row u other
   unfolding sameOrder sameTexts
@@ -184,7 +160,7 @@ module _ (t : Lent) (row : ℕ) (u : Lent) (other : ℕ) where
         λ w.
             e
             ∙ and-both (and-both (w .first) (w .second))
-            (ap₂ (λ (a b : Sought). sameTexts (t .text) a (u .text) b) (sym (found t (orderPlace row) (At (w .start) (w .size)) (w .found)))
-            (sym (found u (orderPlace other) (At (w .start-other) (w .size-other)) (w .found-other)))
+            (ap₂ (λ (a b : Sought). sameTexts (t .text) a (u .text) b) (sym (finds-exactly t (orderPlace row) (At (w .start) (w .size)) .1 (w .found)))
+            (sym (finds-exactly u (orderPlace other) (At (w .start-other) (w .size-other)) .1 (w .found-other)))
             ∙ ap (same (take (w .size) (drop (w .start) (t .text)))) (sym (w .same)) ∙ same-self (take (w .size) (drop (w .start) (t .text)))),
       )

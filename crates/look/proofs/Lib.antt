@@ -1,4 +1,6 @@
+pub mod FirstFits
 pub mod Seeking
+pub mod NamedRows
 pub mod TextParts
 pub mod RowSearch
 pub mod Orders

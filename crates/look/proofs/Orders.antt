@@ -13,7 +13,7 @@ use Rattle.laws.proofs.Tests.{Tested, passed, failed, tested}
 use Rattle.table.specs.Lent.{Lent}
 use Rattle.table.specs.Rows.{kindIn}
 use Rattle.look.specs.declared.leaf.Sought.{Sought}
-use Rattle.look.specs.declared.leaf.Sought.the-variants.{At, Nothing}
+use Rattle.look.specs.declared.leaf.Sought.the-variants.{At, Empty, NotThere}
 use Rattle.look.specs.Looking.{segmentsFit, isOrder, orderAt, orderPlace}
 use Rattle.look.specs.inner.Searching.{soughtIn, sameTexts, sameOrder}
 use Rattle.look.specs.inner.Ordering.{orderText}
@@ -48,7 +48,7 @@ module _ (t : Lent) (row : ℕ) where
   unfolding orderText
   order-text e = rw (e, orderText)
 
-  pub no-order : orderAt t row ≡ false → orderText t row ≡ Nothing
+  pub no-order : orderAt t row ≡ false → orderText t row ≡ NotThere
   unfolding orderText
   no-order e = rw (e, orderText)
 
@@ -61,10 +61,17 @@ module _ (t : Lent) (row : ℕ) where
 
 -- the test, by where the two texts lie
 
-nothing-same : (text : List ℕ) (s : Sought) (other : List ℕ) → sameTexts text s other Nothing ≡ false
+none-same : (text : List ℕ) (s : Sought) (other : List ℕ) → sameTexts text s other NotThere ≡ false
 unfolding sameTexts
-nothing-same text (At start n) other = refl
-nothing-same text Nothing other = refl
+none-same text (At start n) other = refl
+none-same text Empty other = refl
+none-same text NotThere other = refl
+
+empty-same : (text : List ℕ) (s : Sought) (other : List ℕ) → sameTexts text s other Empty ≡ false
+unfolding sameTexts
+empty-same text (At start n) other = refl
+empty-same text Empty other = refl
+empty-same text NotThere other = refl
 
 module _ (t : Lent) (row : ℕ) (u : Lent) (other : ℕ) where
   pub same-order-texts : sameOrder t row u other ≡ sameTexts (t .text) (orderText t row) (u .text) (orderText u other)
@@ -75,10 +82,10 @@ module _ (t : Lent) (row : ℕ) (u : Lent) (other : ℕ) where
           → sameOrder t row u other ≡ sameTexts (t .text) (orderText t row) (u .text) (orderText u other)
       go (passed e) (passed f) = rw (order-text t row e, order-text u other f, e, f)
       go (passed e) (failed f) =
-          rw (order-text t row e, no-order u other f, e, f) (sym (nothing-same (t .text) (soughtIn t (orderPlace row)) (u .text)))
+          rw (order-text t row e, no-order u other f, e, f) (sym (none-same (t .text) (soughtIn t (orderPlace row)) (u .text)))
       go (failed e) f = rw (no-order t row e, e)
 
-  -- the answer where both are there, and where one is not
+  -- the answer where both are there, and where one is empty or not there
   pub both-there : (a n b m : ℕ) → orderText t row ≡ At a n → orderText u other ≡ At b m
       → same (take (a + n - a) (drop a (t .text))) (take (b + m - b) (drop b (u .text))) ≡ sameOrder t row u other
   unfolding sameTexts
@@ -86,11 +93,23 @@ module _ (t : Lent) (row : ℕ) (u : Lent) (other : ℕ) where
       ap₂ (λ (x y : List ℕ). same x y) (part-long (t .text) a n) (part-long (u .text) b m)
       ∙ sym (same-order-texts ∙ ap₂ (λ (x y : Sought). sameTexts (t .text) x (u .text) y) e f)
 
-  pub first-not-there : orderText t row ≡ Nothing → false ≡ sameOrder t row u other
-  unfolding sameTexts
-  first-not-there e = sym (same-order-texts ∙ ap (λ (x : Sought). sameTexts (t .text) x (u .text) (orderText u other)) e)
+  module _ {s : Sought} where
+    first-decides : orderText t row ≡ s → sameTexts (t .text) s (u .text) (orderText u other) ≡ false → false ≡ sameOrder t row u other
+    first-decides e differ = sym (same-order-texts ∙ ap (λ (x : Sought). sameTexts (t .text) x (u .text) (orderText u other)) e ∙ differ)
 
-  pub second-not-there : orderText u other ≡ Nothing → false ≡ sameOrder t row u other
-  second-not-there e =
-      sym (same-order-texts ∙ ap (λ (y : Sought). sameTexts (t .text) (orderText t row) (u .text) y) e
-      ∙ nothing-same (t .text) (orderText t row) (u .text))
+    second-decides : orderText u other ≡ s → sameTexts (t .text) (orderText t row) (u .text) s ≡ false → false ≡ sameOrder t row u other
+    second-decides e differ = sym (same-order-texts ∙ ap (λ (y : Sought). sameTexts (t .text) (orderText t row) (u .text) y) e ∙ differ)
+
+  pub first-empty : orderText t row ≡ Empty → false ≡ sameOrder t row u other
+  unfolding sameTexts
+  first-empty e = first-decides e refl
+
+  pub first-not-there : orderText t row ≡ NotThere → false ≡ sameOrder t row u other
+  unfolding sameTexts
+  first-not-there e = first-decides e refl
+
+  pub second-empty : orderText u other ≡ Empty → false ≡ sameOrder t row u other
+  second-empty e = second-decides e (empty-same (t .text) (orderText t row) (u .text))
+
+  pub second-not-there : orderText u other ≡ NotThere → false ≡ sameOrder t row u other
+  second-not-there e = second-decides e (none-same (t .text) (orderText t row) (u .text))

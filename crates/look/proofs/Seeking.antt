@@ -2,6 +2,7 @@
 -- Assumes nothing.
 use mathlib.Core.Bool.{Bool, true, false, _&&_, and-true}
 use mathlib.Core.List.{List, [], _∷_}
+use mathlib.Core.Logic.{_⊎_, inl, inr}
 use mathlib.Core.Path.{_≡_, refl, sym, ap, ap₂, _∙_, subst, subst⁻¹}
 use Prim.Native.Nat.{ℕ, zero, suc, _+_, _*_, _-_, _<_, _≤_}
 use native.Mathlib.Nat.{le-trans}
@@ -10,6 +11,7 @@ use borrow.Author.Tests.{leb-true, le-leb, lt-leb, eq-eqb, ne-eqb}
 use lib.Dec.{leb, eqb}
 use lib.ListN.{length, getD, take, drop}
 use Rattle.laws.specs.Lists.{same}
+use Rattle.laws.proofs.Cases.{equal-or-not}
 use Rattle.laws.proofs.Parts.{left-cons}
 use Rattle.laws.proofs.Searching.{firstOf, firstOf-holds, Searching, search-begins, search-hit, search-miss, search-done}
 use Rattle.laws.proofs.Tests.{Tested, passed, failed, tested, and-second, and-both, and-fails-first, and-fails-second}
@@ -18,10 +20,10 @@ use Rattle.table.specs.Rows.{leafRowSize, placeIn, startIn, lengthIn}
 use Rattle.table.specs.inner.Columns.{segmentIn, fieldIn}
 use Rattle.table.proofs.Lent.{text-within}
 use Rattle.look.specs.declared.leaf.Sought.{Sought}
-use Rattle.look.specs.declared.leaf.Sought.the-variants.{At, Nothing}
+use Rattle.look.specs.declared.leaf.Sought.the-variants.{At, Empty, NotThere}
 use Rattle.look.specs.declared.leaf.Place.{Place}
-use Rattle.look.specs.Looking.{numbersOf, fits}
-use Rattle.look.specs.inner.Searching.{soughtFrom, soughtIn}
+use Rattle.look.specs.Looking.{numbersOf, fits, leafFits, foundOf}
+use Rattle.look.specs.inner.Searching.{soughtFrom, soughtBy, soughtIn}
 
 -- the five numbers of a row's place: the row has them where each is that of the place
 
@@ -81,93 +83,122 @@ module _ (rows : List ℕ) (i : ℕ) (within : (i + 1) * leafRowSize ≤ length 
 
 -- what is found in a row
 abbrev pub foundAt : List ℕ → ℕ → Sought
-foundAt rows i = At (startIn rows i) (lengthIn rows i)
+foundAt rows i = foundOf (startIn rows i) (lengthIn rows i)
 
--- the search is one for the first row that fits
-pub sought-first : (rows : List ℕ) (bytes : ℕ) (p : Place) (i n : ℕ) → soughtFrom rows bytes p i n ≡ firstOf (fits rows bytes p) (foundAt rows) Nothing i n
+-- which is found empty, or found with its start and length
+pub found-empty : (start n : ℕ) → n ≡ 0 → foundOf start n ≡ Empty
+unfolding foundOf
+found-empty start n e = rw (eq-eqb n 0 e, foundOf)
+
+pub found-some : (start n : ℕ) → (n ≡ 0 → ⊥) → foundOf start n ≡ At start n
+unfolding foundOf
+found-some start n e = rw (ne-eqb n 0 e, foundOf)
+
+-- the search is one for the first row that passes a test
+pub sought-first : (test : ℕ → Bool) (rows : List ℕ) (i n : ℕ) → soughtFrom test rows i n ≡ firstOf test (foundAt rows) NotThere i n
 unfolding soughtFrom firstOf
-sought-first rows bytes p i zero = refl
-sought-first rows bytes p i (suc n) =
-    ap (λ (r : Sought). elim (fits rows bytes p i) [ true ↦ foundAt rows i | false ↦ r ]) (sought-first rows bytes p (suc i) n)
+sought-first test rows i zero = refl
+sought-first test rows i (suc n) =
+    ap (λ (r : Sought). elim (test i) [ true ↦ foundAt rows i | false ↦ r ]) (sought-first test rows (suc i) n)
 
--- the loop over n rows, before its turn at row i
-pub record Seeking (rows : List ℕ) (bytes : ℕ) (p : Place) (n i : ℕ) : Type 0 where
-  pub search : Searching (fits rows bytes p) (foundAt rows) Nothing 0 n i
+-- the loop over the rows before row `to` from row `from` on, before its turn at row i
+pub record Seeking (rows : List ℕ) (bytes : ℕ) (p : Place) (from to i : ℕ) : Type 0 where
+  pub search : Searching (fits rows bytes p) (foundAt rows) NotThere from to i
 
-pub seek-begins : {rows : List ℕ} {bytes : ℕ} {p : Place} {n : ℕ} → Seeking rows bytes p n 0
-seek-begins {rows} {bytes} {p} {n} = record { search = search-begins (fits rows bytes p) (foundAt rows) Nothing 0 n }
+pub seek-begins : {rows : List ℕ} {bytes : ℕ} {p : Place} {from to : ℕ} → Seeking rows bytes p from to from
+seek-begins {rows} {bytes} {p} {from} {to} = record { search = search-begins (fits rows bytes p) (foundAt rows) NotThere from to }
 
-module _ {rows : List ℕ} {bytes : ℕ} {p : Place} {n i : ℕ} (s : Seeking rows bytes p n i) where
-  whole : firstOf (fits rows bytes p) (foundAt rows) Nothing 0 (n - 0) ≡ soughtFrom rows bytes p 0 n
-  whole =
-      ap (λ (k : ℕ). firstOf (fits rows bytes p) (foundAt rows) Nothing 0 k) (let e : n - 0 ≡ n = omega arith in e)
-      ∙ sym (sought-first rows bytes p 0 n)
+module _ {rows : List ℕ} {bytes : ℕ} {p : Place} {from to i : ℕ} (s : Seeking rows bytes p from to i) where
+  abbrev Whole : Sought
+  Whole = soughtFrom (fits rows bytes p) rows from (to - from)
 
-  pub seek-nowhere : n ≤ i → Nothing ≡ soughtFrom rows bytes p 0 n
-  seek-nowhere h = search-done (fits rows bytes p) (foundAt rows) Nothing (s .search) h ∙ whole
+  whole : firstOf (fits rows bytes p) (foundAt rows) NotThere from (to - from) ≡ Whole
+  whole = sym (sought-first (fits rows bytes p) rows from (to - from))
 
-  module _ (h : i < n) {b : Bool} (answer : b ≡ same (placeIn rows i) (numbersOf p)) where
-    missed : fits rows bytes p i ≡ false → Seeking rows bytes p n (i + 1)
-    missed e = record { search = search-miss (fits rows bytes p) (foundAt rows) Nothing (s .search) h e }
+  pub seek-nowhere : to ≤ i → NotThere ≡ Whole
+  seek-nowhere h = search-done (fits rows bytes p) (foundAt rows) NotThere (s .search) h ∙ whole
+
+  module _ (h : i < to) {b : Bool} (answer : b ≡ same (placeIn rows i) (numbersOf p)) where
+    missed : fits rows bytes p i ≡ false → Seeking rows bytes p from to (i + 1)
+    missed e = record { search = search-miss (fits rows bytes p) (foundAt rows) NotThere (s .search) h e }
 
     -- the row has another place
-    pub seek-elsewhere : b ≡ false → Seeking rows bytes p n (i + 1)
+    pub seek-elsewhere : b ≡ false → Seeking rows bytes p from to (i + 1)
     unfolding fits
     seek-elsewhere e = missed (and-fails-first (leb (startIn rows i + lengthIn rows i) bytes) (sym answer ∙ e))
 
     module _ {start m : ℕ} (begins : start ≡ startIn rows i) (long : m ≡ lengthIn rows i) where
       -- it points past the text
-      pub seek-past : bytes < start + m → Seeking rows bytes p n (i + 1)
+      pub seek-past : bytes < start + m → Seeking rows bytes p from to (i + 1)
       unfolding fits
       seek-past past =
           missed
           (and-fails-second (same (placeIn rows i) (numbersOf p)) (lt-leb (startIn rows i + lengthIn rows i) bytes (omega arith)))
 
       -- it is the one
-      pub seek-found : b ≡ true → start + m ≤ bytes → At start m ≡ soughtFrom rows bytes p 0 n
+      pub seek-found : b ≡ true → start + m ≤ bytes → foundOf start m ≡ Whole
       unfolding fits
       seek-found e within =
-          ap₂ (λ (k l : ℕ). At k l) begins long
-          ∙ search-hit (fits rows bytes p) (foundAt rows) Nothing (s .search) h
+          ap₂ foundOf begins long
+          ∙ search-hit (fits rows bytes p) (foundAt rows) NotThere (s .search) h
           (and-both (sym answer ∙ e) (le-leb (startIn rows i + lengthIn rows i) bytes (omega arith)))
           ∙ whole
 
 -- what is found lies within so many bytes
 abbrev pub Within : ℕ → Sought → Type 0
 Within bytes (At start n) = start + n ≤ bytes
-Within bytes Nothing = Unit
+Within bytes Empty = Unit
+Within bytes NotThere = Unit
 
-pub sought-within : (rows : List ℕ) (bytes : ℕ) (p : Place) (i n : ℕ) → Within bytes (soughtFrom rows bytes p i n)
-unfolding fits
-sought-within rows bytes p i n =
-    subst⁻¹ (Within bytes) (sought-first rows bytes p i n)
-    (firstOf-holds (fits rows bytes p) (foundAt rows) Nothing (Within bytes) tt
-    (λ k e.
-    leb-true (startIn rows k + lengthIn rows k) bytes
-    (and-second (same (placeIn rows k) (numbersOf p)) (leb (startIn rows k + lengthIn rows k) bytes) e)) i n)
+found-within-bytes : (bytes start n : ℕ) → start + n ≤ bytes → Within bytes (foundOf start n)
+found-within-bytes bytes start n h = go (equal-or-not n 0)
+  where
+    go : (n ≡ 0) ⊎ (n ≡ 0 → ⊥) → Within bytes (foundOf start n)
+    go (inl e) = subst⁻¹ (Within bytes) (found-empty start n e) tt
+    go (inr e) = subst⁻¹ (Within bytes) (found-some start n e) h
 
 -- where the counts are within the buffers, and where not
+module _ (test : ℕ → Bool) (t : Lent) where
+  pub sought-counted : withinBuffers t ≡ true → soughtBy test t ≡ soughtFrom test (t .leafRows) 0 (t .card .leaves)
+  unfolding soughtBy
+  sought-counted e = rw (e, soughtBy)
+
+  pub sought-uncounted : withinBuffers t ≡ false → soughtBy test t ≡ NotThere
+  unfolding soughtBy
+  sought-uncounted e = rw (e, soughtBy)
+
+  -- where each row that passes lies within the card's text, so does a leaf that is found
+  module _ (inside : (k : ℕ) → test k ≡ true → startIn (t .leafRows) k + lengthIn (t .leafRows) k ≤ t .card .text) where
+    pub sought-in-card : Within (t .card .text) (soughtBy test t)
+    sought-in-card = go (tested (withinBuffers t))
+      where
+        go : Tested (withinBuffers t) → Within (t .card .text) (soughtBy test t)
+        go (passed e) =
+            subst⁻¹ (Within (t .card .text)) (sought-counted e ∙ sought-first test (t .leafRows) 0 (t .card .leaves))
+            (firstOf-holds test (foundAt (t .leafRows)) NotThere (Within (t .card .text)) tt
+            (λ k passes. found-within-bytes (t .card .text) (startIn (t .leafRows) k) (lengthIn (t .leafRows) k) (inside k passes)) 0 (t .card .leaves))
+        go (failed e) = subst⁻¹ (Within (t .card .text)) (sought-uncounted e) tt
+
+    -- and within the text area
+    pub sought-in-area : (start n : ℕ) → soughtBy test t ≡ At start n → start + n ≤ length (t .text)
+    sought-in-area start n found = go (tested (withinBuffers t))
+      where
+        go : Tested (withinBuffers t) → start + n ≤ length (t .text)
+        go (passed e) =
+            le-trans (subst (Within (t .card .text)) found sought-in-card)
+            (text-within (t .card) (length (t .segmentRows)) (length (t .leafRows)) (length (t .text)) e)
+        go (failed e) = let z : _≡_ {A = ℕ} 0 1 = cc (sought-uncounted e) in let n : ⊥ = omega arith in absurd n
+
+-- the leaf that the lookup finds
 module _ (t : Lent) (p : Place) where
-  pub sought-counted : withinBuffers t ≡ true → soughtIn t p ≡ soughtFrom (t .leafRows) (t .card .text) p 0 (t .card .leaves)
-  unfolding soughtIn
-  sought-counted e = rw (e, soughtIn)
+  fitting-inside : (k : ℕ) → leafFits t p k ≡ true → startIn (t .leafRows) k + lengthIn (t .leafRows) k ≤ t .card .text
+  unfolding fits
+  fitting-inside k e =
+      leb-true (startIn (t .leafRows) k + lengthIn (t .leafRows) k) (t .card .text)
+      (and-second (same (placeIn (t .leafRows) k) (numbersOf p)) (leb (startIn (t .leafRows) k + lengthIn (t .leafRows) k) (t .card .text)) e)
 
-  pub sought-uncounted : withinBuffers t ≡ false → soughtIn t p ≡ Nothing
-  unfolding soughtIn
-  sought-uncounted e = rw (e, soughtIn)
+  pub leaf-in-card : Within (t .card .text) (soughtIn t p)
+  leaf-in-card = sought-in-card (leafFits t p) t fitting-inside
 
-  -- a leaf that is found lies within the card's text
-  pub sought-in-card : Within (t .card .text) (soughtIn t p)
-  sought-in-card = go (tested (withinBuffers t))
-    where
-      go : Tested (withinBuffers t) → Within (t .card .text) (soughtIn t p)
-      go (passed e) = subst⁻¹ (Within (t .card .text)) (sought-counted e) (sought-within (t .leafRows) (t .card .text) p 0 (t .card .leaves))
-      go (failed e) = subst⁻¹ (Within (t .card .text)) (sought-uncounted e) tt
-
-  -- and within the text area
   pub found-within : (start n : ℕ) → soughtIn t p ≡ At start n → start + n ≤ length (t .text)
-  found-within start n found = go (tested (withinBuffers t))
-    where
-      go : Tested (withinBuffers t) → start + n ≤ length (t .text)
-      go (passed e) = le-trans (subst (Within (t .card .text)) found sought-in-card) (text-within (t .card) (length (t .segmentRows)) (length (t .leafRows)) (length (t .text)) e)
-      go (failed e) = let z : _≡_ {A = ℕ} 0 1 = cc (sought-uncounted e) in let n : ⊥ = omega arith in absurd n
+  found-within start n e = sought-in-area (leafFits t p) t fitting-inside start n e

@@ -14,11 +14,11 @@ use Rattle.table.specs.declared.Card.{Card}
 use Rattle.table.specs.Lent.{Lent, lent, countsFit}
 use Rattle.table.specs.Rows.{segmentRow}
 use Rattle.look.specs.declared.leaf.Sought.{Sought}
-use Rattle.look.specs.declared.leaf.Sought.the-variants.{At, Nothing}
+use Rattle.look.specs.declared.leaf.Sought.the-variants.{At, Empty, NotThere}
 use Rattle.look.specs.declared.leaf.Place.{Place}
-use Rattle.look.specs.Looking.{numbersOf, fits, hasKindAndOwner, isOrder, orderPlace}
+use Rattle.look.specs.Looking.{numbersOf, fits, foundOf, hasKindAndOwner, isOrder, orderPlace}
 use Rattle.look.specs.Matches.{lookedUp}
-use Rattle.look.specs.inner.Searching.{soughtFrom, soughtIn, rowFrom, rowAfter, sameTexts, sameOrder}
+use Rattle.look.specs.inner.Searching.{soughtFrom, soughtBy, soughtIn, rowFrom, rowAfter, sameTexts, sameOrder}
 use Rattle.look.proofs.TextParts.{part-found, no-part}
 
 -- an OBR, row 1, with as many leaf rows counted and as many bytes of text
@@ -39,7 +39,7 @@ table leaves bytes rows text = record { card = counts leaves bytes; segmentRows 
 module _ (f : Lent → Place → Sought) (meets : (t : Lent) (p : Place) → f t p ≡ soughtIn t p) where
   -- two rows have the place: the second is not what comes back
   pub last-match : f (table 2 2 (row 0 1 (row 1 1 [])) (65 ∷ 66 ∷ [])) (orderPlace 1) ≡ At 1 1 → ⊥
-  unfolding soughtIn soughtFrom fits numbersOf orderPlace countsFit same
+  unfolding soughtBy soughtFrom fits foundOf numbersOf orderPlace countsFit same
   last-match h =
       let e : At 0 1 ≡ At 1 1 = sym (meets (table 2 2 (row 0 1 (row 1 1 [])) (65 ∷ 66 ∷ [])) (orderPlace 1)) ∙ h in
       let z : _≡_ {A = ℕ} 0 1 = cc in
@@ -47,22 +47,22 @@ module _ (f : Lent → Place → Sought) (meets : (t : Lent) (p : Place) → f t
 
   -- the row points past the card's text, though not past the buffer: it is passed over
   pub past-the-text : f (table 1 2 (row 0 3 []) (65 ∷ 66 ∷ 67 ∷ [])) (orderPlace 1) ≡ At 0 3 → ⊥
-  unfolding soughtIn soughtFrom fits numbersOf orderPlace countsFit same
+  unfolding soughtBy soughtFrom fits foundOf numbersOf orderPlace countsFit same
   past-the-text h =
-      let e : Nothing ≡ At 0 3 = sym (meets (table 1 2 (row 0 3 []) (65 ∷ 66 ∷ 67 ∷ [])) (orderPlace 1)) ∙ h in
+      let e : NotThere ≡ At 0 3 = sym (meets (table 1 2 (row 0 3 []) (65 ∷ 66 ∷ 67 ∷ [])) (orderPlace 1)) ∙ h in
       let z : _≡_ {A = ℕ} 0 1 = cc in
       omega arith
 
   -- and the next row that has the place comes back
   pub after-the-row-past : f (table 2 2 (row 0 3 (row 1 1 [])) (65 ∷ 66 ∷ 67 ∷ [])) (orderPlace 1) ≡ At 1 1
-  unfolding soughtIn soughtFrom fits numbersOf orderPlace countsFit same
+  unfolding soughtBy soughtFrom fits foundOf numbersOf orderPlace countsFit same
   after-the-row-past = meets (table 2 2 (row 0 3 (row 1 1 [])) (65 ∷ 66 ∷ 67 ∷ [])) (orderPlace 1)
 
   -- a row that is not counted is not found
   pub whole-buffer : f (table 0 2 (row 0 1 []) (65 ∷ 66 ∷ [])) (orderPlace 1) ≡ At 0 1 → ⊥
-  unfolding soughtIn soughtFrom fits numbersOf orderPlace countsFit same
+  unfolding soughtBy soughtFrom fits foundOf numbersOf orderPlace countsFit same
   whole-buffer h =
-      let e : Nothing ≡ At 0 1 = sym (meets (table 0 2 (row 0 1 []) (65 ∷ 66 ∷ [])) (orderPlace 1)) ∙ h in
+      let e : NotThere ≡ At 0 1 = sym (meets (table 0 2 (row 0 1 []) (65 ∷ 66 ∷ [])) (orderPlace 1)) ∙ h in
       let z : _≡_ {A = ℕ} 0 1 = cc in
       omega arith
 
@@ -82,7 +82,7 @@ module _ (card : Card) (segments leaves : List ℕ) (text : RefT (List ℕ)) (p 
     another-place b lies other = other (at-no-other r text start n found b lies)
 
   -- where no leaf is there, the substitute itself comes back, not a text like it
-  pub like-the-substitute : soughtIn (lent card segments leaves (now text)) p ≡ Nothing → (wholeOf r ≡ wholeOf substitute → ⊥) → ⊥
+  pub like-the-substitute : soughtIn (lent card segments leaves (now text)) p ≡ NotThere → (wholeOf r ≡ wholeOf substitute → ⊥) → ⊥
   like-the-substitute none other = other (meets ∙ no-part text substitute none)
 
 -- a table whose text has the same byte twice, and the leaf is the first
@@ -90,7 +90,7 @@ abbrev twice : List ℕ
 twice = 65 ∷ 65 ∷ []
 
 twice-found : soughtIn (table 1 2 (row 0 1 []) twice) (orderPlace 1) ≡ At 0 1
-unfolding soughtIn soughtFrom fits numbersOf orderPlace countsFit same
+unfolding soughtBy soughtFrom fits foundOf numbersOf orderPlace countsFit same
 twice-found = refl
 
 module _ (text substitute : RefT (List ℕ)) (lies : now text ≡ twice) (like : now substitute ≡ 65 ∷ []) where
@@ -128,9 +128,9 @@ module _ (f : List ℕ → ℕ → ℕ → ℕ → ℕ → ℕ) (meets : (rows :
 -- what meets the contract of `same_order`
 module _ (f : Lent → ℕ → Lent → ℕ → Bool) (meets : (t : Lent) (row : ℕ) (u : Lent) (other : ℕ) → f t row u other ≡ sameOrder t row u other) where
   pub different-bytes : f (table 1 1 (row 0 1 []) (65 ∷ [])) 1 (table 1 1 (row 0 1 []) (66 ∷ [])) 1 ≡ true → ⊥
-  unfolding sameOrder isOrder sameTexts soughtIn soughtFrom fits numbersOf orderPlace countsFit same
+  unfolding sameOrder isOrder sameTexts soughtBy soughtFrom fits foundOf numbersOf orderPlace countsFit same
   different-bytes h = true≢false (sym h ∙ meets (table 1 1 (row 0 1 []) (65 ∷ [])) 1 (table 1 1 (row 0 1 []) (66 ∷ [])) 1)
 
   pub same-bytes-elsewhere : f (table 1 1 (row 0 1 []) (65 ∷ [])) 1 (table 1 2 (row 1 1 []) (66 ∷ 65 ∷ [])) 1 ≡ true
-  unfolding sameOrder isOrder sameTexts soughtIn soughtFrom fits numbersOf orderPlace countsFit same
+  unfolding sameOrder isOrder sameTexts soughtBy soughtFrom fits foundOf numbersOf orderPlace countsFit same
   same-bytes-elsewhere = meets (table 1 1 (row 0 1 []) (65 ∷ [])) 1 (table 1 2 (row 1 1 []) (66 ∷ 65 ∷ [])) 1

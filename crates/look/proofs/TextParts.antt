@@ -8,7 +8,7 @@ use lib.ListN.{take, drop}
 use denote.Ref.{RefT}
 use Rattle.laws.specs.Parts.{wholeOf, partOf}
 use Rattle.look.specs.declared.leaf.Sought.{Sought}
-use Rattle.look.specs.declared.leaf.Sought.the-variants.{At, Nothing}
+use Rattle.look.specs.declared.leaf.Sought.the-variants.{At, Empty, NotThere}
 use Rattle.look.specs.Matches.{soughtPart}
 
 -- a part from its start to its end is a part of its length
@@ -25,6 +25,10 @@ module _ (text substitute : RefT (List ℕ)) {s : Sought} where
   pub part-cut : (start n : ℕ) → s ≡ At start n → partOf text start (start + n - start) ≡ soughtPart text substitute s
   part-cut start n e = ap (partOf text start) (let e : start + n - start ≡ n = omega arith in e) ∙ sym (part-found start n e)
 
-  pub no-part : s ≡ Nothing → soughtPart text substitute s ≡ wholeOf substitute
+  pub empty-part : s ≡ Empty → soughtPart text substitute s ≡ partOf text 0 0
+  unfolding soughtPart
+  empty-part e = ap (soughtPart text substitute) e
+
+  pub no-part : s ≡ NotThere → soughtPart text substitute s ≡ wholeOf substitute
   unfolding soughtPart
   no-part e = ap (soughtPart text substitute) e

@@ -1,14 +1,17 @@
--- What is looked at when something is looked up (rules F1 to F3): a leaf row's place, a segment row's kind and owner, an order's number.
+-- What is looked at when something is looked up (rules F1 to F4): a leaf row's place, a segment row's kind and owner, an order's number, and
+-- the leaf rows that a segment row names.
 -- Assumes nothing.
-use mathlib.Core.Bool.{Bool, _&&_}
+use mathlib.Core.Bool.{Bool, true, false, _&&_}
 use mathlib.Core.List.{List, [], _∷_}
-use Prim.Native.Nat.{ℕ, _+_, _*_, _-_}
-use lib.Dec.{leb, eqb}
+use Prim.Native.Nat.{ℕ, suc, _+_, _*_, _-_}
+use lib.Dec.{leb, ltb, eqb}
 use lib.ListN.{length}
 use Rattle.laws.specs.Lists.{same}
 use Rattle.table.specs.Lent.{Lent}
-use Rattle.table.specs.Rows.{segmentRowSize, kindIn, ownerIn, placeIn, startIn, lengthIn}
+use Rattle.table.specs.Rows.{segmentRowSize, kindIn, ownerIn, firstIn, countIn, placeIn, startIn, lengthIn}
 use Rattle.look.specs.declared.leaf.Place.{Place}
+use Rattle.look.specs.declared.leaf.Sought.{Sought}
+use Rattle.look.specs.declared.leaf.Sought.the-variants.{At, Empty, NotThere}
 
 -- the five numbers of a place (S5)
 unfoldable pub numbersOf : Place → List ℕ
@@ -17,6 +20,33 @@ numbersOf p = p .segment ∷ p .field ∷ p .repetition ∷ p .subfield ∷ p .s
 -- whether leaf row i, counted from 0, counts as a match (F1): it has the place, and its start and length stay within so many bytes of text
 unfoldable pub fits : List ℕ → ℕ → Place → ℕ → Bool
 fits rows bytes p i = same (placeIn rows i) (numbersOf p) && leb (startIn rows i + lengthIn rows i) bytes
+
+-- the same of the counted text of a lent table
+abbrev pub leafFits : Lent → Place → ℕ → Bool
+leafFits t p i = fits (t .leafRows) (t .card .text) p i
+
+-- whether leaf row i, counted from 0, is one of so many from a first leaf on, which counts from 1 (T2)
+abbrev pub isAmong : (first count : ℕ) → ℕ → Bool
+isAmong first count i = leb first (suc i) && ltb (suc i) (first + count)
+
+-- whether it is one of those that segment row s, counted from 1, names by its first leaf and its leaf count (F4); only a counted row names any
+unfoldable pub isNamed : Lent → ℕ → ℕ → Bool
+isNamed t s i =
+    leb 1 s && leb s (t .card .segments) && isAmong (firstIn (t .segmentRows) (s - 1)) (countIn (t .segmentRows) (s - 1)) i
+
+-- whether leaf row i fits and is one of those that its place's segment row names
+abbrev pub namedFits : Lent → Place → ℕ → Bool
+namedFits t p i = isNamed t (p .segment) i && leafFits t p i
+
+-- what a row's start and length come to (F1): found, or found empty where there is no byte
+unfoldable pub foundOf : (start length : ℕ) → Sought
+foundOf start n = elim (eqb n 0) [ true ↦ Empty | false ↦ At start n ]
+
+-- the number of an answer (F1): 1 found, 2 found empty, 0 not there
+unfoldable pub soughtNumber : Sought → ℕ
+soughtNumber (At start n) = 1
+soughtNumber Empty = 2
+soughtNumber NotThere = 0
 
 -- whether so many rows are within the segment rows
 abbrev pub segmentsFit : List ℕ → ℕ → Bool

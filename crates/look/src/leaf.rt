@@ -1,16 +1,17 @@
-// The leaf lookup (F1).
+// The lookups of a leaf by its place: among all counted leaf rows (F1), and among those that its segment row names (F4).
 use table::Card;
 use table::rows;
+ghost use mathlib.Core.Logic.{_⊎_};
 ghost use mathlib.Core.Path.{_≡_};
-ghost use Prim.Native.Nat.{_+_, _*_, _≤_};
+ghost use Prim.Native.Nat.{_+_, _*_, _-_, _≤_};
 ghost use lib.ListN.{length};
 ghost use Rattle.laws.specs.Lists.{same};
 ghost use Rattle.laws.specs.Parts.{wholeOf};
 ghost use Rattle.table.specs.Lent.{lent};
 ghost use Rattle.table.specs.Rows.{leafRowSize, placeIn};
-ghost use Rattle.look.specs.Looking.{numbersOf};
+ghost use Rattle.look.specs.Looking.{numbersOf, fits, foundOf, soughtNumber};
 ghost use Rattle.look.specs.Matches.{lookedUp};
-ghost use Rattle.look.specs.inner.Searching.{soughtFrom, soughtIn};
+ghost use Rattle.look.specs.inner.Searching.{soughtFrom, soughtIn, soughtInSegment};
 
 // The place of a leaf (S5): the number of its segment's row, and the four numbers that tell it from the other leaves of the segment.
 pub struct Place {
@@ -21,14 +22,30 @@ pub struct Place {
     pub subsubfield: rows::Entry,
 }
 
-// Where the text of a leaf lies in the text area, or that it is not there.
+// What a lookup of a leaf answers (F1): the start in the text area and the length, 1 or more, of its text; or that it is there with no text; or
+// that it is not there.
 pub enum Sought {
     At(usize, usize),
-    Nothing,
+    Empty,
+    NotThere,
 }
 
-// Where the text of the leaf at a place lies (F1): what the first row says that has the place and stays within the card's text.
-// Nothing where there is no such row, or where the card counts more than some buffer holds.
+impl Sought {
+    // The answer as a number: 1 found, 2 found empty, 0 not there.
+    pub fn number(self) -> u8
+        ensures { λ r. ⌜ r ≡ soughtNumber self ⌝ }
+    {
+        match self {
+            Sought::At(_, _) => 1,
+            Sought::Empty => 2,
+            Sought::NotThere => 0,
+        }
+    }
+}
+
+// The leaf at a place (F1): what the first row says that has the place and stays within the card's text. Not there where there is no such row,
+// or where the card counts more than some buffer holds. It goes over all counted leaf rows: any buffers may be lent, so the leaves of a
+// segment need not lie together nor be where its segment row says.
 pub fn find_leaf(
     card: Card,
     segments: &[rows::Entry],
@@ -39,13 +56,41 @@ pub fn find_leaf(
     ensures { λ r. ⌜ r ≡ soughtIn (lent card (now (segments .entry)) (now (leaves .entry)) (now (text .entry))) place ⌝ }
 {
     if rows::counts_fit(card, segments.len(), leaves.len(), text.len()) {
-        return first_leaf(leaves, card.leaves, card.text, place);
+        return first_leaf(leaves, 0, card.leaves, card.text, place);
     }
-    Sought::Nothing
+    Sought::NotThere
 }
 
-// The text of the leaf at a place (F1): no copy, but that part of the lent text area, told by block, offset and bytes; the lent substitute
-// itself where the leaf is not there.
+// The same among the counted leaf rows that the segment row of the place names (F4): of every table that some message reads to, the same answer
+// (`look/proofs/NamedLeaves.antt`), found in as many steps as the segment has leaves. Not there, too, where the place names no counted segment row.
+pub fn find_leaf_in_segment(
+    card: Card,
+    segments: &[rows::Entry],
+    leaves: &[rows::Entry],
+    text: &[u8],
+    place: Place,
+) -> Sought
+    ensures { λ r. ⌜ r ≡ soughtInSegment (lent card (now (segments .entry)) (now (leaves .entry)) (now (text .entry))) place ⌝ }
+{
+    if !rows::counts_fit(card, segments.len(), leaves.len(), text.len()) {
+        return Sought::NotThere;
+    }
+    let number = rows::wide(place.segment);
+    if number < 1 {
+        return Sought::NotThere;
+    }
+    if card.segments < number {
+        return Sought::NotThere;
+    }
+    let at = (number - 1) * rows::SEGMENT_ROW;
+    let first = rows::wide(segments[at + rows::FIRST]);
+    let past = first + rows::wide(segments[at + rows::COUNT]);
+    let to = lesser(before(past), card.leaves);
+    first_leaf(leaves, before(first), to, card.text, place)
+}
+
+// The text of the leaf at a place (F1): no copy, but that part of the lent text area, told by block, offset and bytes; an empty part where the
+// leaf is there with no text; the lent substitute itself where it is not there.
 pub fn leaf_text<'a>(
     card: Card,
     segments: &[rows::Entry],
@@ -61,19 +106,18 @@ pub fn leaf_text<'a>(
             let end = start + length;
             &text[start..end]
         }
-        Sought::Nothing => substitute,
+        Sought::Empty => &text[0..0],
+        Sought::NotThere => substitute,
     }
 }
 
-// What the first of so many leaf rows says that has the place and stays within so many bytes. It goes over all of them: any buffers may be
-// lent, so the leaves of a segment need not lie together nor be where its segment row says. Only a table that a reader gave has that, and
-// the rule (F1) is the first match in row order.
-fn first_leaf(leaves: &[rows::Entry], count: usize, bytes: usize, place: Place) -> Sought
-    requires { ⌜ count * leafRowSize ≤ length (now leaves) ⌝ }
-    ensures { λ r. ⌜ r ≡ soughtFrom (now (leaves .entry)) bytes place 0 count ⌝ }
+// What the first leaf row says, of those from one on and before another, counted from 0, that has the place and stays within so many bytes.
+fn first_leaf(leaves: &[rows::Entry], from: usize, to: usize, bytes: usize, place: Place) -> Sought
+    requires { ⌜ to * leafRowSize ≤ length (now leaves) ⌝ }
+    ensures { λ r. ⌜ r ≡ soughtFrom (fits (now (leaves .entry)) bytes place) (now (leaves .entry)) from (to - from) ⌝ }
 {
-    let mut next = 0;
-    while next < count {
+    let mut next = from;
+    while next < to {
         let row = next;
         next += 1;
         if is_at(leaves, row, place) {
@@ -81,11 +125,41 @@ fn first_leaf(leaves: &[rows::Entry], count: usize, bytes: usize, place: Place) 
             let start = rows::wide(leaves[at + rows::START]);
             let length = rows::wide(leaves[at + rows::LENGTH]);
             if start + length <= bytes {
-                return Sought::At(start, length);
+                return found(start, length);
             }
         }
     }
-    Sought::Nothing
+    Sought::NotThere
+}
+
+// What a row's start and length come to.
+fn found(start: usize, length: usize) -> Sought
+    ensures { λ r. ⌜ r ≡ foundOf start length ⌝ }
+{
+    if length == 0 {
+        return Sought::Empty;
+    }
+    Sought::At(start, length)
+}
+
+// The number before another, and 0 before 0.
+fn before(number: usize) -> usize
+    ensures { λ r. ⌜ r ≡ number - 1 ⌝ }
+{
+    if number < 1 {
+        return 0;
+    }
+    number - 1
+}
+
+// The lesser of two numbers.
+fn lesser(one: usize, other: usize) -> usize
+    ensures { λ r. ⌜ (r ≤ one) × (r ≤ other) × ((r ≡ one) ⊎ (r ≡ other)) ⌝ }
+{
+    if one < other {
+        return one;
+    }
+    other
 }
 
 // Whether a leaf row, counted from 0, is that of a place: the segment first, which tells most rows apart.

@@ -1,4 +1,4 @@
-// Looking things up in a table (F1 to F3): a leaf by its place, a row by kind and owner, and whether two rows are the same order. Every
+// Looking things up in a table (F1 to F4): a leaf by its place, a row by kind and owner, and whether two rows are the same order. Every
 // card and every buffer gets its answer, however inconsistent they are; entries past the counted ones are never read (T7).
 
 pub mod leaf;

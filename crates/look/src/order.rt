@@ -13,7 +13,7 @@ ghost use Rattle.look.specs.Looking.{isOrder};
 ghost use Rattle.look.specs.inner.Searching.{sameOrder};
 ghost use Rattle.look.specs.inner.Ordering.{orderText};
 
-// Whether a row of one table and a row of another are the same order (F3): two OBR whose leaf 9.4.2 is there and has equal bytes.
+// Whether a row of one table and a row of another are the same order (F3): two OBR whose leaf 9.4.2 is there, is not empty, and has equal bytes.
 // Row 0 and a row past the count are no orders.
 pub fn same_order(
     card: Card,
@@ -47,10 +47,12 @@ pub fn same_order(
                     let other_end = other_start + other_length;
                     same_bytes(&text[start..end], &other_text[other_start..other_end])
                 }
-                Sought::Nothing => false,
+                Sought::Empty => false,
+                Sought::NotThere => false,
             }
         }
-        Sought::Nothing => false,
+        Sought::Empty => false,
+        Sought::NotThere => false,
     }
 }
 
@@ -74,7 +76,7 @@ fn order_text(
         };
         return leaf::find_leaf(card, segments, leaves, text, place);
     }
-    Sought::Nothing
+    Sought::NotThere
 }
 
 // Whether a row is one of so many counted rows and an OBR.

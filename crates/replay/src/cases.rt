@@ -8,6 +8,7 @@ use crate::input::number;
 use crate::looking;
 use crate::pieces::take_in;
 use crate::reading;
+use crate::seeking;
 use crate::walking;
 use crate::watching;
 use crate::writing;
@@ -24,6 +25,7 @@ fn pieces_of(operation: usize) -> usize {
         5 => 0x1BAA51BAA5,
         6 => 0xB,
         7 => 0xA1,
+        101 => 0x5BAA5,
         _ => 0,
     }
 }
@@ -62,6 +64,7 @@ fn run(
         5 => comparing::run(numbers, bytes),
         6 => walking::run(numbers, bytes),
         7 => watching::run(numbers),
+        101 => seeking::run(numbers, bytes),
         _ => {}
     }
 }

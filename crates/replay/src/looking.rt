@@ -1,18 +1,17 @@
-// Operation 3: the leaf lookup.
+// Operation 3: the text of a leaf, or a substitute.
 use crate::buffers::sum_bytes;
 use crate::input::ROOM;
 use crate::output::begin;
 use crate::output::end;
 use crate::output::put;
 use crate::pieces::bytes_at;
-use crate::pieces::number_at;
 use crate::pieces::row_at;
 use crate::tables::AREA;
 use crate::tables::ASKED;
 use crate::tables::LEAVES;
 use crate::tables::SEGMENTS;
 use crate::tables::card_at;
-use look::leaf::Place;
+use crate::tables::place_at;
 use look::leaf::leaf_text;
 use table::rows::Entry;
 
@@ -26,13 +25,7 @@ pub fn run(numbers: &[Entry; ROOM], bytes: &[u8; ROOM]) {
         row_at(numbers, SEGMENTS),
         row_at(numbers, LEAVES),
         bytes_at(numbers, bytes, AREA),
-        Place {
-            segment: number_at(numbers, ASKED, 0),
-            field: number_at(numbers, ASKED, 1),
-            repetition: number_at(numbers, ASKED, 2),
-            subfield: number_at(numbers, ASKED, 3),
-            subsubfield: number_at(numbers, ASKED, 4),
-        },
+        place_at(numbers, ASKED),
         bytes_at(numbers, bytes, SUBSTITUTE),
     ));
 }

@@ -14,6 +14,7 @@ mod looking;
 mod output;
 mod pieces;
 mod reading;
+mod seeking;
 mod tables;
 mod walking;
 mod watching;

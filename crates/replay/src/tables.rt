@@ -1,6 +1,7 @@
 // A table among the pieces of a case: five numbers, the segment rows, the leaf rows, the text area. A case that has one begins with it.
 use crate::input::ROOM;
 use crate::pieces::number_at;
+use look::leaf::Place;
 use table::Card;
 use table::rows::Entry;
 
@@ -21,5 +22,16 @@ pub fn card_at(numbers: &[Entry; ROOM], k: u8) -> Card {
         segments: number_at(numbers, k, 2) as usize,
         leaves: number_at(numbers, k, 3) as usize,
         text: number_at(numbers, k, 4) as usize,
+    }
+}
+
+// The place whose five numbers are piece k.
+pub fn place_at(numbers: &[Entry; ROOM], k: u8) -> Place {
+    Place {
+        segment: number_at(numbers, k, 0),
+        field: number_at(numbers, k, 1),
+        repetition: number_at(numbers, k, 2),
+        subfield: number_at(numbers, k, 3),
+        subsubfield: number_at(numbers, k, 4),
     }
 }

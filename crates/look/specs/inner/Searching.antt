@@ -8,19 +8,26 @@ use Rattle.laws.specs.Lists.{same}
 use Rattle.table.specs.Lent.{Lent, withinBuffers}
 use Rattle.table.specs.Rows.{startIn, lengthIn}
 use Rattle.look.specs.declared.leaf.Sought.{Sought}
-use Rattle.look.specs.declared.leaf.Sought.the-variants.{At, Nothing}
+use Rattle.look.specs.declared.leaf.Sought.the-variants.{At, Empty, NotThere}
 use Rattle.look.specs.declared.leaf.Place.{Place}
-use Rattle.look.specs.Looking.{fits, segmentsFit, hasKindAndOwner, orderAt, orderPlace}
+use Rattle.look.specs.Looking.{leafFits, namedFits, foundOf, segmentsFit, hasKindAndOwner, orderAt, orderPlace}
 
--- where the text of a leaf lies by the first of n rows, from row i on, that counts as a match, or that none does (F1)
-unfoldable pub soughtFrom : List ℕ → ℕ → Place → ℕ → ℕ → Sought
-soughtFrom rows bytes p i zero = Nothing
-soughtFrom rows bytes p i (suc n) =
-    elim (fits rows bytes p i) [ true ↦ At (startIn rows i) (lengthIn rows i) | false ↦ soughtFrom rows bytes p (suc i) n ]
+-- where the text of a leaf lies by the first of n rows, from row i on, that passes a test, or that none does
+unfoldable pub soughtFrom : (ℕ → Bool) → List ℕ → ℕ → ℕ → Sought
+soughtFrom test rows i zero = NotThere
+soughtFrom test rows i (suc n) =
+    elim (test i) [ true ↦ foundOf (startIn rows i) (lengthIn rows i) | false ↦ soughtFrom test rows (suc i) n ]
 
--- the same of all leaf rows that the card of a lent table counts; no row is looked at where the card counts more than some buffer holds (F1)
-unfoldable pub soughtIn : Lent → Place → Sought
-soughtIn t p = elim (withinBuffers t) [ true ↦ soughtFrom (t .leafRows) (t .card .text) p 0 (t .card .leaves) | false ↦ Nothing ]
+-- the same of all leaf rows that the card of a lent table counts; no row is looked at where the card counts more than some buffer holds
+unfoldable pub soughtBy : (ℕ → Bool) → Lent → Sought
+soughtBy test t = elim (withinBuffers t) [ true ↦ soughtFrom test (t .leafRows) 0 (t .card .leaves) | false ↦ NotThere ]
+
+-- the leaf lookup (F1), and the one among the leaf rows that the place's segment row names (F4)
+abbrev pub soughtIn : Lent → Place → Sought
+soughtIn t p = soughtBy (leafFits t p) t
+
+abbrev pub soughtInSegment : Lent → Place → Sought
+soughtInSegment t p = soughtBy (namedFits t p) t
 
 -- the number, counted from 1, of the first of n rows from row i on that has both, or 0
 unfoldable pub rowFrom : List ℕ → ℕ → ℕ → ℕ → ℕ → ℕ
@@ -33,11 +40,13 @@ unfoldable pub rowAfter : List ℕ → ℕ → ℕ → ℕ → ℕ → ℕ
 rowAfter rows count after kind owner =
     elim (segmentsFit rows count) [ true ↦ rowFrom rows kind owner after (count - after) | false ↦ 0 ]
 
--- whether two found texts have the same bytes; a leaf that is not there has none
+-- whether two found texts have the same bytes; a leaf that is empty or not there has none to compare
 unfoldable pub sameTexts : List ℕ → Sought → List ℕ → Sought → Bool
-sameTexts text Nothing other s = false
-sameTexts text (At a n) other Nothing = false
 sameTexts text (At a n) other (At b m) = same (take n (drop a text)) (take m (drop b other))
+sameTexts text (At a n) other Empty = false
+sameTexts text (At a n) other NotThere = false
+sameTexts text Empty other s = false
+sameTexts text NotThere other s = false
 
 -- whether a row of one table and a row of another are the same order (F3)
 unfoldable pub sameOrder : Lent → ℕ → Lent → ℕ → Bool

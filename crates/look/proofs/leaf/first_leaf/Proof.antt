@@ -1,6 +1,7 @@
 -- `look::leaf::first_leaf` meets its contract. The loop's invariant: what is left of the rows gives what all of them give.
 -- The measure is the rows that are left. Assumes nothing.
 use borrow.Author.Needs.{needs}
+use mathlib.Core.Path.{_∙_}
 use Prim.Native.Nat.{_-_}
 use native.Mathlib.Omega.{arith}
 use Rattle.look.proofs.Seeking.{Seeking, seek-begins, seek-nowhere, seek-elsewhere, seek-past, seek-found}
@@ -8,10 +9,10 @@ use Rattle.look.proofs.leaf.first_leaf.Statement.{statement}
 use Rattle.look.proofs.leaf.first_leaf.Tie as tie
 
 abbrev Inv-loop : tie.InvT-loop
-Inv-loop leaves count bytes place next₀ next = Seeking leaves bytes place count next
+Inv-loop leaves from to bytes place next₀ next = Seeking leaves bytes place from to next
 
 abbrev μ-loop : tie.MeasureT-loop
-μ-loop leaves count bytes place next₀ next = count - next
+μ-loop leaves from to bytes place next₀ next = to - next
 
 loop-holds : tie.Need-loop-holds Inv-loop μ-loop
 loop-holds c = seek-begins
@@ -52,14 +53,19 @@ wide-requires-2 c κs = search needs
 add-if2 : tie.Need-add-if2 Inv-loop μ-loop
 add-if2 c = omega arith
 
+found-requires : tie.Need-found-requires Inv-loop μ-loop
+found-requires c κs = search needs
+
 returns : tie.Need-returns Inv-loop μ-loop
 returns c =
-    let measured = c .before in
+    let inside = c .before in
+    let measured = inside .before in
     let begun = measured .before .before in
     let here = begun .before .before in
     let turn = here .before .before in
-    seek-found (turn .before .loop .inv) (turn .loop-test .taken) (here .before .is-at .ensures) (begun .wide .ensures .0)
-    (measured .wide2 .ensures .0) (here .if1 .taken) (c .if2 .taken)
+    c .found .ensures
+    ∙ seek-found (turn .before .loop .inv) (turn .loop-test .taken) (here .before .is-at .ensures) (begun .wide .ensures .0)
+    (measured .wide2 .ensures .0) (here .if1 .taken) (inside .if2 .taken)
 
 loop-less : tie.Need-loop-less Inv-loop μ-loop
 loop-less c = omega arith
@@ -89,4 +95,4 @@ pub first-leaf-spec : {M : Type 1} → statement M
 first-leaf-spec =
     tie.close
     (tie.spec Inv-loop μ-loop loop-holds add-next is-at-requires mul-at add-wide mul-wide shared-slice-read-wide wide-requires add-wide-2
-    mul-wide-2 shared-slice-read-wide-2 wide-requires-2 add-if2 returns loop-less loop-again loop-less-2 loop-again-2 returns-2)
+    mul-wide-2 shared-slice-read-wide-2 wide-requires-2 add-if2 found-requires returns loop-less loop-again loop-less-2 loop-again-2 returns-2)

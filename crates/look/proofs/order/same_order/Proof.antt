@@ -8,7 +8,7 @@ use lib.ListN.{length}
 use Rattle.table.specs.Lent.{Lent, lent}
 use Rattle.look.specs.declared.leaf.Sought.the-variants.{At}
 use Rattle.look.specs.inner.Ordering.{orderText}
-use Rattle.look.proofs.Orders.{order-within, both-there, first-not-there, second-not-there}
+use Rattle.look.proofs.Orders.{order-within, both-there, first-empty, first-not-there, second-empty, second-not-there}
 use borrow.Author.Needs.{needs}
 use Rattle.look.proofs.order.same_order.Statement.{statement}
 use Rattle.look.proofs.order.same_order.Tie as tie
@@ -97,6 +97,12 @@ enum-told c = search needs
 enum-told-2 : tie.Need-enum-told-2
 enum-told-2 c = search needs
 
+enum-told-3 : tie.Need-enum-told-3
+enum-told-3 c = search needs
+
+enum-told-4 : tie.Need-enum-told-4
+enum-told-4 c = search needs
+
 returns : tie.Need-returns
 returns c =
     let both = c .before .before .before .before in
@@ -112,17 +118,30 @@ returns-2 c =
     let answered = c .before .before in
     let asked = answered .before .before .before .before in
     let a = start-of asked .args in
-    second-not-there (one asked) (a .row) (other asked) (a .other-row) (sym (answered .order-text2 .ensures) ∙ c .enum-told .given .1)
+    second-empty (one asked) (a .row) (other asked) (a .other-row) (sym (answered .order-text2 .ensures) ∙ c .enum-told .given .1)
 
 returns-3 : tie.Need-returns-3
 returns-3 c =
+    let answered = c .before .before in
+    let asked = answered .before .before .before .before in
+    let a = start-of asked .args in
+    second-not-there (one asked) (a .row) (other asked) (a .other-row) (sym (answered .order-text2 .ensures) ∙ c .enum-told2 .given .1)
+
+returns-4 : tie.Need-returns-4
+returns-4 c =
     let asked = c .before .before in
     let a = start-of asked .args in
-    first-not-there (one asked) (a .row) (other asked) (a .other-row) (sym (asked .order-text .ensures) ∙ c .enum-told2 .given .1)
+    first-empty (one asked) (a .row) (other asked) (a .other-row) (sym (asked .order-text .ensures) ∙ c .enum-told3 .given .1)
+
+returns-5 : tie.Need-returns-5
+returns-5 c =
+    let asked = c .before .before in
+    let a = start-of asked .args in
+    first-not-there (one asked) (a .row) (other asked) (a .other-row) (sym (asked .order-text .ensures) ∙ c .enum-told4 .given .1)
 
 pub same-order-spec : {M : Type 1} → statement M
 same-order-spec =
     tie.close
     (tie.spec order-text-requires enum-known-start order-text-requires-2 enum-known-order add-end add-other-end sub-same-bytes
     part-same-bytes-start part-same-bytes-end sub-same-bytes-2 part-same-bytes-start-2 part-same-bytes-end-2 same-bytes-requires enum-told
-    enum-told-2 returns returns-2 returns-3)
+    enum-told-2 enum-told-3 enum-told-4 returns returns-2 returns-3 returns-4 returns-5)

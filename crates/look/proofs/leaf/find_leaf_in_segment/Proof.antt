@@ -1,0 +1,163 @@
+-- `look::leaf::find_leaf_in_segment` meets its contract: the rows that a counted segment row names are searched where the counts are within
+-- the buffers.
+-- Assumes nothing.
+use denote.Ref.{now}
+use mathlib.Core.Bool.{true}
+use mathlib.Core.Path.{_≡_, sym, ap₂, _∙_}
+use Prim.Native.Nat.{ℕ, _+_, _*_, _-_, _≤_}
+use native.Mathlib.Omega.{arith}
+use lib.ListN.{length}
+use borrow.Author.Needs.{needs}
+use borrow.Author.Tests.{not-true, not-false}
+use Rattle.table.specs.Lent.{Lent, lent, withinBuffers}
+use Rattle.table.specs.Rows.{segmentRowSize, leafRowSize}
+use Rattle.table.proofs.Lent.{segments-within, leaves-within}
+use Rattle.look.specs.declared.leaf.Place.{Place}
+use Rattle.look.specs.Looking.{leafFits, namedFits}
+use Rattle.look.specs.inner.Searching.{soughtFrom}
+use Rattle.look.proofs.Seeking.{sought-uncounted}
+use Rattle.look.proofs.NamedRows.{segment-zero, segment-past, named-found}
+use Rattle.look.proofs.leaf.find_leaf_in_segment.Statement.{statement}
+use Rattle.look.proofs.leaf.find_leaf_in_segment.Tie as tie
+
+abbrev start-of : tie.After-counts-fit → tie.Start
+start-of c = c .before .before .before .before
+
+-- the table that is lent, and the place
+abbrev lent-here : tie.After-counts-fit → Lent
+lent-here c =
+    let a = start-of c .args in
+    lent (a .card) (now (a .segments)) (now (a .leaves)) (now (a .text))
+
+abbrev place-here : tie.After-counts-fit → Place
+place-here c = start-of c .args .place
+
+-- the counts are within the buffers
+fit-here : (c : tie.Else1) → withinBuffers (lent-here (c .before)) ≡ true
+fit-here c = sym (c .before .counts-fit .ensures) ∙ not-false (c .before .counts-fit .result) (c .if1 .left)
+
+-- the segment row is counted, and so within the segment rows
+abbrev numbered-of : tie.Else3 → tie.After-wide
+numbered-of c = c .before .before .before
+
+abbrev fitting-of : tie.Else3 → tie.Else1
+fitting-of c = numbered-of c .before
+
+abbrev table-of : tie.Else3 → Lent
+table-of c = lent-here (fitting-of c .before)
+
+abbrev sought-of : tie.Else3 → Place
+sought-of c = place-here (fitting-of c .before)
+
+least-here : (c : tie.Else3) → 1 ≤ sought-of c .segment
+least-here c = omega (arith, numbered-of c .wide .ensures .0, c .before .before .if2 .left)
+
+most-here : (c : tie.Else3) → sought-of c .segment ≤ table-of c .card .segments
+most-here c = omega (arith, numbered-of c .wide .ensures .0, c .if3 .left)
+
+row-within : (c : tie.Else3) → sought-of c .segment * segmentRowSize ≤ length (table-of c .segmentRows)
+row-within c =
+    let t = table-of c in
+    omega (
+      arith,
+      most-here c,
+      segments-within (t .card) (length (t .segmentRows)) (length (t .leafRows)) (length (t .text)) (fit-here (fitting-of c)),
+    )
+
+counts-fit-requires : tie.Need-counts-fit-requires
+counts-fit-requires c κs = search needs
+
+returns : tie.Need-returns
+returns c =
+    let asked = c .before in
+    let t = lent-here asked in
+    sym (sought-uncounted (namedFits t (place-here asked)) t
+    (sym (asked .counts-fit .ensures) ∙ not-true (asked .counts-fit .result) (c .if1 .taken)))
+
+wide-requires : tie.Need-wide-requires
+wide-requires c κs = search needs
+
+returns-2 : tie.Need-returns-2
+returns-2 c =
+    let numbered = c .before in
+    let fitting = numbered .before in
+    segment-zero (lent-here (fitting .before)) (place-here (fitting .before)) (fit-here fitting) (omega (arith, numbered .wide .ensures .0, c .if2 .taken))
+
+returns-3 : tie.Need-returns-3
+returns-3 c =
+    let numbered = c .before .before .before in
+    let fitting = numbered .before in
+    segment-past (lent-here (fitting .before)) (place-here (fitting .before)) (fit-here fitting) (omega (arith, numbered .wide .ensures .0, c .if3 .taken))
+
+mul-at : tie.Need-mul-at
+mul-at c = search needs
+
+add-wide : tie.Need-add-wide
+add-wide c = search needs
+
+mul-wide : tie.Need-mul-wide
+mul-wide c = search needs
+
+shared-slice-read-wide : tie.Need-shared-slice-read-wide
+shared-slice-read-wide c =
+    let here = c .before in
+    omega (arith, row-within here, least-here here, numbered-of here .wide .ensures .0)
+
+wide-requires-2 : tie.Need-wide-requires-2
+wide-requires-2 c κs = search needs
+
+add-wide-2 : tie.Need-add-wide-2
+add-wide-2 c = search needs
+
+mul-wide-2 : tie.Need-mul-wide-2
+mul-wide-2 c = search needs
+
+shared-slice-read-wide-2 : tie.Need-shared-slice-read-wide-2
+shared-slice-read-wide-2 c =
+    let here = c .before .before .before in
+    omega (arith, row-within here, least-here here, numbered-of here .wide .ensures .0)
+
+wide-requires-3 : tie.Need-wide-requires-3
+wide-requires-3 c κs = search needs
+
+add-past : tie.Need-add-past
+add-past c = search needs
+
+before-requires : tie.Need-before-requires
+before-requires c κs = search needs
+
+lesser-requires : tie.Need-lesser-requires
+lesser-requires c κs = search needs
+
+before-requires-2 : tie.Need-before-requires-2
+before-requires-2 c κs = search needs
+
+first-leaf-requires : tie.Need-first-leaf-requires
+first-leaf-requires c κs =
+    let bounded = c .before in
+    let here = bounded .before .before .before .before .before .before in
+    let t = table-of here in
+    omega (
+      arith,
+      bounded .lesser .ensures .1,
+      leaves-within (t .card) (length (t .segmentRows)) (length (t .leafRows)) (length (t .text)) (fit-here (fitting-of here)),
+    )
+
+returns-4 : tie.Need-returns-4
+returns-4 c =
+    let begun = c .before in
+    let bounded = begun .before in
+    let ended = bounded .before in
+    let counted = ended .before in
+    let first = counted .before .before in
+    let here = first .before .before in
+    c .first-leaf .ensures
+    ∙ named-found (table-of here) (sought-of here) (fit-here (fitting-of here)) (least-here here) (most-here here)
+    (numbered-of here .wide .ensures .0) (first .wide2 .ensures .0) (counted .wide3 .ensures .0) (ended .before2 .ensures)
+    (begun .before3 .ensures) (bounded .lesser .ensures)
+
+pub find-leaf-in-segment-spec : {M : Type 1} → statement M
+find-leaf-in-segment-spec =
+    tie.close
+    (tie.spec counts-fit-requires returns wide-requires returns-2 returns-3 mul-at add-wide mul-wide shared-slice-read-wide wide-requires-2 add-wide-2
+    mul-wide-2 shared-slice-read-wide-2 wide-requires-3 add-past before-requires lesser-requires before-requires-2 first-leaf-requires returns-4)
