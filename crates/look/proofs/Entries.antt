@@ -34,7 +34,7 @@ use Rattle.look.proofs.Orders.{order-text, no-order, same-order-texts}
 -- the search for a leaf, in the counted rows
 
 -- a table that is lent whole
-abbrev whole : Table → Lent
+abbrev pub whole : Table → Lent
 whole T = lent (T .card) (T .segmentRows) (T .leafRows) (T .text)
 
 module _ (t : Lent) where
@@ -47,7 +47,7 @@ module _ (t : Lent) where
   unfolding counted
   length-taken k h = getD-take (t .card .leaves * leafRowSize) (t .leafRows) (k * leafRowSize + 6) 0 (omega arith)
 
-  fits-taken : (p : Place) (k : ℕ) → k < t .card .leaves → leafFits (whole (counted t)) p k ≡ leafFits t p k
+  pub fits-taken : (p : Place) (k : ℕ) → k < t .card .leaves → leafFits (whole (counted t)) p k ≡ leafFits t p k
   unfolding fits counted
   fits-taken p k h =
       rw (
@@ -57,7 +57,7 @@ module _ (t : Lent) where
       )
 
   -- what a counted segment row names
-  named-taken : (s k : ℕ) → isNamed (whole (counted t)) s k ≡ isNamed t s k
+  pub named-taken : (s k : ℕ) → isNamed (whole (counted t)) s k ≡ isNamed t s k
   unfolding isNamed counted
   named-taken s k =
       let most = t .card .segments * segmentRowSize in

@@ -60,46 +60,66 @@ module _ (t : Lent) (p : Place) (fit : withinBuffers t ≡ true) where
     unfolding isNamed
     is-among i = rw (le-leb 1 (p .segment) some, le-leb (p .segment) (t .card .segments) counts)
 
-    among : (i : ℕ) → first ≤ suc i → suc i < first + count → namedFits t p i ≡ leafFits t p i
-    among i from to = rw (is-among i, le-leb first (suc i) from, lt-ltb (suc i) (first + count) to)
-
     not-among : (i : ℕ) → isAmong first count i ≡ false → namedFits t p i ≡ false
     not-among i e = and-fails-first (leafFits t p i) (is-among i ∙ e)
 
-    named-part : (to : ℕ) → to ≤ first + count - 1 → to ≤ t .card .leaves → (to ≡ first + count - 1) ⊎ (to ≡ t .card .leaves)
+    -- a first leaf of 0 names none
+    pub first-zero : first < 1 → NotThere ≡ soughtInSegment t p
+    first-zero h =
+        none-named
+        (λ i.
+        is-among i
+        ∙ and-fails-first (ltb (suc i) (first + count)) (and-fails-first (leb first (suc i)) (lt-leb 1 first h)))
+
+    module _ (begins : 1 ≤ first) where
+      among : (i : ℕ) → first ≤ suc i → suc i < first + count → namedFits t p i ≡ leafFits t p i
+      among i from to = rw (is-among i, le-leb 1 first begins, le-leb first (suc i) from, lt-ltb (suc i) (first + count) to)
+
+      named-part : (to : ℕ) → to ≤ first - 1 + count → to ≤ t .card .leaves → (to ≡ first - 1 + count) ⊎ (to ≡ t .card .leaves)
+          → soughtFrom (leafFits t p) (t .leafRows) (first - 1) (to - (first - 1)) ≡ soughtInSegment t p
+      named-part to named counted either =
+          sought-first (leafFits t p) (t .leafRows) (first - 1) (to - (first - 1))
+          ∙ sym (searched
+          ∙ part-searched (namedFits t p) (leafFits t p) (foundAt (t .leafRows)) NotThere (t .card .leaves) (first - 1) to counted outside
+          (λ k from below. among k (omega (arith, from)) (omega (arith, below, named, begins))))
+        where
+          before : (k : ℕ) → k < first - 1 → isAmong first count k ≡ false
+          before k h = and-fails-first (ltb (suc k) (first + count)) (and-fails-second (leb 1 first) (lt-leb first (suc k) (omega (arith, h))))
+
+          behind : (k : ℕ) → k < t .card .leaves → to ≤ k → (to ≡ first - 1 + count) ⊎ (to ≡ t .card .leaves) → isAmong first count k ≡ false
+          behind k h past (inl e) = and-fails-second (leb 1 first && leb first (suc k)) (le-ltb (suc k) (first + count) (omega (arith, past, e, begins)))
+          behind k h past (inr e) = absurd (omega (arith, h, past, e))
+
+          outside : (k : ℕ) → k < t .card .leaves → (k < first - 1) ⊎ (to ≤ k) → namedFits t p k ≡ false
+          outside k h (inl early) = not-among k (before k early)
+          outside k h (inr late) = not-among k (behind k h late either)
+
+  -- the same as a function comes to them: by the segment's number, its first leaf and its leaf count as they are read
+  module _ {number first : ℕ} (row : number ≡ p .segment) (some : 1 ≤ number) (counts : number ≤ t .card .segments)
+      (reads : first ≡ firstIn (t .segmentRows) (number - 1)) where
+    least : 1 ≤ p .segment
+    least = omega (arith, row, some)
+
+    most : p .segment ≤ t .card .segments
+    most = omega (arith, row, counts)
+
+    at-first : first ≡ firstIn (t .segmentRows) (p .segment - 1)
+    at-first = reads ∙ ap (λ (n : ℕ). firstIn (t .segmentRows) (n - 1)) row
+
+    pub none-found-first : first < 1 → NotThere ≡ soughtInSegment t p
+    none-found-first h = first-zero least most (omega (arith, h, at-first))
+
+    pub named-found : {many to : ℕ} → 1 ≤ first → many ≡ countIn (t .segmentRows) (number - 1)
+        → (to ≤ first - 1 + many) × (to ≤ t .card .leaves) × ((to ≡ first - 1 + many) ⊎ (to ≡ t .card .leaves))
         → soughtFrom (leafFits t p) (t .leafRows) (first - 1) (to - (first - 1)) ≡ soughtInSegment t p
-    named-part to named counted either =
-        sought-first (leafFits t p) (t .leafRows) (first - 1) (to - (first - 1))
-        ∙ sym (searched
-        ∙ part-searched (namedFits t p) (leafFits t p) (foundAt (t .leafRows)) NotThere (t .card .leaves) (first - 1) to counted outside
-        (λ k from below. among k (omega (arith, from)) (omega (arith, below, named))))
+    named-found {many} {to} begins reads-many bounds =
+        ap (λ (k : ℕ). soughtFrom (leafFits t p) (t .leafRows) (k - 1) (to - (k - 1))) at-first
+        ∙ named-part least most (omega (arith, begins, at-first)) to (omega (arith, bounds .0, at-end)) (bounds .1) (either (bounds .2))
       where
-        before : (k : ℕ) → k < first - 1 → isAmong first count k ≡ false
-        before k h = and-fails-first (ltb (suc k) (first + count)) (lt-leb first (suc k) (omega (arith, h)))
+        at-end : first - 1 + many ≡ firstIn (t .segmentRows) (p .segment - 1) - 1 + countIn (t .segmentRows) (p .segment - 1)
+        at-end = omega (arith, at-first, reads-many ∙ ap (λ (n : ℕ). countIn (t .segmentRows) (n - 1)) row)
 
-        behind : (k : ℕ) → k < t .card .leaves → to ≤ k → (to ≡ first + count - 1) ⊎ (to ≡ t .card .leaves) → isAmong first count k ≡ false
-        behind k h past (inl e) = and-fails-second (leb first (suc k)) (le-ltb (suc k) (first + count) (omega (arith, past, e)))
-        behind k h past (inr e) = absurd (omega (arith, h, past, e))
-
-        outside : (k : ℕ) → k < t .card .leaves → (k < first - 1) ⊎ (to ≤ k) → namedFits t p k ≡ false
-        outside k h (inl early) = not-among k (before k early)
-        outside k h (inr late) = not-among k (behind k h late either)
-
-    -- as a function finds the rows: number, first leaf and leaf count as they are read, the row after the last, and the bounds
-    pub named-found : {number begin many end from to : ℕ} → number ≡ p .segment → begin ≡ firstIn (t .segmentRows) (number - 1)
-        → many ≡ countIn (t .segmentRows) (number - 1) → end ≡ begin + many - 1 → from ≡ begin - 1
-        → (to ≤ end) × (to ≤ t .card .leaves) × ((to ≡ end) ⊎ (to ≡ t .card .leaves))
-        → soughtFrom (leafFits t p) (t .leafRows) from (to - from) ≡ soughtInSegment t p
-    named-found {number} {begin} {many} {end} {from} {to} row begins counts-many ends starts bounds =
-        ap (λ (k : ℕ). soughtFrom (leafFits t p) (t .leafRows) k (to - k)) (let e : from ≡ first - 1 = omega (arith, starts, at-first) in e)
-        ∙ named-part to (omega (arith, bounds .0, at-end)) (bounds .1) (either (bounds .2))
-      where
-        at-first : begin ≡ first
-        at-first = begins ∙ ap (λ (n : ℕ). firstIn (t .segmentRows) (n - 1)) row
-
-        at-end : end ≡ first + count - 1
-        at-end = omega (arith, ends, at-first, counts-many ∙ ap (λ (n : ℕ). countIn (t .segmentRows) (n - 1)) row)
-
-        either : (to ≡ end) ⊎ (to ≡ t .card .leaves) → (to ≡ first + count - 1) ⊎ (to ≡ t .card .leaves)
+        either : (to ≡ first - 1 + many) ⊎ (to ≡ t .card .leaves)
+            → (to ≡ firstIn (t .segmentRows) (p .segment - 1) - 1 + countIn (t .segmentRows) (p .segment - 1)) ⊎ (to ≡ t .card .leaves)
         either (inl e) = inl (e ∙ at-end)
         either (inr e) = inr e

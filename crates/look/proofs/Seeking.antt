@@ -54,32 +54,31 @@ module _ (rows : List ℕ) (i : ℕ) (within : (i + 1) * leafRowSize ≤ length 
   unfolding same numbersOf
   same-five = rw (five-numbers, and-true (eqb (number 4) (p .subsubfield)))
 
+  pub field-differs : (fieldIn rows i ≡ p .field → ⊥) → false ≡ SamePlace
+  field-differs n =
+      sym (same-five
+      ∙ and-fails-second (eqb (segmentIn rows i) (p .segment))
+      (and-fails-first (eqb (number 2) (p .repetition) && (eqb (number 3) (p .subfield) && eqb (number 4) (p .subsubfield)))
+      (ne-eqb (fieldIn rows i) (p .field) n)))
+
   pub segment-differs : (segmentIn rows i ≡ p .segment → ⊥) → false ≡ SamePlace
   segment-differs n = rw (same-five, ne-eqb (segmentIn rows i) (p .segment) n)
 
-  module _ (segment : segmentIn rows i ≡ p .segment) where
-    after-segment : SamePlace
-        ≡ (eqb (fieldIn rows i) (p .field) && (eqb (number 2) (p .repetition) && (eqb (number 3) (p .subfield) && eqb (number 4) (p .subsubfield))))
-    after-segment = rw (same-five, eq-eqb (segmentIn rows i) (p .segment) segment)
+  module _ (field : fieldIn rows i ≡ p .field) (segment : segmentIn rows i ≡ p .segment) where
+    after-segment : SamePlace ≡ (eqb (number 2) (p .repetition) && (eqb (number 3) (p .subfield) && eqb (number 4) (p .subsubfield)))
+    after-segment = rw (same-five, eq-eqb (segmentIn rows i) (p .segment) segment, eq-eqb (fieldIn rows i) (p .field) field)
 
-    pub field-differs : (fieldIn rows i ≡ p .field → ⊥) → false ≡ SamePlace
-    field-differs n = rw (after-segment, ne-eqb (fieldIn rows i) (p .field) n)
+    pub repetition-differs : (number 2 ≡ p .repetition → ⊥) → false ≡ SamePlace
+    repetition-differs n = rw (after-segment, ne-eqb (number 2) (p .repetition) n)
 
-    module _ (field : fieldIn rows i ≡ p .field) where
-      after-field : SamePlace ≡ (eqb (number 2) (p .repetition) && (eqb (number 3) (p .subfield) && eqb (number 4) (p .subsubfield)))
-      after-field = rw (after-segment, eq-eqb (fieldIn rows i) (p .field) field)
+    module _ (repetition : number 2 ≡ p .repetition) where
+      pub subfield-differs : (number 3 ≡ p .subfield → ⊥) → false ≡ SamePlace
+      subfield-differs n = rw (after-segment, eq-eqb (number 2) (p .repetition) repetition, ne-eqb (number 3) (p .subfield) n)
 
-      pub repetition-differs : (number 2 ≡ p .repetition → ⊥) → false ≡ SamePlace
-      repetition-differs n = rw (after-field, ne-eqb (number 2) (p .repetition) n)
-
-      module _ (repetition : number 2 ≡ p .repetition) where
-        pub subfield-differs : (number 3 ≡ p .subfield → ⊥) → false ≡ SamePlace
-        subfield-differs n = rw (after-field, eq-eqb (number 2) (p .repetition) repetition, ne-eqb (number 3) (p .subfield) n)
-
-        -- the last number decides
-        pub subsubfield-decides : number 3 ≡ p .subfield → eqb (number 4) (p .subsubfield) ≡ SamePlace
-        subsubfield-decides subfield =
-            rw (after-field, eq-eqb (number 2) (p .repetition) repetition, eq-eqb (number 3) (p .subfield) subfield)
+      -- the last number decides
+      pub subsubfield-decides : number 3 ≡ p .subfield → eqb (number 4) (p .subsubfield) ≡ SamePlace
+      subsubfield-decides subfield =
+          rw (after-segment, eq-eqb (number 2) (p .repetition) repetition, eq-eqb (number 3) (p .subfield) subfield)
 
 -- what is found in a row
 abbrev pub foundAt : List ℕ → ℕ → Sought

@@ -25,9 +25,9 @@ fits rows bytes p i = same (placeIn rows i) (numbersOf p) && leb (startIn rows i
 abbrev pub leafFits : Lent → Place → ℕ → Bool
 leafFits t p i = fits (t .leafRows) (t .card .text) p i
 
--- whether leaf row i, counted from 0, is one of so many from a first leaf on, which counts from 1 (T2)
+-- whether leaf row i, counted from 0, is one of so many from a first leaf on, which counts from 1 (T2): a first leaf of 0 is none
 abbrev pub isAmong : (first count : ℕ) → ℕ → Bool
-isAmong first count i = leb first (suc i) && ltb (suc i) (first + count)
+isAmong first count i = leb 1 first && leb first (suc i) && ltb (suc i) (first + count)
 
 -- whether it is one of those that segment row s, counted from 1, names by its first leaf and its leaf count (F4); only a counted row names any
 unfoldable pub isNamed : Lent → ℕ → ℕ → Bool

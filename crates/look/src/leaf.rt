@@ -62,7 +62,7 @@ pub fn find_leaf(
 }
 
 // The same among the counted leaf rows that the segment row of the place names (F4): of every table that some message reads to, the same answer
-// (`look/proofs/NamedLeaves.antt`), found in as many steps as the segment has leaves. Not there, too, where the place names no counted segment row.
+// (`look/proofs/SameAnswer.antt`), found in as many steps as the segment has leaves. Not there, too, where the place names no counted segment row.
 pub fn find_leaf_in_segment(
     card: Card,
     segments: &[rows::Entry],
@@ -84,9 +84,12 @@ pub fn find_leaf_in_segment(
     }
     let at = (number - 1) * rows::SEGMENT_ROW;
     let first = rows::wide(segments[at + rows::FIRST]);
-    let past = first + rows::wide(segments[at + rows::COUNT]);
-    let to = lesser(before(past), card.leaves);
-    first_leaf(leaves, before(first), to, card.text, place)
+    if first < 1 {
+        return Sought::NotThere;
+    }
+    let from = first - 1;
+    let to = lesser(from + rows::wide(segments[at + rows::COUNT]), card.leaves);
+    first_leaf(leaves, from, to, card.text, place)
 }
 
 // The text of the leaf at a place (F1): no copy, but that part of the lent text area, told by block, offset and bytes; an empty part where the
@@ -142,16 +145,6 @@ fn found(start: usize, length: usize) -> Sought
     Sought::At(start, length)
 }
 
-// The number before another, and 0 before 0.
-fn before(number: usize) -> usize
-    ensures { λ r. ⌜ r ≡ number - 1 ⌝ }
-{
-    if number < 1 {
-        return 0;
-    }
-    number - 1
-}
-
 // The lesser of two numbers.
 fn lesser(one: usize, other: usize) -> usize
     ensures { λ r. ⌜ (r ≤ one) × (r ≤ other) × ((r ≡ one) ⊎ (r ≡ other)) ⌝ }
@@ -162,16 +155,17 @@ fn lesser(one: usize, other: usize) -> usize
     other
 }
 
-// Whether a leaf row, counted from 0, is that of a place: the segment first, which tells most rows apart.
+// Whether a leaf row, counted from 0, is that of a place: the field first, which within a segment tells most rows apart, and among all rows
+// nearly as many as the segment does.
 fn is_at(leaves: &[rows::Entry], row: usize, place: Place) -> bool
     requires { ⌜ (row + 1) * leafRowSize ≤ length (now leaves) ⌝ }
     ensures { λ r. ⌜ r ≡ same (placeIn (now (leaves .entry)) row) (numbersOf place) ⌝ }
 {
     let at = row * rows::LEAF_ROW;
-    if leaves[at] != place.segment {
+    if leaves[at + rows::FIELD] != place.field {
         return false;
     }
-    if leaves[at + rows::FIELD] != place.field {
+    if leaves[at] != place.segment {
         return false;
     }
     if leaves[at + rows::REPETITION] != place.repetition {

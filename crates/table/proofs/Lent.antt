@@ -1,16 +1,27 @@
 -- A card's counts against the buffers, one test after the other, and what counts that fit say of each buffer.
 -- Assumes nothing.
-use mathlib.Core.Bool.{true, false, _&&_}
-use mathlib.Core.Path.{_≡_}
-use Prim.Native.Nat.{ℕ, _*_, _<_, _≤_}
+use mathlib.Core.Bool.{true, false, _&&_, and-true}
+use mathlib.Core.Logic.{_⊎_, inl, inr}
+use mathlib.Core.Path.{_≡_, sym, _∙_}
+use Prim.Native.Nat.{ℕ, _*_, _/_, _<_, _≤_}
+use native.Mathlib.Omega.{arith}
 use borrow.Author.Tests.{leb-true, le-leb, lt-leb}
 use lib.Dec.{leb}
 use lib.ListN.{length}
-use Rattle.laws.proofs.Tests.{and-first, and-second}
+use Rattle.laws.proofs.Cases.{less-or-not}
+use Rattle.laws.proofs.Tests.{and-first, and-second, and-fails-second}
 use Rattle.form.specs.declared.limits.Limits.{Limits}
 use Rattle.table.specs.declared.Card.{Card}
 use Rattle.table.specs.Rows.{Table, segmentRowSize, leafRowSize}
 use Rattle.table.specs.Lent.{Lent, withinLimits, countsFit, withinBuffers, counted, SameCounted}
+
+-- a count of leaves against so many numbers, by division
+pub leaves-divided : (count numbers : ℕ) → leb count (numbers / leafRowSize) ≡ leb (count * leafRowSize) numbers
+leaves-divided count numbers = go (less-or-not numbers (count * leafRowSize))
+  where
+    go : (numbers < count * leafRowSize) ⊎ (count * leafRowSize ≤ numbers) → leb count (numbers / leafRowSize) ≡ leb (count * leafRowSize) numbers
+    go (inl h) = lt-leb count (numbers / leafRowSize) (omega arith) ∙ sym (lt-leb (count * leafRowSize) numbers h)
+    go (inr h) = le-leb count (numbers / leafRowSize) (omega arith) ∙ sym (le-leb (count * leafRowSize) numbers h)
 
 module _ (c : Card) (segmentRows leafRows text : ℕ) where
   pub segments-past : segmentRows < c .segments * segmentRowSize → false ≡ countsFit c segmentRows leafRows text
@@ -18,13 +29,15 @@ module _ (c : Card) (segmentRows leafRows text : ℕ) where
   segments-past h = rw (lt-leb (c .segments * segmentRowSize) segmentRows h)
 
   module _ (within : c .segments * segmentRowSize ≤ segmentRows) where
-    pub leaves-past : leafRows < c .leaves * leafRowSize → false ≡ countsFit c segmentRows leafRows text
+    pub text-past : text < c .text → false ≡ countsFit c segmentRows leafRows text
     unfolding countsFit
-    leaves-past h = rw (le-leb (c .segments * segmentRowSize) segmentRows within, lt-leb (c .leaves * leafRowSize) leafRows h)
+    text-past h =
+        sym (and-fails-second (leb (c .segments * segmentRowSize) segmentRows && leb (c .leaves * leafRowSize) leafRows) (lt-leb (c .text) text h))
 
-    pub text-decides : c .leaves * leafRowSize ≤ leafRows → leb (c .text) text ≡ countsFit c segmentRows leafRows text
+    pub leaves-decide : c .text ≤ text → leb (c .leaves * leafRowSize) leafRows ≡ countsFit c segmentRows leafRows text
     unfolding countsFit
-    text-decides h = rw (le-leb (c .segments * segmentRowSize) segmentRows within, le-leb (c .leaves * leafRowSize) leafRows h)
+    leaves-decide h =
+        rw (le-leb (c .segments * segmentRowSize) segmentRows within, le-leb (c .text) text h, and-true (leb (c .leaves * leafRowSize) leafRows))
 
   module _ (e : countsFit c segmentRows leafRows text ≡ true) where
     both-rows : (leb (c .segments * segmentRowSize) segmentRows && leb (c .leaves * leafRowSize) leafRows) ≡ true

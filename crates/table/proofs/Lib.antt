@@ -30,3 +30,4 @@ pub mod SoundRows
 pub mod Lent
 pub mod Width
 pub mod ShutOut
+pub mod OwnLeaves

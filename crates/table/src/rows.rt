@@ -42,15 +42,16 @@ pub fn wide(number: Entry) -> usize
 }
 
 // Whether the rows and the text that a card counts fit buffers of these lengths (F1, W4). The lengths are divided, since a count may be
-// anything and its product with a row's size may not fit a number.
+// anything and its product with a row's size may not fit a number. The leaves come last: compiled so, a search of the leaf rows that follows
+// has an instruction less in its loop.
 pub fn counts_fit(card: Card, segments: usize, leaves: usize, text: usize) -> bool
     ensures { λ r. ⌜ r ≡ countsFit card segments leaves text ⌝ }
 {
     if segments / SEGMENT_ROW < card.segments {
         return false;
     }
-    if leaves / LEAF_ROW < card.leaves {
+    if text < card.text {
         return false;
     }
-    card.text <= text
+    card.leaves <= leaves / LEAF_ROW
 }

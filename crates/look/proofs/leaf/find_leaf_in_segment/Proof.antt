@@ -16,7 +16,7 @@ use Rattle.look.specs.declared.leaf.Place.{Place}
 use Rattle.look.specs.Looking.{leafFits, namedFits}
 use Rattle.look.specs.inner.Searching.{soughtFrom}
 use Rattle.look.proofs.Seeking.{sought-uncounted}
-use Rattle.look.proofs.NamedRows.{segment-zero, segment-past, named-found}
+use Rattle.look.proofs.NamedRows.{segment-zero, segment-past, none-found-first, named-found}
 use Rattle.look.proofs.leaf.find_leaf_in_segment.Statement.{statement}
 use Rattle.look.proofs.leaf.find_leaf_in_segment.Tie as tie
 
@@ -49,13 +49,13 @@ table-of c = lent-here (fitting-of c .before)
 abbrev sought-of : tie.Else3 → Place
 sought-of c = place-here (fitting-of c .before)
 
-least-here : (c : tie.Else3) → 1 ≤ sought-of c .segment
-least-here c = omega (arith, numbered-of c .wide .ensures .0, c .before .before .if2 .left)
+least-here : (c : tie.Else3) → 1 ≤ numbered-of c .wide .result
+least-here c = c .before .before .if2 .left
 
-most-here : (c : tie.Else3) → sought-of c .segment ≤ table-of c .card .segments
-most-here c = omega (arith, numbered-of c .wide .ensures .0, c .if3 .left)
+most-here : (c : tie.Else3) → numbered-of c .wide .result ≤ table-of c .card .segments
+most-here c = c .if3 .left
 
-row-within : (c : tie.Else3) → sought-of c .segment * segmentRowSize ≤ length (table-of c .segmentRows)
+row-within : (c : tie.Else3) → numbered-of c .wide .result * segmentRowSize ≤ length (table-of c .segmentRows)
 row-within c =
     let t = table-of c in
     omega (
@@ -99,12 +99,17 @@ mul-wide : tie.Need-mul-wide
 mul-wide c = search needs
 
 shared-slice-read-wide : tie.Need-shared-slice-read-wide
-shared-slice-read-wide c =
-    let here = c .before in
-    omega (arith, row-within here, least-here here, numbered-of here .wide .ensures .0)
+shared-slice-read-wide c = omega (arith, row-within (c .before), least-here (c .before))
 
 wide-requires-2 : tie.Need-wide-requires-2
 wide-requires-2 c κs = search needs
+
+returns-4 : tie.Need-returns-4
+returns-4 c =
+    let read = c .before in
+    let here = read .before .before in
+    none-found-first (table-of here) (sought-of here) (fit-here (fitting-of here)) (numbered-of here .wide .ensures .0) (least-here here)
+    (most-here here) (read .wide2 .ensures .0) (c .if4 .taken)
 
 add-wide-2 : tie.Need-add-wide-2
 add-wide-2 c = search needs
@@ -114,50 +119,41 @@ mul-wide-2 c = search needs
 
 shared-slice-read-wide-2 : tie.Need-shared-slice-read-wide-2
 shared-slice-read-wide-2 c =
-    let here = c .before .before .before in
-    omega (arith, row-within here, least-here here, numbered-of here .wide .ensures .0)
+    let here = c .before .before .before .before in
+    omega (arith, row-within here, least-here here)
 
 wide-requires-3 : tie.Need-wide-requires-3
 wide-requires-3 c κs = search needs
 
-add-past : tie.Need-add-past
-add-past c = search needs
-
-before-requires : tie.Need-before-requires
-before-requires c κs = search needs
+add-lesser : tie.Need-add-lesser
+add-lesser c = search needs
 
 lesser-requires : tie.Need-lesser-requires
 lesser-requires c κs = search needs
 
-before-requires-2 : tie.Need-before-requires-2
-before-requires-2 c κs = search needs
-
 first-leaf-requires : tie.Need-first-leaf-requires
 first-leaf-requires c κs =
-    let bounded = c .before in
-    let here = bounded .before .before .before .before .before .before in
+    let here = c .before .before .before .before .before .before in
     let t = table-of here in
     omega (
       arith,
-      bounded .lesser .ensures .1,
+      c .lesser .ensures .1,
       leaves-within (t .card) (length (t .segmentRows)) (length (t .leafRows)) (length (t .text)) (fit-here (fitting-of here)),
     )
 
-returns-4 : tie.Need-returns-4
-returns-4 c =
-    let begun = c .before in
-    let bounded = begun .before in
-    let ended = bounded .before in
-    let counted = ended .before in
-    let first = counted .before .before in
-    let here = first .before .before in
+returns-5 : tie.Need-returns-5
+returns-5 c =
+    let bounded = c .before in
+    let counted = bounded .before in
+    let begun = counted .before .before in
+    let read = begun .before in
+    let here = read .before .before in
     c .first-leaf .ensures
-    ∙ named-found (table-of here) (sought-of here) (fit-here (fitting-of here)) (least-here here) (most-here here)
-    (numbered-of here .wide .ensures .0) (first .wide2 .ensures .0) (counted .wide3 .ensures .0) (ended .before2 .ensures)
-    (begun .before3 .ensures) (bounded .lesser .ensures)
+    ∙ named-found (table-of here) (sought-of here) (fit-here (fitting-of here)) (numbered-of here .wide .ensures .0) (least-here here)
+    (most-here here) (read .wide2 .ensures .0) (begun .if4 .left) (counted .wide3 .ensures .0) (bounded .lesser .ensures)
 
 pub find-leaf-in-segment-spec : {M : Type 1} → statement M
 find-leaf-in-segment-spec =
     tie.close
-    (tie.spec counts-fit-requires returns wide-requires returns-2 returns-3 mul-at add-wide mul-wide shared-slice-read-wide wide-requires-2 add-wide-2
-    mul-wide-2 shared-slice-read-wide-2 wide-requires-3 add-past before-requires lesser-requires before-requires-2 first-leaf-requires returns-4)
+    (tie.spec counts-fit-requires returns wide-requires returns-2 returns-3 mul-at add-wide mul-wide shared-slice-read-wide wide-requires-2 returns-4
+    add-wide-2 mul-wide-2 shared-slice-read-wide-2 wide-requires-3 add-lesser lesser-requires first-leaf-requires returns-5)

@@ -9,6 +9,9 @@ use Rattle.look.proofs.leaf.is_at.Tie as tie
 mul-at : tie.Need-mul-at
 mul-at c = omega arith
 
+add-if1 : tie.Need-add-if1
+add-if1 c = omega arith
+
 mul-if1 : tie.Need-mul-if1
 mul-if1 c = omega arith
 
@@ -19,10 +22,7 @@ returns : tie.Need-returns
 returns c =
     let start = c .before .before .before in
     let a = start .args in
-    segment-differs (a .leaves .now) (a .row) (start .pre) (a .place) (c .if1 .taken)
-
-add-if2 : tie.Need-add-if2
-add-if2 c = omega arith
+    field-differs (a .leaves .now) (a .row) (start .pre) (a .place) (c .if1 .taken)
 
 mul-if2 : tie.Need-mul-if2
 mul-if2 c = omega arith
@@ -32,10 +32,9 @@ shared-slice-read-if2 c = omega arith
 
 returns-2 : tie.Need-returns-2
 returns-2 c =
-    let segment = c .before .before .before in
-    let start = segment .before .before .before in
+    let start = c .before .before .before .before .before .before in
     let a = start .args in
-    field-differs (a .leaves .now) (a .row) (start .pre) (a .place) (segment .if1 .left) (c .if2 .taken)
+    segment-differs (a .leaves .now) (a .row) (start .pre) (a .place) (c .if2 .taken)
 
 add-if3 : tie.Need-add-if3
 add-if3 c = omega arith
@@ -48,11 +47,11 @@ shared-slice-read-if3 c = omega arith
 
 returns-3 : tie.Need-returns-3
 returns-3 c =
-    let field = c .before .before .before in
-    let segment = field .before .before .before in
-    let start = segment .before .before .before in
+    let segment = c .before .before .before in
+    let field = segment .before .before .before in
+    let start = field .before .before .before in
     let a = start .args in
-    repetition-differs (a .leaves .now) (a .row) (start .pre) (a .place) (segment .if1 .left) (field .if2 .left) (c .if3 .taken)
+    repetition-differs (a .leaves .now) (a .row) (start .pre) (a .place) (field .if1 .left) (segment .if2 .left) (c .if3 .taken)
 
 add-if4 : tie.Need-add-if4
 add-if4 c = omega arith
@@ -66,11 +65,11 @@ shared-slice-read-if4 c = omega arith
 returns-4 : tie.Need-returns-4
 returns-4 c =
     let repetition = c .before .before .before in
-    let field = repetition .before .before .before in
-    let segment = field .before .before .before in
-    let start = segment .before .before .before in
+    let segment = repetition .before .before .before in
+    let field = segment .before .before .before in
+    let start = field .before .before .before in
     let a = start .args in
-    subfield-differs (a .leaves .now) (a .row) (start .pre) (a .place) (segment .if1 .left) (field .if2 .left) (repetition .if3 .left) (c .if4 .taken)
+    subfield-differs (a .leaves .now) (a .row) (start .pre) (a .place) (field .if1 .left) (segment .if2 .left) (repetition .if3 .left) (c .if4 .taken)
 
 add-result : tie.Need-add-result
 add-result c = omega arith
@@ -85,16 +84,16 @@ returns-5 : tie.Need-returns-5
 returns-5 c =
     let subfield = c .before .before in
     let repetition = subfield .before .before .before in
-    let field = repetition .before .before .before in
-    let segment = field .before .before .before in
-    let start = segment .before .before .before in
+    let segment = repetition .before .before .before in
+    let field = segment .before .before .before in
+    let start = field .before .before .before in
     let a = start .args in
-    subsubfield-decides (a .leaves .now) (a .row) (start .pre) (a .place) (segment .if1 .left) (field .if2 .left) (repetition .if3 .left)
+    subsubfield-decides (a .leaves .now) (a .row) (start .pre) (a .place) (field .if1 .left) (segment .if2 .left) (repetition .if3 .left)
     (subfield .if4 .left)
 
 pub is-at-spec : {M : Type 1} → statement M
 is-at-spec =
     tie.close
-    (tie.spec mul-at mul-if1 shared-slice-read-if1 returns add-if2 mul-if2 shared-slice-read-if2 returns-2 add-if3 mul-if3
+    (tie.spec mul-at add-if1 mul-if1 shared-slice-read-if1 returns mul-if2 shared-slice-read-if2 returns-2 add-if3 mul-if3
     shared-slice-read-if3 returns-3 add-if4 mul-if4 shared-slice-read-if4 returns-4 add-result mul-result shared-slice-read-result
     returns-5)
