@@ -61,6 +61,11 @@ impl Lent<'_> {
 
     /// The leaf of row 1 at field, repetition and subfield 1, by one of the two lookups.
     fn leaf(&self, lookup: Lookup, subsubfield: u16, answer: &mut [usize]) -> u8 {
+        self.leaf_at(lookup, [1, 1, 1, 1, subsubfield], answer)
+    }
+
+    fn leaf_at(&self, lookup: Lookup, place: [u16; 5], answer: &mut [usize]) -> u8 {
+        let [segment, field, repetition, subfield, subsubfield] = place;
         // SAFETY: as in `write`.
         unsafe {
             lookup(
@@ -72,10 +77,10 @@ impl Lent<'_> {
                 self.leaves.len(),
                 self.text.as_ptr(),
                 self.text.len(),
-                1,
-                1,
-                1,
-                1,
+                segment,
+                field,
+                repetition,
+                subfield,
                 subsubfield,
                 answer.as_mut_ptr(),
                 answer.len(),
@@ -337,6 +342,35 @@ fn leaves_of_a_segment_that_is_not_counted_are_seen_by_the_first_lookup_alone() 
     };
     let told = LOOKUPS.map(|lookup| lent.leaf(lookup, 1, &mut [7; 2]));
     assert_eq!(told, [1, 0]);
+}
+
+#[test]
+fn both_lookups_answer_the_same_of_a_table_that_was_read() {
+    let mut buffers = crate::Buffers::new();
+    let table = buffers.read(include_bytes!("../../../../samples/report.hpr"));
+    let table = table.unwrap();
+    let lent = Lent {
+        card: &table.card().numbers(),
+        segments: table.segment_rows(),
+        leaves: table.leaf_rows(),
+        text: table.text(),
+    };
+    let mut told = [0; 3];
+    for row in lent.leaves.chunks_exact(crate::size::LEAF_ROW) {
+        for changed in 0..5 {
+            for number in [0, 1, 2, row[changed], row[changed] + 1, 65535] {
+                let mut place = [row[0], row[1], row[2], row[3], row[4]];
+                place[changed] = number;
+                let [all, within] = LOOKUPS.map(|lookup| {
+                    let mut answer = [7; 2];
+                    (lent.leaf_at(lookup, place, &mut answer), answer)
+                });
+                assert_eq!(all, within);
+                told[usize::from(all.0)] += 1;
+            }
+        }
+    }
+    assert!(told.iter().all(|&times| times > 0));
 }
 
 #[test]
