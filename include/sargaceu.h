@@ -82,6 +82,13 @@ enum sargaceu_context {
     SARGACEU_CONTEXT_ERR = 5, SARGACEU_CONTEXT_ORU = 6, SARGACEU_CONTEXT_FAC = 7
 };
 
+/* What a lookup of a leaf answers (F1): a field that was sent empty is not one that was never sent. */
+enum sargaceu_sought {
+    SARGACEU_NOT_THERE = 0,
+    SARGACEU_FOUND = 1,       /* with a text of one byte or more */
+    SARGACEU_FOUND_EMPTY = 2  /* there, with no text */
+};
+
 /*
  * Reads a message into the text area, the segment rows and the leaf rows (T1 to T5). Returns the number; answer gets the place and the
  * card: place, field separator, context, segments, leaves, text bytes. A refusal changes none of the three buffers; answer gets its place
@@ -113,17 +120,36 @@ bool sargaceu_is_table(const size_t *card, size_t card_numbers,
                        const uint8_t *text, size_t text_bytes);
 
 /*
- * Whether the leaf at a place is there (F1); answer gets where its text starts in the text area and how many bytes it has. Of several rows
- * with the place the first counts; one whose text would reach beyond the card's text bytes never counts; and no leaf is there where the card
- * counts more than some buffer holds. Answer stays as it was where the leaf is not there. It stays so, too, where it has under two
- * numbers, and the return value still says whether the leaf is there.
+ * The leaf at a place, sought among all leaf rows that the card counts (F1). Returns SARGACEU_FOUND, and answer gets where its text starts in
+ * the text area and how many bytes it has, 1 or more; SARGACEU_FOUND_EMPTY where the leaf is there and has no text, and answer gets 0 and 0,
+ * so that who only asks for 'not 0' gets an empty text; SARGACEU_NOT_THERE, and answer stays as it was. Of several rows with the place the
+ * first counts; one whose text would reach beyond the card's text bytes never counts; and no leaf is there where the card counts more than
+ * some buffer holds. An answer of under two numbers stays as it was whatever comes back, and the return value still tells.
+ *
+ * It is for buffers that nobody has tested: their rows may lie anywhere, so it goes over all of them, up to the one that it finds.
  */
-bool sargaceu_find_leaf(const size_t *card, size_t card_numbers,
-                        const uint16_t *segments, size_t segments_numbers,
-                        const uint16_t *leaves, size_t leaves_numbers,
-                        const uint8_t *text, size_t text_bytes,
-                        uint16_t segment, uint16_t field, uint16_t repetition, uint16_t subfield, uint16_t subsubfield,
-                        size_t *answer, size_t answer_numbers);
+uint8_t sargaceu_find_leaf(const size_t *card, size_t card_numbers,
+                           const uint16_t *segments, size_t segments_numbers,
+                           const uint16_t *leaves, size_t leaves_numbers,
+                           const uint8_t *text, size_t text_bytes,
+                           uint16_t segment, uint16_t field, uint16_t repetition, uint16_t subfield, uint16_t subsubfield,
+                           size_t *answer, size_t answer_numbers);
+
+/*
+ * The same question within the segment (F4): the leaf is sought among the leaf rows that the place's segment row names alone, from its first
+ * leaf on and as many as it has, as far as the card counts them. Returns and answers as sargaceu_find_leaf does. The whole place is compared,
+ * so a leaf of another segment is never answered, whatever the segment row names. Not there, too, where the place's segment is 0 or past the
+ * card's count of segments.
+ *
+ * It is for tables that sargaceu_read gave or that sargaceu_is_table said yes to: there it answers the same as sargaceu_find_leaf, and costs
+ * as many steps as the segment has leaves, not as many as the table has.
+ */
+uint8_t sargaceu_find_leaf_in_segment(const size_t *card, size_t card_numbers,
+                                      const uint16_t *segments, size_t segments_numbers,
+                                      const uint16_t *leaves, size_t leaves_numbers,
+                                      const uint8_t *text, size_t text_bytes,
+                                      uint16_t segment, uint16_t field, uint16_t repetition, uint16_t subfield, uint16_t subsubfield,
+                                      size_t *answer, size_t answer_numbers);
 
 /*
  * The next row behind row `after` that has a kind and an owner, rows counting from 1: 0 looks at all of them (F2). Returns 0 where there is
@@ -134,9 +160,9 @@ size_t sargaceu_next_row(const size_t *card, size_t card_numbers,
                          size_t after, uint16_t kind, uint16_t owner);
 
 /*
- * Whether a row of one table and a row of another are the same order (F3): both OBR, and leaf 9.4.2 is there in both with the same
- * bytes. Row 0 and rows past the count are no orders. Two laboratories may give one number to two orders, so a caller compares the
- * laboratories first.
+ * Whether a row of one table and a row of another are the same order (F3): both OBR, and leaf 9.4.2 is found in both (SARGACEU_FOUND) with
+ * the same bytes. Found empty is no: two orders without a number are not the same one. Row 0 and rows past the count are no orders. Two
+ * laboratories may give one number to two orders, so a caller compares the laboratories first.
  */
 bool sargaceu_same_order(const size_t *card, size_t card_numbers,
                          const uint16_t *segments, size_t segments_numbers,

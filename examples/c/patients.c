@@ -11,28 +11,35 @@ static size_t next(size_t after, uint16_t kind, size_t owner)
     return sargaceu_next_row(card, SARGACEU_CARD, segments, SARGACEU_SEGMENTS, after, kind, (uint16_t)owner);
 }
 
+/* A line with the leaf at a place: a blank where it was sent empty, a dash where it was never sent. */
 static void show(const char *what, size_t row, uint16_t field, uint16_t subfield)
 {
     size_t leaf[SARGACEU_LEAF_ANSWER];
-    if (sargaceu_find_leaf(card, SARGACEU_CARD, segments, SARGACEU_SEGMENTS, leaves, SARGACEU_LEAVES, text, SARGACEU_TEXT,
-                           (uint16_t)row, field, 1, subfield, 1, leaf, SARGACEU_LEAF_ANSWER))
-        printf("%s %.*s\n", what, (int)leaf[1], (const char *)text + leaf[0]);
+    printf("%s ", what);
+    switch (sargaceu_find_leaf_in_segment(card, SARGACEU_CARD, segments, SARGACEU_SEGMENTS, leaves, SARGACEU_LEAVES, text, SARGACEU_TEXT,
+                                          (uint16_t)row, field, 1, subfield, 1, leaf, SARGACEU_LEAF_ANSWER)) {
+    case SARGACEU_FOUND: printf("%.*s\n", (int)leaf[1], (const char *)text + leaf[0]); break;
+    case SARGACEU_FOUND_EMPTY: printf("\n"); break;
+    case SARGACEU_NOT_THERE: printf("-\n"); break;
+    }
 }
 
-/* Every leaf of a field: a value of 10^4 is two repetitions, and the second line of a text is one. */
+/* A line with every leaf of a field: a value of 10^4 is two repetitions, and the second line of a text is one. */
 static void show_whole(const char *what, size_t row, uint16_t field)
 {
     const uint16_t *segment = segments + (row - 1) * SARGACEU_SEGMENT_ROW;
-    bool shown = false;
+    bool sent = false;
     for (size_t i = 0; i < segment[3]; i++) {
         const uint16_t *leaf = leaves + (segment[2] - 1 + i) * SARGACEU_LEAF_ROW;
         if (leaf[1] != field)
             continue;
-        printf("%s %.*s", shown ? " /" : what, leaf[6], (const char *)text + leaf[5]);
-        shown = true;
+        printf("%s %.*s", sent ? " /" : what, leaf[6], (const char *)text + leaf[5]);
+        sent = true;
     }
-    if (shown)
+    if (sent)
         printf("\n");
+    else
+        printf("%s -\n", what);
 }
 
 static void comments(size_t row) /* a C belongs to the segment before it */
@@ -46,6 +53,7 @@ static void results(size_t order)
     for (size_t x = next(0, SARGACEU_OBX, order); x != 0; x = next(x, SARGACEU_OBX, order)) {
         show("  result", x, 4, 1);
         show_whole("    value", x, 6);
+        show("    unit", x, 7, 1);
         comments(x);
     }
 }

@@ -1,13 +1,25 @@
-/* Reads a message from standard input and prints the value (10.6) of each result. */
+/* Reads a message from standard input and prints the value (10.6) of each result, and its unit (10.7) in parentheses. */
 #include <stdio.h>
 #include "sargaceu.h"
 
 static uint8_t message[SARGACEU_MESSAGE + 1], text[SARGACEU_TEXT];
 static uint16_t segments[SARGACEU_SEGMENTS], leaves[SARGACEU_LEAVES];
+static size_t answer[SARGACEU_READ_ANSWER], *const card = answer + 1;
+
+/* The text of a field; a blank where it was sent empty, a dash where it was never sent. */
+static void show(size_t row, uint16_t field)
+{
+    size_t leaf[SARGACEU_LEAF_ANSWER];
+    switch (sargaceu_find_leaf_in_segment(card, SARGACEU_CARD, segments, SARGACEU_SEGMENTS, leaves, SARGACEU_LEAVES,
+                                          text, SARGACEU_TEXT, (uint16_t)row, field, 1, 1, 1, leaf, SARGACEU_LEAF_ANSWER)) {
+    case SARGACEU_FOUND: printf("%.*s", (int)leaf[1], (const char *)text + leaf[0]); break;
+    case SARGACEU_FOUND_EMPTY: printf(" "); break;
+    case SARGACEU_NOT_THERE: printf("-"); break;
+    }
+}
 
 int main(void)
 {
-    size_t answer[SARGACEU_READ_ANSWER], leaf[SARGACEU_LEAF_ANSWER], *card = answer + 1;
     size_t bytes = fread(message, 1, sizeof message, stdin); /* one byte over the limit: a longer file is refused, not cut */
     if (ferror(stdin))
         return 2;
@@ -20,9 +32,11 @@ int main(void)
     for (size_t row = 1; row <= card[2]; row++) {
         if (segments[(row - 1) * SARGACEU_SEGMENT_ROW] != SARGACEU_OBX)
             continue;
-        if (sargaceu_find_leaf(card, SARGACEU_CARD, segments, SARGACEU_SEGMENTS, leaves, SARGACEU_LEAVES,
-                               text, SARGACEU_TEXT, (uint16_t)row, 6, 1, 1, 1, leaf, SARGACEU_LEAF_ANSWER))
-            printf("row %zu: %.*s\n", row, (int)leaf[1], (const char *)text + leaf[0]);
+        printf("row %zu: ", row);
+        show(row, 6);
+        printf(" (");
+        show(row, 7);
+        printf(")\n");
     }
     return 0;
 }

@@ -13,27 +13,33 @@
 #include <stdio.h>
 #include <stdlib.h>
 
-enum { SEED = 24, CALLS = 200000, NUMBERS = NO + 1, LEAST_SHARE = 20 };
+enum { SEED = 24, CALLS = 200000, NUMBERS = EMPTY + 1, LEAST_SHARE = 20 };
 
 static const struct {
     const char *function;
     int (*try_it)(void);
+    bool may_be_empty; /* what it finds */
 } trials[] = {
-    { "sargaceu_read", try_read },
-    { "sargaceu_write", try_write },
-    { "sargaceu_is_table", try_is_table },
-    { "sargaceu_find_leaf", try_find_leaf },
-    { "sargaceu_next_row", try_next_row },
-    { "sargaceu_same_order", try_same_order },
-    { "sargaceu_line", try_line },
-    { "sargaceu_watch", try_watch },
-    { "sargaceu_list", try_list },
+    { "sargaceu_read", try_read, false },
+    { "sargaceu_write", try_write, false },
+    { "sargaceu_is_table", try_is_table, false },
+    { "sargaceu_find_leaf", try_find_leaf, true },
+    { "sargaceu_find_leaf_in_segment", try_find_leaf_in_segment, true },
+    { "sargaceu_next_row", try_next_row, false },
+    { "sargaceu_same_order", try_same_order, false },
+    { "sargaceu_line", try_line, false },
+    { "sargaceu_watch", try_watch, false },
+    { "sargaceu_list", try_list, false },
 };
 
-/* One line: the calls, how many were accepted and refused, and the numbers of the refusals where they have one. */
+/* One line: the calls, how many were accepted and refused, those that found something empty, and the numbers of the refusals where they have one. */
 static void show(const char *function, const size_t *count, size_t calls)
 {
-    printf("%-20s %zu calls, %zu accepted, %zu refused", function, calls, count[0], calls - count[0]);
+    size_t accepted = count[SARGACEU_ACCEPTED] + count[EMPTY];
+    printf("%-29s %zu calls, %zu accepted", function, calls, accepted);
+    if (count[EMPTY] > 0)
+        printf(" (empty: %zu)", count[EMPTY]);
+    printf(", %zu refused", calls - accepted);
     const char *between = " (";
     for (int number = 1; number < NO; number++)
         if (count[number] > 0) {
@@ -44,31 +50,32 @@ static void show(const char *function, const size_t *count, size_t calls)
     fflush(stdout);
 }
 
-/* Whether both answers came often, so that the calls say something about both. */
+/* Whether each answer came often, so that the calls say something about all of them. */
 static bool run(size_t which, uint64_t seed, size_t calls)
 {
-    size_t count[NUMBERS] = { 0 };
+    size_t count[NUMBERS] = { 0 }, least = calls / LEAST_SHARE;
     for (size_t trial = 0; trial < calls / SIDES; trial++) {
         begin_trial(trials[which].function, seed, trial);
         chance_begin(seed, which, trial);
         count[trials[which].try_it()] += SIDES;
     }
     show(trials[which].function, count, calls);
-    return count[0] >= calls / LEAST_SHARE && calls - count[0] >= calls / LEAST_SHARE;
+    return count[SARGACEU_ACCEPTED] >= least && calls - count[SARGACEU_ACCEPTED] - count[EMPTY] >= least &&
+           (!trials[which].may_be_empty || count[EMPTY] >= least);
 }
 
 int main(int arguments, char **argument)
 {
     uint64_t seed = arguments > 1 ? strtoull(argument[1], NULL, 10) : SEED;
     size_t calls = (arguments > 2 ? strtoull(argument[2], NULL, 10) : CALLS) / SIDES * SIDES;
-    bool both = true;
+    bool all = true;
     printf("hostile: seed %llu, %zu calls of each function\n", (unsigned long long)seed, calls);
     stop_at_faults();
     prepare_buffers();
     for (size_t which = 0; which < sizeof trials / sizeof *trials; which++)
-        both = run(which, seed, calls) && both;
-    if (!both) {
-        printf("hostile: a function was too seldom accepted, or too seldom refused\n");
+        all = run(which, seed, calls) && all;
+    if (!all) {
+        printf("hostile: a function was too seldom accepted, too seldom refused, or found too seldom something empty\n");
         return 1;
     }
     printf("hostile: no byte touched that should not be, no answer contradicted\n");

@@ -90,13 +90,17 @@ uint8_t plain_line(const uint8_t *message, size_t bytes, size_t at, size_t answe
 struct outcome plain_outcome(const uint8_t *message, size_t bytes); /* what the reader answers where the buffers are enough */
 size_t plain_kinds(uint8_t *kinds, size_t room, uint8_t *context);  /* of the message that plain_outcome saw last */
 const uint8_t *plain_joined(size_t *bytes);                         /* its joined segments, a CR behind each */
-bool plain_find_leaf(const struct table *t, const uint16_t place[5], size_t answer[2]);
+uint8_t plain_find_leaf(const struct table *t, const uint16_t place[5], size_t answer[2]);
+uint8_t plain_find_leaf_in_segment(const struct table *t, const uint16_t place[5], size_t answer[2]);
 size_t plain_next_row(const struct table *t, size_t after, uint16_t kind, uint16_t owner);
 bool plain_same_order(const struct table *a, uint16_t row, const struct table *b, uint16_t other_row);
 
 /* ---- the trials: each draws arguments, makes the call on both sides, and answers 0 where it was accepted ---- */
 
-enum { NO = SARGACEU_NO_TABLE + 1 }; /* a plain no, which has no number */
+enum {
+    NO = SARGACEU_NO_TABLE + 1, /* a plain no, which has no number */
+    EMPTY                       /* accepted, and what was found is empty */
+};
 
 int try_read(void);
 int try_list(void);
@@ -105,6 +109,7 @@ int try_watch(void);
 int try_write(void);
 int try_is_table(void);
 int try_find_leaf(void);
+int try_find_leaf_in_segment(void);
 int try_next_row(void);
 int try_same_order(void);
 

@@ -28,31 +28,68 @@ static void draw_place(uint16_t place[5])
         place[below(5)] = (uint16_t)(one_in(2) ? 1 + below(4) : wild());
 }
 
-int try_find_leaf(void)
+/* The place's segment row names other leaves than its own now and then: more, fewer, none, or some past all of them. */
+static void draw_named_leaves(const uint16_t place[5])
+{
+    if (place[0] == 0 || place[0] > segments_there(&one) || !one_in(4))
+        return;
+    uint16_t *named = one.segments + (size_t)(place[0] - 1) * SARGACEU_SEGMENT_ROW + 2 + below(2); /* its first leaf, or how many */
+    *named = (uint16_t)(one_in(2) ? wild() : *named + below(5) - 2);
+}
+
+/* Of a table that some message reads to, both lookups answer the same. */
+static void expect_agreement(const uint16_t place[5])
+{
+    size_t all[SARGACEU_LEAF_ANSWER] = { 0, 0 }, within[SARGACEU_LEAF_ANSWER] = { 0, 0 };
+    if (!sargaceu_is_table(one.card, one.card_numbers, one.segments, one.segments_numbers, one.leaves, one.leaves_numbers,
+                           one.text, one.text_bytes))
+        return;
+    if (plain_find_leaf(&one, place, all) != plain_find_leaf_in_segment(&one, place, within) || memcmp(all, within, sizeof all) != 0)
+        fail("a search over all leaves answers otherwise than one within the segment, of a table that some message reads to");
+}
+
+/* What both lookups are, to C and as a plain search. */
+typedef uint8_t lookup(const size_t *, size_t, const uint16_t *, size_t, const uint16_t *, size_t, const uint8_t *, size_t,
+                       uint16_t, uint16_t, uint16_t, uint16_t, uint16_t, size_t *, size_t);
+typedef uint8_t plain_lookup(const struct table *, const uint16_t *, size_t *);
+
+static int try_lookup(lookup *find, plain_lookup *plain)
 {
     uint16_t place[5];
     size_t answer[SARGACEU_LEAF_ANSWER] = { 0, 0 };
     draw_table(&one);
     draw_place(place);
+    draw_named_leaves(place);
+    expect_agreement(place);
     size_t numbers = one_in(16) ? below(SARGACEU_LEAF_ANSWER) : enough(SARGACEU_LEAF_ANSWER, 5);
     const void *answer_was = former(8 * sizeof(size_t));
-    bool expected = plain_find_leaf(&one, place, answer);
+    uint8_t expected = plain(&one, place, answer);
     for (int side = 0; side < SIDES; side++) {
         begin_side(side);
         size_t *lent = lend_to_write(ANSWER, answer_was, numbers);
-        bool there = sargaceu_find_leaf(lend(CARD, one.card, one.card_numbers), one.card_numbers,
-                                        lend(SEGMENTS, one.segments, one.segments_numbers), one.segments_numbers,
-                                        lend(LEAVES, one.leaves, one.leaves_numbers), one.leaves_numbers,
-                                        lend(TEXT, one.text, one.text_bytes), one.text_bytes,
-                                        place[0], place[1], place[2], place[3], place[4], lent, numbers);
-        if (there != expected)
-            fail("says %s, and a plain search %s", there ? "yes" : "no", expected ? "yes" : "no");
-        bool told = there && numbers >= SARGACEU_LEAF_ANSWER;
+        uint8_t sought = find(lend(CARD, one.card, one.card_numbers), one.card_numbers,
+                              lend(SEGMENTS, one.segments, one.segments_numbers), one.segments_numbers,
+                              lend(LEAVES, one.leaves, one.leaves_numbers), one.leaves_numbers,
+                              lend(TEXT, one.text, one.text_bytes), one.text_bytes,
+                              place[0], place[1], place[2], place[3], place[4], lent, numbers);
+        if (sought != expected)
+            fail("answers %d, and a plain search %d", sought, expected);
+        bool told = sought != SARGACEU_NOT_THERE && numbers >= SARGACEU_LEAF_ANSWER;
         if (told && (lent[0] > one.card[CARD_TEXT] || lent[1] > one.card[CARD_TEXT] - lent[0]))
             fail("the leaf lies past the card's text");
         expect_front(ANSWER, answer, told ? SARGACEU_LEAF_ANSWER : 0);
     }
-    return expected ? SARGACEU_ACCEPTED : NO;
+    return expected == SARGACEU_FOUND ? SARGACEU_ACCEPTED : expected == SARGACEU_FOUND_EMPTY ? EMPTY : NO;
+}
+
+int try_find_leaf(void)
+{
+    return try_lookup(sargaceu_find_leaf, plain_find_leaf);
+}
+
+int try_find_leaf_in_segment(void)
+{
+    return try_lookup(sargaceu_find_leaf_in_segment, plain_find_leaf_in_segment);
 }
 
 int try_next_row(void)

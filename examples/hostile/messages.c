@@ -86,7 +86,7 @@ static void draw_header(uint8_t context, struct measure measure)
     put_fields(below(measure.fields + 1), measure.text);
 }
 
-/* Orders often have one of a few numbers (9.4.2), so that two tables have the same order now and then. */
+/* Orders often have one of a few numbers (9.4.2), so that two tables have the same order now and then; some have an empty one, and are none. */
 static void draw_order_number(void)
 {
     split(0);
@@ -94,7 +94,8 @@ static void draw_order_number(void)
     split(0);
     put_text(below(4));
     split(1);
-    put_byte((uint8_t)('0' + below(4)));
+    if (!one_in(6))
+        put_byte((uint8_t)('0' + below(4)));
 }
 
 /* ---- lines ---- */

@@ -224,22 +224,47 @@ static void card_of(const struct table *t, size_t card[SARGACEU_CARD])
         card[i] = none ? 0 : t->card[i];
 }
 
-bool plain_find_leaf(const struct table *t, const uint16_t place[5], size_t answer[2])
+static bool counts_fit(const struct table *t, const size_t card[SARGACEU_CARD])
+{
+    return card[CARD_SEGMENTS] <= t->segments_numbers / SARGACEU_SEGMENT_ROW &&
+           card[CARD_LEAVES] <= t->leaves_numbers / SARGACEU_LEAF_ROW && card[CARD_TEXT] <= t->text_bytes;
+}
+
+/* What a leaf row alone says of a place. */
+static uint8_t sought_in_row(const uint16_t *row, const uint16_t place[5], size_t text, size_t answer[2])
+{
+    if (memcmp(row, place, 5 * sizeof *row) != 0 || (size_t)row[5] + row[6] > text)
+        return SARGACEU_NOT_THERE;
+    answer[0] = row[6] == 0 ? 0 : row[5];
+    answer[1] = row[6];
+    return row[6] == 0 ? SARGACEU_FOUND_EMPTY : SARGACEU_FOUND;
+}
+
+uint8_t plain_find_leaf(const struct table *t, const uint16_t place[5], size_t answer[2])
 {
     size_t card[SARGACEU_CARD];
+    uint8_t sought = SARGACEU_NOT_THERE;
     card_of(t, card);
-    if (card[CARD_SEGMENTS] > t->segments_numbers / SARGACEU_SEGMENT_ROW || card[CARD_LEAVES] > t->leaves_numbers / SARGACEU_LEAF_ROW ||
-        card[CARD_TEXT] > t->text_bytes)
-        return false;
-    for (size_t i = 0; i < card[CARD_LEAVES]; i++) {
-        const uint16_t *row = t->leaves + i * SARGACEU_LEAF_ROW;
-        if (memcmp(row, place, 5 * sizeof *row) != 0 || (size_t)row[5] + row[6] > card[CARD_TEXT])
-            continue;
-        answer[0] = row[5];
-        answer[1] = row[6];
-        return true;
-    }
-    return false;
+    if (!counts_fit(t, card))
+        return SARGACEU_NOT_THERE;
+    for (size_t i = 0; i < card[CARD_LEAVES] && sought == SARGACEU_NOT_THERE; i++)
+        sought = sought_in_row(t->leaves + i * SARGACEU_LEAF_ROW, place, card[CARD_TEXT], answer);
+    return sought;
+}
+
+/* Over all counted leaves by their numbers, from 1: those that the segment row does not name are passed over. */
+uint8_t plain_find_leaf_in_segment(const struct table *t, const uint16_t place[5], size_t answer[2])
+{
+    size_t card[SARGACEU_CARD];
+    uint8_t sought = SARGACEU_NOT_THERE;
+    card_of(t, card);
+    if (!counts_fit(t, card) || place[0] == 0 || place[0] > card[CARD_SEGMENTS])
+        return SARGACEU_NOT_THERE;
+    const uint16_t *segment = t->segments + (size_t)(place[0] - 1) * SARGACEU_SEGMENT_ROW;
+    for (size_t leaf = 1; leaf <= card[CARD_LEAVES] && sought == SARGACEU_NOT_THERE; leaf++)
+        if (leaf >= segment[2] && leaf - segment[2] < segment[3])
+            sought = sought_in_row(t->leaves + (leaf - 1) * SARGACEU_LEAF_ROW, place, card[CARD_TEXT], answer);
+    return sought;
 }
 
 size_t plain_next_row(const struct table *t, size_t after, uint16_t kind, uint16_t owner)
@@ -254,12 +279,13 @@ size_t plain_next_row(const struct table *t, size_t after, uint16_t kind, uint16
     return 0;
 }
 
+/* An order's number that is there and empty names no order. */
 static bool order_number(const struct table *t, uint16_t row, size_t answer[2])
 {
     const uint16_t place[5] = { row, 4, 1, 2, 1 };
     size_t card[SARGACEU_CARD];
     card_of(t, card);
-    return row != 0 && row <= card[CARD_SEGMENTS] && plain_find_leaf(t, place, answer) &&
+    return row != 0 && row <= card[CARD_SEGMENTS] && plain_find_leaf(t, place, answer) == SARGACEU_FOUND &&
            t->segments[(size_t)(row - 1) * SARGACEU_SEGMENT_ROW] == SARGACEU_OBR;
 }
 

@@ -1,4 +1,4 @@
-"""Reads a message from standard input and prints the value (10.6) of each result.
+"""Reads a message from standard input and prints the value (10.6) of each result, and its unit (10.7) in parentheses.
 
 The archive's code may stand at any address, so one command makes a shared library of it:
 
@@ -6,7 +6,8 @@ The archive's code may stand at any address, so one command makes a shared libra
     python3 examples/python/read.py target/libsargaceu.so <samples/report.hpr
 """
 import sys
-from ctypes import CDLL, POINTER, c_bool, c_char_p, c_size_t, c_uint8, c_uint16
+from ctypes import CDLL, POINTER, c_char_p, c_size_t, c_uint8, c_uint16
+from enum import IntEnum
 
 BYTES, NUMBERS, SIZES = POINTER(c_uint8), POINTER(c_uint16), POINTER(c_size_t)
 
@@ -14,9 +15,17 @@ library = CDLL(sys.argv[1])
 # Without these ctypes would pass every number as an int, which is too narrow for a length.
 library.sargaceu_read.restype = c_uint8
 library.sargaceu_read.argtypes = [c_char_p, c_size_t, BYTES, c_size_t, NUMBERS, c_size_t, NUMBERS, c_size_t, SIZES, c_size_t]
-library.sargaceu_find_leaf.restype = c_bool
-library.sargaceu_find_leaf.argtypes = [SIZES, c_size_t, NUMBERS, c_size_t, NUMBERS, c_size_t, BYTES, c_size_t,
-                                       c_uint16, c_uint16, c_uint16, c_uint16, c_uint16, SIZES, c_size_t]
+library.sargaceu_find_leaf_in_segment.restype = c_uint8
+library.sargaceu_find_leaf_in_segment.argtypes = [SIZES, c_size_t, NUMBERS, c_size_t, NUMBERS, c_size_t, BYTES, c_size_t,
+                                                  c_uint16, c_uint16, c_uint16, c_uint16, c_uint16, SIZES, c_size_t]
+
+
+class Sought(IntEnum):
+    """What a lookup of a leaf answers."""
+    NOT_THERE = 0
+    FOUND = 1
+    FOUND_EMPTY = 2
+
 
 message = sys.stdin.buffer.read()
 text, segments, leaves = (c_uint8 * 16384)(), (c_uint16 * 1024)(), (c_uint16 * 14336)()
@@ -28,12 +37,21 @@ if number != 0:
     print(f"refused: {number} at {answer[0]}")
     sys.exit(1)
 card = (c_size_t * 5)(*answer[1:])
+
+
+def shown(row, field):
+    """The text of a field as it came, in ISO 8859-1; a blank where it was sent empty, a dash where it was never sent."""
+    sought = library.sargaceu_find_leaf_in_segment(card, len(card), segments, len(segments), leaves, len(leaves), text, len(text),
+                                                   row, field, 1, 1, 1, leaf, len(leaf))
+    if sought == Sought.NOT_THERE:
+        return b"-"
+    if sought == Sought.FOUND_EMPTY:
+        return b" "
+    start, length = leaf
+    return bytes(text[start:start + length])
+
+
 OBX = 6
 for row in range(1, card[2] + 1):
-    if segments[(row - 1) * 4] != OBX:
-        continue
-    if library.sargaceu_find_leaf(card, len(card), segments, len(segments), leaves, len(leaves), text, len(text),
-                                  row, 6, 1, 1, 1, leaf, len(leaf)):
-        start, length = leaf
-        # a byte is a character of ISO 8859-1, and is printed as it came
-        sys.stdout.buffer.write(b"row %d: %s\n" % (row, bytes(text[start:start + length])))
+    if segments[(row - 1) * 4] == OBX:
+        sys.stdout.buffer.write(b"row %d: %s (%s)\n" % (row, shown(row, 6), shown(row, 7)))

@@ -6,7 +6,7 @@ pub const READ_ANSWER: usize = 6;
 /// The numbers that the writer answers: the place, the bytes, the lines.
 pub const WRITE_ANSWER: usize = 3;
 
-/// The numbers that the leaf lookup answers: start and length of the text.
+/// The numbers that a lookup of a leaf answers: start and length of the text.
 pub const LEAF_ANSWER: usize = 2;
 
 /// The numbers that the line walk answers: where the line ends, and where the next one begins.

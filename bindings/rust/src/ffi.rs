@@ -41,6 +41,8 @@ extern "C" {
         text: *const u8,
         text_bytes: usize,
     ) -> bool;
+    // A table of this crate is one that some message reads to, so it is looked into within the segment; this one is tested only.
+    #[cfg_attr(not(test), allow(dead_code))]
     pub fn sargaceu_find_leaf(
         card: *const usize,
         card_numbers: usize,
@@ -57,7 +59,24 @@ extern "C" {
         subsubfield: u16,
         answer: *mut usize,
         answer_numbers: usize,
-    ) -> bool;
+    ) -> u8;
+    pub fn sargaceu_find_leaf_in_segment(
+        card: *const usize,
+        card_numbers: usize,
+        segments: *const u16,
+        segments_numbers: usize,
+        leaves: *const u16,
+        leaves_numbers: usize,
+        text: *const u8,
+        text_bytes: usize,
+        segment: u16,
+        field: u16,
+        repetition: u16,
+        subfield: u16,
+        subsubfield: u16,
+        answer: *mut usize,
+        answer_numbers: usize,
+    ) -> u8;
     pub fn sargaceu_next_row(
         card: *const usize,
         card_numbers: usize,

@@ -5,6 +5,7 @@ use crate::ffi;
 use crate::place::Place;
 use crate::row::{Entry, Row};
 use crate::size;
+use crate::sought::Sought;
 use crate::table::Table;
 use crate::text::latin1;
 use std::fmt;
@@ -17,7 +18,7 @@ use std::slice::ChunksExact;
 /// # let mut buffers = sargaceu::Buffers::new();
 /// # let table = buffers.read(b"H|~^\\&|||LAB||ADM\rP|1||||M\xc9NARD\rL|1\r")?;
 /// # let patient = table.next_row(None, sargaceu::Kind::P, Some(sargaceu::Row::FIRST)).unwrap();
-/// let name = table.leaf(patient.field(6)).unwrap();
+/// let name = table.leaf(patient.field(6)).found().unwrap();
 /// assert_eq!(name.bytes(), b"M\xc9NARD");
 /// assert_eq!(name.to_string(), "MÉNARD");
 /// # Ok::<(), sargaceu::Refusal>(())
@@ -76,25 +77,32 @@ impl fmt::Debug for Leaf<'_> {
 }
 
 impl<'a> Table<'a> {
-    /// The leaf at a place. A leaf that was sent empty is there, with no bytes; one that was never sent is not.
+    /// The leaf at a place, in one of three ways: found with a text, found empty, not there. A leaf that was sent empty is not one that was
+    /// never sent.
+    ///
+    /// It goes over the leaves of the place's segment alone. Of every table that some message reads to, as this one is, a search over all
+    /// leaves would answer the same.
     ///
     /// ```
-    /// use sargaceu::{Buffers, Row};
+    /// use sargaceu::{Buffers, Row, Sought};
     /// let mut buffers = Buffers::new();
     /// let table = buffers.read(b"H|~^\\&|||LAB~L7||ERR\rERR|1\rL|1\r")?;
-    /// assert_eq!(table.leaf(Row::FIRST.field(5).subfield(2)).unwrap().bytes(), b"L7");
-    /// assert_eq!(table.leaf(Row::FIRST.field(4)).unwrap().bytes(), b"");
-    /// assert_eq!(table.leaf(Row::FIRST.field(8)), None);
+    /// match table.leaf(Row::FIRST.field(5).subfield(2)) {
+    ///     Sought::Found(leaf) => assert_eq!(leaf.bytes(), b"L7"),
+    ///     Sought::Empty | Sought::NotThere => unreachable!(),
+    /// }
+    /// assert_eq!(table.leaf(Row::FIRST.field(4)), Sought::Empty);
+    /// assert_eq!(table.leaf(Row::FIRST.field(8)), Sought::NotThere);
     /// # Ok::<(), sargaceu::Refusal>(())
     /// ```
-    pub fn leaf(&self, place: Place) -> Option<Leaf<'a>> {
+    pub fn leaf(&self, place: Place) -> Sought<'a> {
         let card = self.card().numbers();
         let (segments, leaves, text) = (self.segment_rows(), self.leaf_rows(), self.text());
         let mut answer = [0; answer::LEAF_ANSWER];
         // SAFETY: each pointer and its count are those of a slice that lives on during the call. The answer, which is written, is
         // borrowed as `&mut`, so it overlaps nothing.
-        let there = unsafe {
-            ffi::sargaceu_find_leaf(
+        let number = unsafe {
+            ffi::sargaceu_find_leaf_in_segment(
                 card.as_ptr(),
                 card.len(),
                 segments.as_ptr(),
@@ -113,11 +121,8 @@ impl<'a> Table<'a> {
             )
         };
         let [start, length] = answer;
-        if there {
-            Leaf::cut(place, text, start, length)
-        } else {
-            None
-        }
+        Sought::of(number, Leaf::cut(place, text, start, length))
+            .expect("the library answers in one of three ways, and finds no leaf beyond the text")
     }
 
     /// All leaves of the table, in row order. [`Segment::leaves`](crate::Segment::leaves) has those of one row.

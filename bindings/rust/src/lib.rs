@@ -12,8 +12,8 @@
 //! for patient in table.children(Row::FIRST, Kind::P) {
 //!     for order in table.children(patient, Kind::OBR) {
 //!         for result in table.children(order, Kind::OBX) {
-//!             let value = table.leaf(result.field(6)).unwrap();
-//!             assert_eq!(value.to_string(), "1.2");
+//!             let value = table.leaf(result.field(6)).text_or(b"-");
+//!             assert_eq!(value, b"1.2");
 //!         }
 //!     }
 //! }
@@ -23,8 +23,8 @@
 //! - A message of any bytes is read to a [`Table`], into [`Buffers`] or by [`read`] into buffers of the caller's, or is refused with one
 //!   [`Number`] and one place, a [`Refusal`].
 //! - A table has its [`Card`], its [`rows`](Table::rows) (a [`Segment`] each, by its [`Row`]) and its [`leaves`](Table::leaves).
-//!   [`children`](Table::children) finds the rows that belong to a row, [`leaf`](Table::leaf) the text at a [`Place`],
-//!   [`same_order`](Table::same_order) compares two orders.
+//!   [`children`](Table::children) finds the rows that belong to a row, [`leaf`](Table::leaf) the leaf at a [`Place`], [`Sought`] in three
+//!   ways: found, found empty, not there; [`same_order`](Table::same_order) compares two orders.
 //! - [`write`](Table::write) and [`to_message`](Table::to_message) give a message that reads to the same table.
 //! - [`lines()`] walks the lines of a file, a [`Watcher`] says which [`Kind`] may come next in a [`Context`], and [`Buffers::list`] lists a
 //!   message.
@@ -49,6 +49,7 @@ mod reading;
 mod row;
 mod segment;
 pub mod size;
+mod sought;
 mod table;
 mod text;
 mod unknown;
@@ -66,6 +67,7 @@ pub use place::Place;
 pub use reading::{read, Buffers};
 pub use row::{Entry, Row};
 pub use segment::{Rows, Segment};
+pub use sought::Sought;
 pub use table::Table;
 pub use text::latin1;
 pub use unknown::Unknown;

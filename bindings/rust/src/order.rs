@@ -5,9 +5,10 @@ use crate::row::Row;
 use crate::table::Table;
 
 impl Table<'_> {
-    /// Whether a row of this table and a row of another are the same order: both are OBR, and the leaf of subfield 2 in field 4 is there
-    /// in both, byte for byte the same. A row that is not there is no order. Two laboratories may give one number to different orders, so
-    /// compare the laboratories (field 5 of the header) first.
+    /// Whether a row of this table and a row of another are the same order: both are OBR, and the leaf of subfield 2 in field 4 is found in
+    /// both ([`Sought::Found`](crate::Sought::Found)), byte for byte the same. Where it was sent empty the answer is no: two orders without a
+    /// number are not the same one. A row that is not there is no order. Two laboratories may give one number to different orders, so compare
+    /// the laboratories (field 5 of the header) first.
     ///
     /// ```
     /// use sargaceu::{Buffers, Kind, Row};
@@ -16,6 +17,9 @@ impl Table<'_> {
     /// let done = two.read(b"H|~^\\&|||LAB||ORU\rP|1\rC|1\rOBR|1||B~17\rOBX|1\rL|1\r")?;
     /// assert!(asked.same_order(Row::new(3).unwrap(), &done, Row::new(4).unwrap()));
     /// assert!(!asked.same_order(Row::new(3).unwrap(), &done, Row::new(3).unwrap()));
+    ///
+    /// let unnumbered = two.read(b"H|~^\\&|||LAB||ORM\rP|1\rOBR|1||A~\rL|1\r")?;
+    /// assert!(!unnumbered.same_order(Row::new(3).unwrap(), &unnumbered, Row::new(3).unwrap()));
     /// # Ok::<(), sargaceu::Refusal>(())
     /// ```
     pub fn same_order(&self, row: Row, other: &Table<'_>, other_row: Row) -> bool {

@@ -10,6 +10,27 @@ struct Lent<'a> {
     text: &'a [u8],
 }
 
+/// What both lookups of a leaf are to C.
+type Lookup = unsafe extern "C" fn(
+    *const usize,
+    usize,
+    *const u16,
+    usize,
+    *const u16,
+    usize,
+    *const u8,
+    usize,
+    u16,
+    u16,
+    u16,
+    u16,
+    u16,
+    *mut usize,
+    usize,
+) -> u8;
+
+const LOOKUPS: [Lookup; 2] = [sargaceu_find_leaf, sargaceu_find_leaf_in_segment];
+
 const NOTHING: Lent<'static> = Lent {
     card: &[],
     segments: &[],
@@ -38,10 +59,16 @@ impl Lent<'_> {
         }
     }
 
-    fn leaf(&self, subsubfield: u16, answer: &mut [usize]) -> bool {
+    /// The leaf of row 1 at field, repetition and subfield 1, by one of the two lookups.
+    fn leaf(&self, lookup: Lookup, subsubfield: u16, answer: &mut [usize]) -> u8 {
+        self.leaf_at(lookup, [1, 1, 1, 1, subsubfield], answer)
+    }
+
+    fn leaf_at(&self, lookup: Lookup, place: [u16; 5], answer: &mut [usize]) -> u8 {
+        let [segment, field, repetition, subfield, subsubfield] = place;
         // SAFETY: as in `write`.
         unsafe {
-            sargaceu_find_leaf(
+            lookup(
                 self.card.as_ptr(),
                 self.card.len(),
                 self.segments.as_ptr(),
@@ -50,10 +77,10 @@ impl Lent<'_> {
                 self.leaves.len(),
                 self.text.as_ptr(),
                 self.text.len(),
-                1,
-                1,
-                1,
-                1,
+                segment,
+                field,
+                repetition,
+                subfield,
                 subsubfield,
                 answer.as_mut_ptr(),
                 answer.len(),
@@ -188,34 +215,162 @@ fn a_card_of_under_five_numbers_or_with_a_number_over_255_counts_nothing() {
     assert_eq!(with(&[124, 6, 2, 0, 0]), 0);
 }
 
+/// An OBX in row 1 that has so many leaves from one on.
+fn segment_row(first: u16, count: u16) -> [u16; 4] {
+    [6, 0, first, count]
+}
+
 #[test]
-fn a_leaf_is_there_although_its_answer_is_short() {
+fn a_leaf_is_found_or_found_empty_or_not_there() {
+    let lent = Lent {
+        card: &[124, 6, 1, 2, 2],
+        segments: &segment_row(1, 2),
+        leaves: &[1, 1, 1, 1, 1, 0, 2, 1, 1, 1, 1, 2, 2, 0],
+        text: b"OK",
+    };
+    for lookup in LOOKUPS {
+        let mut answer = [7; 3];
+        assert_eq!(lent.leaf(lookup, 3, &mut answer), 0);
+        assert_eq!(answer, [7, 7, 7]);
+        assert_eq!(lent.leaf(lookup, 1, &mut answer), 1);
+        assert_eq!(answer, [0, 2, 7]);
+        answer = [7; 3];
+        assert_eq!(lent.leaf(lookup, 2, &mut answer), 2);
+        assert_eq!(answer, [0, 0, 7]);
+    }
+}
+
+#[test]
+fn the_number_of_a_lookup_tells_although_its_answer_is_short() {
+    let lent = Lent {
+        card: &[124, 6, 1, 2, 2],
+        segments: &segment_row(1, 2),
+        leaves: &[1, 1, 1, 1, 1, 0, 2, 1, 1, 1, 1, 2, 2, 0],
+        text: b"OK",
+    };
+    for lookup in LOOKUPS {
+        let mut answer = [7; 1];
+        let told = [1, 2, 3].map(|subsubfield| lent.leaf(lookup, subsubfield, &mut answer));
+        assert_eq!(told, [1, 2, 0]);
+        assert_eq!(answer, [7]);
+        assert_eq!(lent.leaf(lookup, 1, &mut []), 1);
+    }
+}
+
+#[test]
+fn a_leaf_row_that_points_past_the_text_is_passed_over() {
+    let lent = Lent {
+        card: &[124, 6, 1, 3, 2],
+        segments: &segment_row(1, 3),
+        leaves: &[
+            1, 1, 1, 1, 1, 1, 2, 1, 1, 1, 1, 1, 3, 0, 1, 1, 1, 1, 1, 1, 1,
+        ],
+        text: b"OK",
+    };
+    for lookup in LOOKUPS {
+        let mut answer = [7; 2];
+        assert_eq!(lent.leaf(lookup, 1, &mut answer), 1);
+        assert_eq!(answer, [1, 1]);
+    }
+}
+
+#[test]
+fn a_card_that_counts_more_than_a_buffer_holds_has_no_leaf() {
+    let counting = |card| Lent {
+        card,
+        segments: &[6, 0, 1, 1],
+        leaves: &[1, 1, 1, 1, 1, 0, 2],
+        text: b"OK",
+    };
+    for lookup in LOOKUPS {
+        let told = |card| counting(card).leaf(lookup, 1, &mut [7; 2]);
+        assert_eq!(told(&[124, 6, 1, 1, 2]), 1);
+        assert_eq!(told(&[124, 6, 2, 1, 2]), 0);
+        assert_eq!(told(&[124, 6, 1, 2, 2]), 0);
+        assert_eq!(told(&[124, 6, 1, 1, 3]), 0);
+        assert_eq!(told(&[124, 6, 1, 1]), 0);
+    }
+}
+
+#[test]
+fn a_lookup_within_the_segment_sees_the_counted_leaves_that_its_row_names() {
+    let leaves = [
+        1, 1, 1, 1, 1, 0, 1, 1, 1, 1, 1, 2, 1, 1, 1, 1, 1, 1, 3, 2, 1,
+    ];
+    let told = |segments: &[u16], counted| {
+        let lent = Lent {
+            card: &[124, 6, 1, counted, 3],
+            segments,
+            leaves: &leaves,
+            text: b"ABC",
+        };
+        [1, 2, 3]
+            .map(|subsubfield| lent.leaf(sargaceu_find_leaf_in_segment, subsubfield, &mut [7; 2]))
+    };
+    assert_eq!(told(&segment_row(1, 3), 3), [1, 1, 1]);
+    assert_eq!(told(&segment_row(2, 1), 3), [0, 1, 0]);
+    assert_eq!(told(&segment_row(1, 0), 3), [0, 0, 0]);
+    assert_eq!(told(&segment_row(4, 3), 3), [0, 0, 0]);
+    assert_eq!(told(&segment_row(2, 65535), 3), [0, 1, 1]);
+    assert_eq!(told(&segment_row(65535, 65535), 3), [0, 0, 0]);
+    assert_eq!(told(&segment_row(2, 2), 2), [0, 1, 0]);
+    // rows count from 1: of 0, 1 and 2 the last two are there
+    assert_eq!(told(&segment_row(0, 3), 3), [1, 1, 0]);
+    assert_eq!(told(&segment_row(0, 1), 3), [0, 0, 0]);
+}
+
+#[test]
+fn a_lookup_within_the_segment_never_answers_a_leaf_of_another() {
+    let lent = Lent {
+        card: &[124, 6, 1, 1, 2],
+        segments: &segment_row(1, 1),
+        leaves: &[2, 1, 1, 1, 1, 0, 2],
+        text: b"OK",
+    };
+    let mut answer = [7; 2];
+    assert_eq!(lent.leaf(sargaceu_find_leaf_in_segment, 1, &mut answer), 0);
+    assert_eq!(answer, [7, 7]);
+}
+
+#[test]
+fn leaves_of_a_segment_that_is_not_counted_are_seen_by_the_first_lookup_alone() {
     let lent = Lent {
         card: &[124, 6, 0, 1, 2],
         leaves: &[1, 1, 1, 1, 1, 0, 2],
         text: b"OK",
         ..NOTHING
     };
-    let mut answer = [7; 2];
-    assert!(lent.leaf(1, &mut answer[..1]));
-    assert_eq!(answer, [7, 7]);
-    assert!(lent.leaf(1, &mut answer));
-    assert_eq!(answer, [0, 2]);
-    assert!(!lent.leaf(2, &mut answer));
-    assert_eq!(answer, [0, 2]);
+    let told = LOOKUPS.map(|lookup| lent.leaf(lookup, 1, &mut [7; 2]));
+    assert_eq!(told, [1, 0]);
 }
 
 #[test]
-fn a_leaf_row_that_points_past_the_text_is_passed_over() {
+fn both_lookups_answer_the_same_of_a_table_that_was_read() {
+    let mut buffers = crate::Buffers::new();
+    let table = buffers.read(include_bytes!("../../../../samples/report.hpr"));
+    let table = table.unwrap();
     let lent = Lent {
-        card: &[124, 6, 0, 2, 2],
-        leaves: &[1, 1, 1, 1, 1, 1, 2, 1, 1, 1, 1, 1, 1, 1],
-        text: b"OK",
-        ..NOTHING
+        card: &table.card().numbers(),
+        segments: table.segment_rows(),
+        leaves: table.leaf_rows(),
+        text: table.text(),
     };
-    let mut answer = [7; 2];
-    assert!(lent.leaf(1, &mut answer));
-    assert_eq!(answer, [1, 1]);
+    let mut told = [0; 3];
+    for row in lent.leaves.chunks_exact(crate::size::LEAF_ROW) {
+        for changed in 0..5 {
+            for number in [0, 1, 2, row[changed], row[changed] + 1, 65535] {
+                let mut place = [row[0], row[1], row[2], row[3], row[4]];
+                place[changed] = number;
+                let [all, within] = LOOKUPS.map(|lookup| {
+                    let mut answer = [7; 2];
+                    (lent.leaf_at(lookup, place, &mut answer), answer)
+                });
+                assert_eq!(all, within);
+                told[usize::from(all.0)] += 1;
+            }
+        }
+    }
+    assert!(told.iter().all(|&times| times > 0));
 }
 
 #[test]

@@ -1,11 +1,11 @@
 use crate::{row, REPORT, SMALL};
-use sargaceu::{Buffers, Kind, Row};
+use sargaceu::{latin1, Buffers, Kind, Row, Sought};
 
 #[test]
 fn leaves_are_found_by_their_place() {
     let mut buffers = Buffers::new();
     let table = buffers.read(SMALL).unwrap();
-    let text = |place| table.leaf(place).map(|leaf| leaf.bytes());
+    let text = |place| table.leaf(place).text();
     assert_eq!(text(row(2).field(6)), Some(&b"DUPONT"[..]));
     assert_eq!(text(row(2).field(6).subfield(2)), Some(&b"JEAN"[..]));
     assert_eq!(text(Row::FIRST.field(2)), Some(&b"~^\\&"[..]));
@@ -18,11 +18,46 @@ fn leaves_are_found_by_their_place() {
 }
 
 #[test]
+fn a_leaf_sent_empty_is_not_one_that_was_never_sent() {
+    let mut buffers = Buffers::new();
+    let message = b"H|~^\\&|||LAB||ORU\rP|1\rOBR|1\rOBX|1|NM|GLY||1.2|g/L\rOBX|2|NM|PH||7.4|\rOBX|3|NM|K||5.6\rL|1\r";
+    let table = buffers.read(message).unwrap();
+    let [sent, empty, missing] = [4, 5, 6].map(|number| table.leaf(row(number).field(7)));
+    assert!(matches!(sent, Sought::Found(leaf) if leaf.bytes() == b"g/L"));
+    assert_eq!(empty, Sought::Empty);
+    assert_eq!(missing, Sought::NotThere);
+
+    let sought = [sent, empty, missing];
+    assert_eq!(
+        sought.map(|unit| unit.text_or(b"-")),
+        [&b"g/L"[..], b"", b"-"]
+    );
+    assert_eq!(
+        sought.map(Sought::text),
+        [Some(&b"g/L"[..]), Some(b""), None]
+    );
+    assert_eq!(
+        sought.map(|unit| unit.found().is_some()),
+        [true, false, false]
+    );
+}
+
+#[test]
+fn an_empty_first_leaf_does_not_make_the_field_empty() {
+    let mut buffers = Buffers::new();
+    let table = buffers.read(b"H|~^\\&|||LAB||ADM\rP|~b\rL\r").unwrap();
+    let field = row(2).field(2);
+    assert_eq!(table.leaf(field), Sought::Empty);
+    assert_eq!(table.leaf(field.subfield(2)).text(), Some(&b"b"[..]));
+    assert_eq!(table.leaf(field.subfield(3)), Sought::NotThere);
+}
+
+#[test]
 fn repetitions_and_subsubfields_have_places() {
     let mut buffers = Buffers::new();
     let message = b"H|~^\\&|||LAB||ADM\rP|1^a&b~c\rL\r";
     let table = buffers.read(message).unwrap();
-    let text = |place| table.leaf(place).map(|leaf| leaf.to_string());
+    let text = |place| table.leaf(place).text().map(latin1);
     let field = row(2).field(2);
     assert_eq!(text(field).as_deref(), Some("1"));
     assert_eq!(text(field.repetition(2)).as_deref(), Some("a"));
@@ -40,7 +75,11 @@ fn every_leaf_is_found_at_its_own_place() {
         let table = buffers.read(message).unwrap();
         assert_eq!(table.leaves().len(), table.card().leaves);
         for leaf in table.leaves() {
-            assert_eq!(table.leaf(leaf.place()), Some(leaf));
+            let expected = match leaf.bytes() {
+                b"" => Sought::Empty,
+                _ => Sought::Found(leaf),
+            };
+            assert_eq!(table.leaf(leaf.place()), expected);
         }
         let text: Vec<u8> = table
             .leaves()
@@ -76,7 +115,8 @@ fn a_leaf_is_shown_as_a_string() {
         .rows()
         .find(|segment| segment.kind() == Kind::OBX)
         .unwrap();
-    let name = table.leaf(result.row().field(4).subfield(2)).unwrap();
+    let place = result.row().field(4).subfield(2);
+    let name = table.leaf(place).found().unwrap();
     assert_eq!(name.bytes(), b"Glyc\xe9mie");
     assert_eq!(name.to_string(), "Glycémie");
     assert_eq!(format!("{name:>10}|"), "  Glycémie|");

@@ -1,5 +1,5 @@
 use crate::row;
-use sargaceu::Buffers;
+use sargaceu::{Buffers, Sought};
 
 #[test]
 fn orders_are_the_same_by_their_number() {
@@ -25,4 +25,18 @@ fn an_order_without_a_number_is_not_the_same_as_itself() {
         .read(b"H|~^\\&|||LAB||ORM\rP|1\rOBR|1||A\rL|1\r")
         .unwrap();
     assert!(!table.same_order(row(3), &table, row(3)));
+}
+
+#[test]
+fn two_orders_whose_number_was_sent_empty_are_not_the_same() {
+    let (mut one, mut two) = (Buffers::new(), Buffers::new());
+    let message = b"H|~^\\&|||LAB||ORM\rP|1\rOBR|1||A~\rOBR|2||A~\rOBR|3||A~7\rL|1\r";
+    let table = one.read(message).unwrap();
+    let again = two.read(message).unwrap();
+    assert_eq!(table.leaf(row(3).field(4).subfield(2)), Sought::Empty);
+    assert!(!table.same_order(row(3), &table, row(3)));
+    assert!(!table.same_order(row(3), &table, row(4)));
+    assert!(!table.same_order(row(3), &again, row(3)));
+    assert!(!table.same_order(row(3), &again, row(5)));
+    assert!(table.same_order(row(5), &again, row(5)));
 }

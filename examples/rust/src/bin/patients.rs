@@ -35,6 +35,7 @@ fn results(table: &Table, order: Row) -> io::Result<()> {
     for result in table.children(order, Kind::OBX) {
         show(table, "  result", result.field(4))?;
         show_whole(table, "    value", result, 6)?;
+        show(table, "    unit", result.field(7))?;
         comments(table, result)?;
     }
     Ok(())
@@ -46,14 +47,10 @@ fn comments(table: &Table, row: Row) -> io::Result<()> {
     comments.try_for_each(|comment| show_whole(table, "    comment", comment, 4))
 }
 
-/// A line with the leaf at a place; a leaf that is not there is not shown.
+/// A line with the leaf at a place: a blank where it was sent empty, a dash where it was never sent.
 fn show(table: &Table, what: &str, place: Place) -> io::Result<()> {
-    match table.leaf(place) {
-        Some(leaf) => {
-            io::stdout().write_all(&[what.as_bytes(), b" ", leaf.bytes(), b"\n"].concat())
-        }
-        None => Ok(()),
-    }
+    let text = table.leaf(place).text_or(b"-");
+    io::stdout().write_all(&[what.as_bytes(), b" ", text, b"\n"].concat())
 }
 
 /// A line with every leaf of a field: a value of `10^4` is two repetitions, and the second line of a text is one.
@@ -62,12 +59,12 @@ fn show_whole(table: &Table, what: &str, row: Row, field: u16) -> io::Result<()>
         .row(row)
         .into_iter()
         .flat_map(|segment| segment.leaves());
-    let texts: Vec<_> = leaves
+    let mut texts: Vec<_> = leaves
         .filter(|leaf| leaf.place().field == field)
         .map(|leaf| leaf.bytes())
         .collect();
     if texts.is_empty() {
-        return Ok(());
+        texts.push(b"-");
     }
     io::stdout().write_all(&[what.as_bytes(), b" ", &texts.join(&b" / "[..]), b"\n"].concat())
 }

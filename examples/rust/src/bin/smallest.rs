@@ -1,6 +1,6 @@
-//! The smallest reader: takes a message from standard input and prints the value (10.6) of each result, its bytes as they are.
+//! The smallest reader: takes a message from standard input and prints the value (10.6) of each result, and its unit (10.7) in parentheses.
 
-use sargaceu::{Buffers, Kind};
+use sargaceu::{Buffers, Kind, Sought};
 use std::io::{self, Read, Write};
 use std::process::ExitCode;
 
@@ -17,11 +17,19 @@ fn main() -> io::Result<ExitCode> {
     };
     let mut output = io::stdout().lock();
     for segment in table.rows().filter(|segment| segment.kind() == Kind::OBX) {
-        if let Some(value) = table.leaf(segment.row().field(6)) {
-            write!(output, "row {}: ", segment.row())?;
-            output.write_all(value.bytes())?;
-            writeln!(output)?;
-        }
+        let value = shown(table.leaf(segment.row().field(6)));
+        let unit = shown(table.leaf(segment.row().field(7)));
+        write!(output, "row {}: ", segment.row())?;
+        output.write_all(&[value, b" (", unit, b")\n"].concat())?;
     }
     Ok(ExitCode::SUCCESS)
+}
+
+/// The text of a leaf as it came; a blank where it was sent empty, a dash where it was never sent.
+fn shown(sought: Sought<'_>) -> &[u8] {
+    match sought {
+        Sought::Found(leaf) => leaf.bytes(),
+        Sought::Empty => b" ",
+        Sought::NotThere => b"-",
+    }
 }
