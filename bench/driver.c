@@ -696,7 +696,7 @@ static uint16_t last_result(const char *path)
     size_t last = held.segments[(row - 1) * SARGACEU_SEGMENT_ROW + 3];
     const uint16_t place[PLACE] = { (uint16_t)row, VALUE, 1, 1, 1 };
     if (held.answer[4] != leaves || last != LAST_LEAVES || find_by(BY_BASELINE, &held, place, answer, whole) != SARGACEU_FOUND) {
-        fprintf(stderr, "driver: %s has %zu leaves, its last result %zu of them, or no value there\n", path, held.answer[4], last);
+        fprintf(stderr, "driver: %s has %zu leaves, %zu of them in its last result: not the shape that is measured\n", path, held.answer[4], last);
         exit(1);
     }
     return place[0];
