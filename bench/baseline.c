@@ -670,3 +670,41 @@ uint8_t base_write(const size_t *card, size_t card_numbers,
         return refuse(13, 0, answer, 2);
     return write_table(&t, output, answer);
 }
+
+/* ---- the lookup ---- */
+
+enum { NOT_THERE, FOUND, FOUND_EMPTY };
+
+/*
+ * Any buffers may be lent, so all counted rows are gone over. Most are of other segments: the compiler is told so, for then such a row takes
+ * five instructions and one jump, where it would take two jumps and twice the time.
+ */
+uint8_t base_find_leaf(const size_t *card, size_t card_numbers,
+                       const uint16_t *segments, size_t segments_numbers,
+                       const uint16_t *leaves, size_t leaves_numbers,
+                       const uint8_t *text, size_t text_bytes,
+                       uint16_t segment, uint16_t field, uint16_t repetition, uint16_t subfield, uint16_t subsubfield,
+                       size_t *answer, size_t answer_numbers)
+{
+    (void)segments, (void)text;
+    if (card_numbers < 5 || card[0] > 255 || card[1] > 255)
+        return NOT_THERE;
+    if (card[2] > segments_numbers / SEGMENT_ROW || card[3] > leaves_numbers / LEAF_ROW || card[4] > text_bytes)
+        return NOT_THERE;
+    const uint16_t *row = leaves;
+    for (size_t left = card[3]; left > 0; left--, row += LEAF_ROW) {
+        if (__builtin_expect(row[0] != segment, 1))
+            continue;
+        if (row[1] != field || row[2] != repetition || row[3] != subfield || row[4] != subsubfield)
+            continue;
+        size_t start = row[5], length = row[6];
+        if (start + length > card[4])
+            continue;
+        if (answer_numbers >= 2) {
+            answer[0] = length ? start : 0;
+            answer[1] = length;
+        }
+        return length ? FOUND : FOUND_EMPTY;
+    }
+    return NOT_THERE;
+}

@@ -1,6 +1,7 @@
 /*
- * The baseline: reader and writer by the rules of docs/RULES.md in plain C, written for speed and with every refusal. The library is measured
- * against it. Same parameters, same answers and same buffers as sargaceu_read and sargaceu_write of include/sargaceu.h, on every input.
+ * The baseline: reader, writer and leaf lookup by the rules of docs/RULES.md in plain C, written for speed and with every refusal. The library
+ * is measured against it. Same parameters, same answers and same buffers as sargaceu_read, sargaceu_write and sargaceu_find_leaf of
+ * include/sargaceu.h, on every input.
  */
 #ifndef BASELINE_H
 #define BASELINE_H
@@ -20,5 +21,12 @@ uint8_t base_write(const size_t *card, size_t card_numbers,
                    const uint8_t *text, size_t text_bytes,
                    uint8_t *output, size_t output_bytes,
                    size_t *answer, size_t answer_numbers);
+
+uint8_t base_find_leaf(const size_t *card, size_t card_numbers,
+                       const uint16_t *segments, size_t segments_numbers,
+                       const uint16_t *leaves, size_t leaves_numbers,
+                       const uint8_t *text, size_t text_bytes,
+                       uint16_t segment, uint16_t field, uint16_t repetition, uint16_t subfield, uint16_t subsubfield,
+                       size_t *answer, size_t answer_numbers);
 
 #endif

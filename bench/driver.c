@@ -1,9 +1,10 @@
 /*
  * One program around both implementations, the library and the baseline:
  *
- *   driver compare FILE...                     both give the same on these messages, and on damaged and invented ones
- *   driver read|write library|baseline FILE N  N readings of a message, or writings of its table
- *   driver time FILE...                        times of both, interleaved, the least of nine, on x86-64
+ *   driver compare FILE...                        both give the same on these messages, and on damaged and invented ones
+ *   driver read|write library|baseline FILE N     N readings of a message, or writings of its table
+ *   driver find library|segment|baseline FILE N   N lookups of the last result's value, the library's over all leaves or within the segment
+ *   driver time FILE...                           times of both, interleaved, the least of nine, on x86-64
  *
  * Both are called by pointers that the compiler cannot see through, so no call is folded away.
  */
@@ -22,10 +23,17 @@
 typedef uint8_t reader(const uint8_t *, size_t, uint8_t *, size_t, uint16_t *, size_t, uint16_t *, size_t, size_t *, size_t);
 typedef uint8_t writer(const size_t *, size_t, const uint16_t *, size_t, const uint16_t *, size_t, const uint8_t *, size_t,
                        uint8_t *, size_t, size_t *, size_t);
+typedef uint8_t finder(const size_t *, size_t, const uint16_t *, size_t, const uint16_t *, size_t, const uint8_t *, size_t,
+                       uint16_t, uint16_t, uint16_t, uint16_t, uint16_t, size_t *, size_t);
 
 static const char *const names[2] = { "library", "baseline" };
 static reader *volatile readers[2] = { sargaceu_read, base_read };
 static writer *volatile writers[2] = { sargaceu_write, base_write };
+
+/* The library has two lookups of one question, the baseline one. */
+enum { BY_LIBRARY, IN_SEGMENT, BY_BASELINE, FINDERS };
+static const char *const finder_names[FINDERS] = { "library", "segment", "baseline" };
+static finder *volatile finders[FINDERS] = { sargaceu_find_leaf, sargaceu_find_leaf_in_segment, base_find_leaf };
 
 /* Some room past each limit, to see that longer buffers are used at their front alone. */
 enum {
@@ -48,6 +56,9 @@ struct message {
     size_t length;
 };
 
+/* A leaf's place is the first five numbers of its row. */
+enum { PLACE = 5 };
+
 /* How much of each buffer is lent. */
 struct lent { size_t text, segments, leaves, answer, card, output; };
 
@@ -65,12 +76,19 @@ static uint8_t write_by(int which, const struct table *t, uint8_t *output, size_
                           output, lent.output, answer, lent.answer < 3 ? lent.answer : 3);
 }
 
+static uint8_t find_by(int which, const struct table *t, const uint16_t *place, size_t *answer, struct lent lent)
+{
+    return finders[which](t->answer + 1, lent.card, t->segments, lent.segments, t->leaves, lent.leaves, t->text, lent.text,
+                          place[0], place[1], place[2], place[3], place[4], answer, lent.answer < 3 ? lent.answer : 3);
+}
+
 /* ---- comparing ---- */
 
 static struct table tables[2], held;
 static uint8_t outputs[2][OUTPUT];
 static size_t answers[2][SARGACEU_WRITE_ANSWER];
 static size_t cases, accepted, numbers[14], table_cases, table_accepted;
+static size_t lookups, segment_lookups, sought[3];
 
 static uint64_t state = 0x9e3779b97f4a7c15u;
 
@@ -139,6 +157,29 @@ static uint8_t same_writing(const struct table *t, struct lent lent, const struc
     table_accepted += given[0] == 0;
     numbers[given[0]] += given[0] > 11;
     return given[0];
+}
+
+/*
+ * Both look a place up, with answers that held the same before. Within its segment the library finds the same where a reading gave the
+ * table; of any other table it finds nothing there that is not found among all leaves.
+ */
+static void same_lookup(const struct table *t, const uint16_t *place, struct lent lent, bool was_read, const struct message *m)
+{
+    size_t answer[FINDERS][3];
+    uint8_t given[FINDERS];
+    memset(answer, (int)below(256), sizeof answer);
+    for (int i = 0; i < FINDERS; i++)
+        given[i] = find_by(i, t, place, answer[i], lent);
+    bool same = given[BY_LIBRARY] == given[BY_BASELINE] && memcmp(answer[BY_LIBRARY], answer[BY_BASELINE], sizeof answer[0]) == 0;
+    bool same_there = given[IN_SEGMENT] == given[BY_BASELINE] && memcmp(answer[IN_SEGMENT], answer[BY_BASELINE], sizeof answer[0]) == 0;
+    if (!same || (was_read && !same_there) || given[IN_SEGMENT] > 2 || (given[IN_SEGMENT] && !given[BY_BASELINE])) {
+        fprintf(stderr, "place %u %u %u %u %u, answers %u %u %u\n", place[0], place[1], place[2], place[3], place[4],
+                given[BY_LIBRARY], given[IN_SEGMENT], given[BY_BASELINE]);
+        show(same ? "looking up within the segment" : "looking up", m);
+    }
+    lookups++;
+    segment_lookups += was_read;
+    sought[given[BY_BASELINE]]++;
 }
 
 /* ---- damage to messages ---- */
@@ -380,6 +421,15 @@ static void move_border(struct table *t)
     }
 }
 
+/* The widest separator and context and one more, and counts whose rows would have more numbers than a size_t can say. */
+static size_t telling_count(void)
+{
+    static const size_t telling[] = {
+        UINT8_MAX, UINT8_MAX + 1, SIZE_MAX / SARGACEU_LEAF_ROW + 1, SIZE_MAX / SARGACEU_SEGMENT_ROW + 1, SIZE_MAX - 1, SIZE_MAX
+    };
+    return telling[below(sizeof telling / sizeof *telling)];
+}
+
 /* The last leaf or the last segment is no longer counted, or one more is. */
 static void move_count(struct table *t)
 {
@@ -387,7 +437,7 @@ static void move_count(struct table *t)
     switch (below(3)) {
     case 0: t->answer[which]++; break;
     case 1: t->answer[which]--; break;
-    default: t->answer[which] = below(3) ? below(20000) : (size_t)-1 - below(3); break;
+    default: t->answer[which] = below(2) ? below(20000) : telling_count(); break;
     }
 }
 
@@ -403,24 +453,117 @@ static void stretch(struct table *t)
     t->answer[5] = bytes;
 }
 
+/* The leaves that the card counts, as far as the form has them. */
+static size_t counted_leaves(const struct table *t)
+{
+    size_t most = SARGACEU_LEAVES / SARGACEU_LEAF_ROW;
+    return t->answer[4] < most ? t->answer[4] : most;
+}
+
+/* Two leaves get one place, and the first of them may reach up to the text's end or beyond. */
+static void double_place(struct table *t)
+{
+    size_t many = counted_leaves(t);
+    if (many < 2)
+        return;
+    size_t first = below(many - 1), second = first + 1 + below(many - 1 - first);
+    uint16_t *row = t->leaves + first * SARGACEU_LEAF_ROW;
+    memcpy(t->leaves + second * SARGACEU_LEAF_ROW, row, PLACE * sizeof *row);
+    if (below(2))
+        row[6] = (uint16_t)(t->answer[5] - row[5] + below(2));
+}
+
 static void damage_table(struct table *t)
 {
-    size_t rows = t->answer[3] > 256 ? 256 : t->answer[3], leaves = t->answer[4] > 2048 ? 2048 : t->answer[4];
+    size_t rows = t->answer[3] > 256 ? 256 : t->answer[3], leaves = counted_leaves(t);
     size_t bytes = t->answer[5] > SARGACEU_TEXT ? SARGACEU_TEXT : t->answer[5];
-    switch (below(12)) {
+    switch (below(13)) {
     case 0: case 1: nudge(t->segments + below(rows * SARGACEU_SEGMENT_ROW)); break;
     case 2: case 3: case 4: nudge(t->leaves + below(leaves * SARGACEU_LEAF_ROW)); break;
     case 5: case 6: t->text[below(below(4) ? bytes : 8)] = below(2) ? telling_byte() : (uint8_t)below(256); break;
     case 7: case 8: case 9: move_border(t); break;
     case 10: stretch(t); break;
+    case 11: double_place(t); break;
     default: move_count(t);
+    }
+}
+
+/* ---- comparing lookups ---- */
+
+/* Buffers just as long as the card counts, as far as there are any, now and then one of them short by one; and any answer. */
+static struct lent just_lent(const struct table *t)
+{
+    struct lent lent = whole;
+    size_t *const sizes[] = { &lent.segments, &lent.leaves, &lent.text, &lent.card };
+    if (t->answer[3] < SEGMENTS / SARGACEU_SEGMENT_ROW)
+        lent.segments = t->answer[3] * SARGACEU_SEGMENT_ROW;
+    if (t->answer[4] < LEAVES / SARGACEU_LEAF_ROW)
+        lent.leaves = t->answer[4] * SARGACEU_LEAF_ROW;
+    if (t->answer[5] < TEXT)
+        lent.text = t->answer[5];
+    lent.answer = below(4);
+    size_t *size = sizes[below(4)];
+    if (below(16) == 0 && *size > 0)
+        --*size;
+    return lent;
+}
+
+/* Places beside a leaf's: one number is one more or one less. */
+enum { BESIDE = 2 * PLACE };
+
+/* A leaf's place and so many of those beside it, all of them or any. */
+static void look_around(const struct table *t, const uint16_t *row, size_t beside, bool was_read, const struct message *m)
+{
+    uint16_t place[PLACE];
+    same_lookup(t, row, just_lent(t), was_read, m);
+    for (size_t i = 0; i < beside; i++) {
+        size_t which = beside == BESIDE ? i : below(BESIDE);
+        memcpy(place, row, sizeof place);
+        place[which / 2] = (uint16_t)(place[which / 2] + (which % 2 ? 1 : -1));
+        same_lookup(t, place, just_lent(t), was_read, m);
+    }
+}
+
+/* Places of segments that are none. */
+static void look_outside(const struct table *t, bool was_read, const struct message *m)
+{
+    const uint16_t none[] = { 0, (uint16_t)(t->answer[3] + 1), UINT16_MAX };
+    for (size_t i = 0; i < sizeof none / sizeof *none; i++)
+        same_lookup(t, (uint16_t[PLACE]){ none[i], 1, 1, 1, 1 }, just_lent(t), was_read, m);
+}
+
+/* The places of all leaves of a table that a reading gave, and all places beside each, or one. */
+static void compare_lookups(const struct table *t, bool all, const struct message *m)
+{
+    for (size_t leaf = 0; leaf < t->answer[4]; leaf++)
+        look_around(t, t->leaves + leaf * SARGACEU_LEAF_ROW, all ? BESIDE : 1, true, m);
+    look_outside(t, true, m);
+}
+
+/* The places of the leaves that the damage changed, as they were and as they are, and of one leaf more. */
+static void compare_damaged_lookups(const struct table *was, const struct table *t, struct lent lent, const struct message *m)
+{
+    const uint16_t *any = t->leaves + below(counted_leaves(t)) * SARGACEU_LEAF_ROW;
+    lent.answer = below(4);
+    same_lookup(t, any, lent, false, m);
+    look_around(t, any, 1, false, m);
+    look_outside(t, false, m);
+    for (size_t at = 0; at < SARGACEU_LEAVES; at += SARGACEU_LEAF_ROW) {
+        if (memcmp(was->leaves + at, t->leaves + at, SARGACEU_LEAF_ROW * sizeof *t->leaves) == 0)
+            continue;
+        same_lookup(t, t->leaves + at, lent, false, m);
+        look_around(t, was->leaves + at, 1, false, m);
+        look_around(t, t->leaves + at, 1, false, m);
     }
 }
 
 /* ---- the modes ---- */
 
-/* The table of a message that reads is written, and what was written reads to the same table; then the table is damaged. */
-static void compare_tables(const struct message *m, size_t damaged)
+/*
+ * The table of a message that reads is written, and what was written reads to the same table; its leaves are looked up; then the table is
+ * damaged.
+ */
+static void compare_tables(const struct message *m, size_t damaged, bool all)
 {
     static struct message back;
     held = tables[0];
@@ -431,19 +574,21 @@ static void compare_tables(const struct message *m, size_t damaged)
     tables[0] = held;
     if (read_by(0, &back, &tables[0], whole) != 0 || memcmp(&tables[0], &held, sizeof held) != 0)
         show("what was written reads to another table", m);
+    compare_lookups(&held, all, m);
     for (size_t i = 0; i < damaged; i++) {
         struct lent lent = some_lent();
         tables[0] = held;
         for (size_t n = 1 + below(3); n > 0; n--)
             damage_table(&tables[0]);
         same_writing(&tables[0], lent, m);
+        compare_damaged_lookups(&held, &tables[0], lent, m);
     }
 }
 
 static void compare_one(const struct message *m, size_t damaged)
 {
     if (same_reading(m, some_lent()) == 0)
-        compare_tables(m, damaged);
+        compare_tables(m, damaged, false);
 }
 
 static void load(struct message *m, const char *path)
@@ -464,7 +609,7 @@ static int compare(int files, char **file)
         load(&m, file[i]);
         if (same_reading(&m, whole) != 0)
             show("a measured message is refused", &m);
-        compare_tables(&m, 400);
+        compare_tables(&m, 400, true);
         for (size_t n = 0; n < 600; n++) {
             damaged = m;
             for (size_t d = 1 + below(3); d > 0; d--)
@@ -480,11 +625,13 @@ static int compare(int files, char **file)
             damage(&m);
         compare_one(&m, 4);
     }
-    printf("library and baseline agree on %zu messages, %zu of them accepted, and on %zu tables, %zu of them written\n",
-           cases, accepted, table_cases, table_accepted);
+    printf("library and baseline agree on %zu messages, %zu of them accepted, on %zu tables, %zu of them written, "
+           "and on %zu lookups, %zu of them within the segment too\n",
+           cases, accepted, table_cases, table_accepted, lookups, segment_lookups);
     for (int i = 0; i < 14; i++)
         printf("%s%d: %zu", i ? ", " : "answers by number: ", i, numbers[i]);
-    printf("\n");
+    printf("\nlookups: %zu found, %zu found empty, %zu not there\n", sought[SARGACEU_FOUND], sought[SARGACEU_FOUND_EMPTY],
+           sought[SARGACEU_NOT_THERE]);
     return 0;
 }
 
@@ -513,6 +660,71 @@ static int run(bool writing, const char *who, const char *path, size_t times)
     return 0;
 }
 
+/* ---- measured lookups ---- */
+
+/* The name of a message's file, without its folder. */
+static const char *name_in(const char *path)
+{
+    const char *slash = strrchr(path, '/');
+    return slash ? slash + 1 : path;
+}
+
+/* Messages for lookups are named by the leaves that they have. */
+static const char for_lookups[] = "leaves-";
+
+static bool is_for_lookups(const char *path)
+{
+    return strncmp(name_in(path), for_lookups, strlen(for_lookups)) == 0;
+}
+
+/* The field of a result's value, 10.6. */
+enum { VALUE = 6 };
+
+/* Reads a message for lookups and answers the row of its last result, whose value is looked up. Another shape would measure another thing. */
+static uint16_t last_result(const char *path)
+{
+    static struct message m;
+    enum { LAST_LEAVES = 11 };
+    load(&m, path);
+    if (!is_for_lookups(path) || read_by(0, &m, &held, whole) != 0) {
+        fprintf(stderr, "driver: %s is refused, or is no message for lookups\n", path);
+        exit(1);
+    }
+    size_t row = held.answer[3], answer[3], leaves = strtoul(name_in(path) + strlen(for_lookups), NULL, 10);
+    while (row > 1 && held.segments[(row - 1) * SARGACEU_SEGMENT_ROW] != SARGACEU_OBX)
+        row--;
+    size_t last = held.segments[(row - 1) * SARGACEU_SEGMENT_ROW + 3];
+    const uint16_t place[PLACE] = { (uint16_t)row, VALUE, 1, 1, 1 };
+    if (held.answer[4] != leaves || last != LAST_LEAVES || find_by(BY_BASELINE, &held, place, answer, whole) != SARGACEU_FOUND) {
+        fprintf(stderr, "driver: %s has %zu leaves, %zu of them in its last result: not the shape that is measured\n", path, held.answer[4], last);
+        exit(1);
+    }
+    return place[0];
+}
+
+static void repeat_lookup(int which, uint16_t row, size_t times)
+{
+    size_t answer[SARGACEU_LEAF_ANSWER];
+    for (size_t i = 0; i < times; i++)
+        finders[which](held.answer + 1, SARGACEU_CARD, held.segments, SEGMENTS, held.leaves, LEAVES, held.text, TEXT,
+                       row, VALUE, 1, 1, 1, answer, SARGACEU_LEAF_ANSWER);
+}
+
+static int run_lookups(const char *who, const char *path, size_t times)
+{
+    int which = 0;
+    while (which < FINDERS && strcmp(who, finder_names[which]) != 0)
+        which++;
+    if (which == FINDERS) {
+        fprintf(stderr, "driver: %s looks nothing up\n", who);
+        return 2;
+    }
+    repeat_lookup(which, last_result(path), times);
+    return 0;
+}
+
+/* ---- times ---- */
+
 static double seconds(void)
 {
     struct timespec t;
@@ -538,20 +750,44 @@ static void time_one(bool writing, const struct message *m)
     printf(" %8.3f %8.3f %6.2f", 1e9 * least[0] / bytes, 1e9 * least[1] / bytes, least[0] / least[1]);
 }
 
+/* Nanoseconds a lookup, of all three. */
+static void time_lookups(const char *path)
+{
+    enum { TIMES = 20000 };
+    double least[FINDERS] = { 1e9, 1e9, 1e9 };
+    uint16_t row = last_result(path);
+    for (int round = 0; round < 9; round++) {
+        for (int which = 0; which < FINDERS; which++) {
+            double began = seconds();
+            repeat_lookup(which, row, TIMES);
+            double took = (seconds() - began) / TIMES;
+            if (took < least[which])
+                least[which] = took;
+        }
+    }
+    printf("%-12s %8.1f %10.1f %8.1f %6.2f\n", name_in(path), 1e9 * least[BY_LIBRARY], 1e9 * least[IN_SEGMENT], 1e9 * least[BY_BASELINE],
+           least[BY_LIBRARY] / least[BY_BASELINE]);
+}
+
 static int time_all(int files, char **file)
 {
     static struct message m;
     printf("%-10s %26s %26s\n", "ns a byte", "reading: library, baseline", "writing: library, baseline");
     for (int i = 0; i < files; i++) {
-        const char *slash = strrchr(file[i], '/');
+        if (is_for_lookups(file[i]))
+            continue;
         load(&m, file[i]);
         if (read_by(1, &m, &held, whole) != 0)
             return 1;
-        printf("%-10s", slash ? slash + 1 : file[i]);
+        printf("%-10s", name_in(file[i]));
         time_one(false, &m);
         time_one(true, &m);
         printf("\n");
     }
+    printf("\n%-12s %8s %10s %8s %6s\n", "ns a lookup", "library", "in segment", "baseline", "ratio");
+    for (int i = 0; i < files; i++)
+        if (is_for_lookups(file[i]))
+            time_lookups(file[i]);
     return 0;
 }
 
@@ -563,6 +799,9 @@ int main(int words, char **word)
         return time_all(words - 2, word + 2);
     if (words == 5 && (strcmp(word[1], "read") == 0 || strcmp(word[1], "write") == 0))
         return run(word[1][0] == 'w', word[2], word[3], strtoul(word[4], NULL, 10));
-    fprintf(stderr, "usage: driver compare FILE... | driver read|write library|baseline FILE N | driver time FILE...\n");
+    if (words == 5 && strcmp(word[1], "find") == 0)
+        return run_lookups(word[2], word[3], strtoul(word[4], NULL, 10));
+    fprintf(stderr, "usage: driver compare FILE... | driver read|write library|baseline FILE N | driver find library|segment|baseline FILE N"
+                    " | driver time FILE...\n");
     return 2;
 }

@@ -131,6 +131,35 @@ static void long_text(void)
     add("\rL|1\r");
 }
 
+/* The leaves so far (S3): one for each byte behind the header's seven that splits, one for each segment, and two more. */
+static size_t leaf_count(void)
+{
+    size_t count = 2;
+    for (size_t i = 7; i < bytes; i++)
+        count += strchr("|~^&\r", message[i]) != NULL;
+    return count;
+}
+
+/* One order, and just so many leaves in all: the last result has eleven, and a comment before it has those that whole results leave over. */
+static void of_leaves(size_t count)
+{
+    enum { RESULT = 12, LAST = 11, END = 2 };
+    int number = 1;
+    begin();
+    header("ORU");
+    patient(1);
+    order(1);
+    while (leaf_count() + RESULT + LAST + END <= count)
+        result(number++);
+    size_t over = count - LAST - END - leaf_count();
+    for (size_t i = 0; i < over; i++)
+        add(i ? "|valide" : "C");
+    if (over > 0)
+        add("\r");
+    add("OBX|%d|NM|GLY~Glycemie||5.12|mmol/L|3.90-6.10|N|F\r", number);
+    add("L|1\r");
+}
+
 /* One shape at a size: orders of seven results, the last result's text as long as is needed. */
 static void of_size(size_t size)
 {
@@ -177,6 +206,10 @@ int main(int words, char **word)
     save(word[1], "dense");
     long_text();
     save(word[1], "long");
+    of_leaves(300);
+    save(word[1], "leaves-300");
+    of_leaves(2048);
+    save(word[1], "leaves-2048");
     for (size_t size = 1; size <= 16; size *= 2) {
         char name[16];
         snprintf(name, sizeof name, "grow-%02zu", size);
