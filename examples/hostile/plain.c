@@ -262,7 +262,7 @@ uint8_t plain_find_leaf_in_segment(const struct table *t, const uint16_t place[5
         return SARGACEU_NOT_THERE;
     const uint16_t *segment = t->segments + (size_t)(place[0] - 1) * SARGACEU_SEGMENT_ROW;
     for (size_t leaf = 1; leaf <= card[CARD_LEAVES] && sought == SARGACEU_NOT_THERE; leaf++)
-        if (leaf >= segment[2] && leaf - segment[2] < segment[3])
+        if (segment[2] != 0 && leaf >= segment[2] && leaf - segment[2] < segment[3])
             sought = sought_in_row(t->leaves + (leaf - 1) * SARGACEU_LEAF_ROW, place, card[CARD_TEXT], answer);
     return sought;
 }

@@ -1,5 +1,5 @@
--- What the contracts rule out: a reader that fills an answer although it is short, a watcher that goes on after a no, one that takes a
--- single byte for a watcher.
+-- What the contracts rule out: a reader that fills an answer although it is short, a lookup that leaves an old start and length beside an empty
+-- leaf or tells it as one that has text, a watcher that goes on after a no, one that takes a single byte for a watcher.
 -- Assumes nothing.
 use mathlib.Core.Bool.{Bool, true, true≢false}
 use mathlib.Core.List.{List, [], _∷_}
@@ -10,7 +10,10 @@ use lib.Dec.{lit≤}
 use lib.ListN.{getD}
 use Rattle.order.specs.Contexts.{isContext}
 use Rattle.order.specs.inner.Telling.{allows, allowsNext, tellBy, tellOf}
+use Rattle.look.specs.declared.leaf.Sought.the-variants.{Empty}
+use Rattle.look.specs.Looking.{soughtNumber}
 use Rattle.abi.specs.Putting.{putAll}
+use Rattle.abi.specs.Looking.{leafNumbers, TellsSought}
 use Rattle.abi.specs.Reading.{ReadInto}
 use Rattle.abi.specs.Watching.{watcherBytes, watcherOf, Watched}
 use Rattle.abi.proofs.Kept.{read-short-kept, watch-short-no}
@@ -23,6 +26,18 @@ module _ (message text segments leaves : List ℕ) {r : ℕ} {text′ segments�
       let kept = read-short-kept message text segments leaves (7 ∷ 7 ∷ 7 ∷ 7 ∷ 7 ∷ []) read (lit≤ tt) in
       let z : _≡_ {A = ℕ} 0 7 = sym zero ∙ ap (λ (l : List ℕ). getD l 0 0) (kept .4) in
       omega arith
+
+-- what comes back of an empty leaf, from `sargaceu_find_leaf` or `sargaceu_find_leaf_in_segment`, into two numbers
+module _ {r : ℕ} {answer′ : List ℕ} (tells : TellsSought Empty (7 ∷ 7 ∷ []) r answer′) where
+  pub old-start-and-length : answer′ ≡ (7 ∷ 7 ∷ []) → ⊥
+  unfolding putAll leafNumbers
+  old-start-and-length kept =
+      let z : _≡_ {A = ℕ} 0 7 = ap (λ (l : List ℕ). getD l 0 0) (sym (tells .numbers) ∙ kept) in
+      omega arith
+
+  pub told-as-text : r ≡ 1 → ⊥
+  unfolding soughtNumber
+  told-as-text one = let z : _≡_ {A = ℕ} 2 1 = sym (tells .told) ∙ one in omega arith
 
 -- what meets the contract of `sargaceu_watch`
 module _ (says : List ℕ → ℕ → Bool) (after : List ℕ → ℕ → List ℕ)

@@ -10,12 +10,15 @@ use Rattle.order.specs.inner.Telling.{tellOf}
 use Rattle.order.proofs.OneTree as order
 use Rattle.order.proofs.ShutOut as refusals
 use Rattle.order.proofs.Watched as watcher
+use Rattle.table.specs.Reading.{stated}
 use Rattle.read.proofs.OnlyOne as reader
 use Rattle.read.proofs.Acceptance as acceptance
 use Rattle.read.proofs.Contract as reads
 use Rattle.read.proofs.OwnersColumn as owners
 use Rattle.write.proofs.Contract as writes
 use Rattle.look.proofs.FirstMatch as looks
+use Rattle.look.proofs.SameAnswer as segment
+use Rattle.demands.proofs.TableLeft as left
 use Rattle.demands.specs.Demands.{Demand1, Demand2, Demand3}
 
 module _ (L : Limits) (lawful : Lawful L) (levels : ℕ → ℕ → ℕ) where
@@ -27,6 +30,7 @@ module _ (L : Limits) (lawful : Lawful L) (levels : ℕ → ℕ → ℕ) where
         one-writing = λ table g h. writes.one-writing L lawful levels table g h;
         refused-writing = λ table g refused. writes.refused-as-it-was L lawful levels table g refused;
         leaf-found = looks.finds-exactly;
+        leaf-found-in-segment = looks.finds-in-segment-exactly;
         row-found = looks.finds-row-exactly;
         orders-compared = looks.same-orders;
       }
@@ -35,11 +39,13 @@ module _ (L : Limits) (lawful : Lawful L) (levels : ℕ → ℕ → ℕ) where
   demand-2 =
       record {
         accepted-table = λ message g yes. reads.accepted-table L levels message g yes;
+        table-left = λ message g yes. left.table-left L lawful levels message g yes;
         written-table = λ table g yes. writes.wrote-table L lawful levels table g yes;
         written-exactly = λ table g. writes.written-exactly L lawful levels table g;
         short-exactly = λ table g. writes.short-exactly L lawful levels table g;
         none-exactly = λ table g. writes.none-exactly L lawful levels table g;
         tested-exactly = λ table r e. writes.tested-exactly L lawful levels table r e;
+        same-answer = λ table read place. segment.same-answer L levels (stated L) (read .0) table (read .1) place;
         fewest = λ table g yes message read. writes.fewest L lawful levels table g yes message read;
       }
 

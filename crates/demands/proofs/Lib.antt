@@ -1,2 +1,3 @@
+pub mod TableLeft
 pub mod Demands
 pub mod ShutOut

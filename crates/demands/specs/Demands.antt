@@ -1,6 +1,6 @@
 -- The three demands (docs/PROMISES.md says them in words), as statements about what the public contracts name: `ReadAs` of the reader,
--- `WroteAs` of the writer, `isTable` of the table test, `soughtIn`, `rowAfter` and `sameOrder` of the lookups, `tellOf` of the watcher. Each
--- demand holds of any lawful limits and any levels, and so of the form's own: the last lines of proofs/Demands.antt. Types from specs.declared
+-- `WroteAs` of the writer, `isTable` of the table test, `soughtIn`, `soughtInSegment`, `rowAfter` and `sameOrder` of the lookups, `tellOf` of the
+-- watcher. Each demand holds of any lawful limits and any levels, and so of the form's own: the last lines of proofs/Demands.antt. Types from specs.declared
 -- are the structs and enums of src/, field by field; names from specs.inner need not be read, since each is fixed by a statement below.
 -- Assumes nothing.
 use mathlib.Core.Bool.{Bool, true, false}
@@ -19,7 +19,7 @@ use Rattle.order.specs.Contexts.{grammar}
 use Rattle.order.specs.Misplaced.{FirstMisplaced}
 use Rattle.order.specs.Watcher.{begun, watched, said}
 use Rattle.order.specs.inner.Telling.{tellOf}
-use Rattle.table.specs.Lent.{Lent, counted}
+use Rattle.table.specs.Lent.{Lent, lent, counted}
 use Rattle.table.specs.Rows.{kindsOf, contextIn, RowOf}
 use Rattle.table.specs.Reading.{accepted, reading, stated, short}
 use Rattle.read.specs.declared.Answer.{Answer}
@@ -33,8 +33,8 @@ use Rattle.write.specs.Answer.{WroteAs}
 use Rattle.write.specs.Wrote.{WroteTable}
 use Rattle.look.specs.declared.leaf.Place.{Place}
 use Rattle.look.specs.declared.leaf.Sought.{Sought}
-use Rattle.look.specs.inner.Searching.{soughtIn, rowAfter, sameOrder}
-use Rattle.look.specs.Matches.{Finds, FindsRow, SameOrders}
+use Rattle.look.specs.inner.Searching.{soughtIn, soughtInSegment, rowAfter, sameOrder}
+use Rattle.look.specs.Matches.{Finds, FindsInSegment, FindsRow, SameOrders}
 
 -- Demand 1. Every function is proved to end, and no public one asks anything of its caller; what comes back, and every lent buffer, is one
 -- function of what went in; a refused call changes no buffer.
@@ -56,6 +56,7 @@ pub record Demand1 (L : Limits) (levels : ℕ → ℕ → ℕ) : Type 0 where
       → (output′ ≡ output) × (r .place ≡ 0) × (r .bytes ≡ 0) × (r .lines ≡ 0)
   -- the lookups answer for every table, place and row: the first row that fits, or that none does
   pub leaf-found : (table : Lent) (place : Place) (r : Sought) → (r ≡ soughtIn table place) ↔ Finds table place r
+  pub leaf-found-in-segment : (table : Lent) (place : Place) (r : Sought) → (r ≡ soughtInSegment table place) ↔ FindsInSegment table place r
   pub row-found : (rows : List ℕ) (count after kind owner r : ℕ)
       → (r ≡ rowAfter rows count after kind owner) ↔ FindsRow rows count after kind owner r
   pub orders-compared : (table : Lent) (row : ℕ) (other : Lent) (other-row : ℕ) (r : Bool) → r ≡ sameOrder table row other other-row
@@ -68,6 +69,10 @@ pub record Demand2 (L : Limits) (levels : ℕ → ℕ → ℕ) : Type 0 where
   pub accepted-table : (message : List ℕ) {text segments leaves text′ segments′ leaves′ : List ℕ} {r : Answer}
       → ReadAs L levels message text segments leaves r text′ segments′ leaves′ → r .number ≡ 0
       → (ps : Separators) × Read L levels message ps text segments leaves r text′ segments′ leaves′
+  -- what it leaves in the buffers is a table to which a message reads, as the statements below ask
+  pub table-left : (message : List ℕ) {text segments leaves text′ segments′ leaves′ : List ℕ} {r : Answer}
+      → ReadAs L levels message text segments leaves r text′ segments′ leaves′ → r .number ≡ 0
+      → ReadTo L levels (counted (lent (r .card) segments′ leaves′ text′))
   -- written: the front of the output reads to the lent table, in lines of at most 220 characters, CR counted
   pub written-table : (table : Lent) {output output′ : List ℕ} {r : Written} → WroteAs L levels table output r output′ → r .number ≡ 0
       → WroteTable L levels table output r output′
@@ -80,6 +85,8 @@ pub record Demand2 (L : Limits) (levels : ℕ → ℕ → ℕ) : Type 0 where
       → (r .number ≡ noTable) ↔ ((L .bytes ≤ length output) × (ReadTo L levels (counted table) → ⊥))
   -- the table test says yes exactly where some message reads to the table
   pub tested-exactly : (table : Lent) (r : Bool) → r ≡ isTable L levels table → (r ≡ true) ↔ ReadTo L levels (counted table)
+  -- of such a table the lookup within a segment answers what the lookup answers
+  pub same-answer : (table : Lent) → ReadTo L levels (counted table) → (place : Place) → soughtInSegment table place ≡ soughtIn table place
   -- no message that reads to the table has fewer bytes or fewer lines
   pub fewest : (table : Lent) {output output′ : List ℕ} {r : Written} → WroteAs L levels table output r output′ → r .number ≡ 0
       → (message : List ℕ) → reading L levels (stated L) message ≡ accepted (counted table)

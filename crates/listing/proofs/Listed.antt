@@ -25,7 +25,8 @@ use Rattle.write.specs.Answer.{writtenSize}
 use Rattle.listing.specs.Listing.{listing, listingSize, listingFor, shown, Lists, ListedAs, answerLines, countLines, rowLines}
 use Rattle.listing.specs.inner.Putting.{Put, PutWithin, sixDigits, RowsReady}
 use Rattle.listing.proofs.Putting.{put-as, put-then, put-length}
-use Rattle.listing.proofs.Filed.{filed, few-segments, filed-within, filed-size, filed-numbers, filed-rows}
+use Rattle.write.proofs.ReadTables.{filed, few-segments, filed-within}
+use Rattle.listing.proofs.Filed.{filed-size, filed-numbers, filed-rows}
 
 -- a buffer that is short, or is not
 module _ (L : Limits) (o : Outcome) (size : ℕ) where

@@ -5,7 +5,7 @@ pub mod TextParts
 pub mod RowSearch
 pub mod Orders
 pub mod Entries
+pub mod FirstMatch
 pub mod SameAnswer
 pub mod ShutOut
 pub mod OnlyOne
-pub mod FirstMatch

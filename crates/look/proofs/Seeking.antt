@@ -10,8 +10,10 @@ use native.Mathlib.Omega.{arith}
 use borrow.Author.Tests.{leb-true, le-leb, lt-leb, eq-eqb, ne-eqb}
 use lib.Dec.{leb, eqb}
 use lib.ListN.{length, getD, take, drop}
+use lib.Seq.{getD-take, getD-drop}
 use Rattle.laws.specs.Lists.{same}
 use Rattle.laws.proofs.Cases.{equal-or-not}
+use Rattle.laws.proofs.Lists.{same-equal}
 use Rattle.laws.proofs.Parts.{left-cons}
 use Rattle.laws.proofs.Searching.{firstOf, firstOf-holds, Searching, search-begins, search-hit, search-miss, search-done}
 use Rattle.laws.proofs.Tests.{Tested, passed, failed, tested, and-second, and-both, and-fails-first, and-fails-second}
@@ -22,8 +24,9 @@ use Rattle.table.proofs.Lent.{text-within}
 use Rattle.look.specs.declared.leaf.Sought.{Sought}
 use Rattle.look.specs.declared.leaf.Sought.the-variants.{At, Empty, NotThere}
 use Rattle.look.specs.declared.leaf.Place.{Place}
+use Rattle.look.specs.declared.leaf.Asked.{Asked}
 use Rattle.look.specs.Looking.{numbersOf, fits, leafFits, foundOf}
-use Rattle.look.specs.inner.Searching.{soughtFrom, soughtBy, soughtIn}
+use Rattle.look.specs.inner.Searching.{AsksFor, soughtFrom, soughtBy, soughtIn}
 
 -- the five numbers of a row's place: the row has them where each is that of the place
 
@@ -54,31 +57,46 @@ module _ (rows : List ℕ) (i : ℕ) (within : (i + 1) * leafRowSize ≤ length 
   unfolding same numbersOf
   same-five = rw (five-numbers, and-true (eqb (number 4) (p .subsubfield)))
 
-  pub field-differs : (fieldIn rows i ≡ p .field → ⊥) → false ≡ SamePlace
-  field-differs n =
-      sym (same-five
-      ∙ and-fails-second (eqb (segmentIn rows i) (p .segment))
-      (and-fails-first (eqb (number 2) (p .repetition) && (eqb (number 3) (p .subfield) && eqb (number 4) (p .subsubfield)))
-      (ne-eqb (fieldIn rows i) (p .field) n)))
+  -- the number that is asked for first
+  number-in : (k : ℕ) → k < 5 → getD (placeIn rows i) k 0 ≡ number k
+  number-in k h = getD-take 5 (drop (i * leafRowSize) rows) k 0 h ∙ getD-drop (i * leafRowSize) rows k 0
+
+  pub asked-differs : (asked : Asked) → AsksFor asked p → (number (asked .column) ≡ asked .number → ⊥) → false ≡ SamePlace
+  asked-differs asked w n = sym (by (tested SamePlace))
+    where
+      by : Tested SamePlace → SamePlace ≡ false
+      by (passed e) =
+          absurd
+          (n (sym (number-in (asked .column) (w .column))
+          ∙ ap (λ (l : List ℕ). getD l (asked .column) 0) (same-equal (placeIn rows i) (numbersOf p) e) ∙ w .number))
+      by (failed e) = e
 
   pub segment-differs : (segmentIn rows i ≡ p .segment → ⊥) → false ≡ SamePlace
   segment-differs n = rw (same-five, ne-eqb (segmentIn rows i) (p .segment) n)
 
-  module _ (field : fieldIn rows i ≡ p .field) (segment : segmentIn rows i ≡ p .segment) where
-    after-segment : SamePlace ≡ (eqb (number 2) (p .repetition) && (eqb (number 3) (p .subfield) && eqb (number 4) (p .subsubfield)))
-    after-segment = rw (same-five, eq-eqb (segmentIn rows i) (p .segment) segment, eq-eqb (fieldIn rows i) (p .field) field)
+  module _ (segment : segmentIn rows i ≡ p .segment) where
+    after-segment : SamePlace
+        ≡ (eqb (fieldIn rows i) (p .field) && (eqb (number 2) (p .repetition) && (eqb (number 3) (p .subfield) && eqb (number 4) (p .subsubfield))))
+    after-segment = rw (same-five, eq-eqb (segmentIn rows i) (p .segment) segment)
 
-    pub repetition-differs : (number 2 ≡ p .repetition → ⊥) → false ≡ SamePlace
-    repetition-differs n = rw (after-segment, ne-eqb (number 2) (p .repetition) n)
+    pub field-differs : (fieldIn rows i ≡ p .field → ⊥) → false ≡ SamePlace
+    field-differs n = rw (after-segment, ne-eqb (fieldIn rows i) (p .field) n)
 
-    module _ (repetition : number 2 ≡ p .repetition) where
-      pub subfield-differs : (number 3 ≡ p .subfield → ⊥) → false ≡ SamePlace
-      subfield-differs n = rw (after-segment, eq-eqb (number 2) (p .repetition) repetition, ne-eqb (number 3) (p .subfield) n)
+    module _ (field : fieldIn rows i ≡ p .field) where
+      after-field : SamePlace ≡ (eqb (number 2) (p .repetition) && (eqb (number 3) (p .subfield) && eqb (number 4) (p .subsubfield)))
+      after-field = rw (after-segment, eq-eqb (fieldIn rows i) (p .field) field)
 
-      -- the last number decides
-      pub subsubfield-decides : number 3 ≡ p .subfield → eqb (number 4) (p .subsubfield) ≡ SamePlace
-      subsubfield-decides subfield =
-          rw (after-segment, eq-eqb (number 2) (p .repetition) repetition, eq-eqb (number 3) (p .subfield) subfield)
+      pub repetition-differs : (number 2 ≡ p .repetition → ⊥) → false ≡ SamePlace
+      repetition-differs n = rw (after-field, ne-eqb (number 2) (p .repetition) n)
+
+      module _ (repetition : number 2 ≡ p .repetition) where
+        pub subfield-differs : (number 3 ≡ p .subfield → ⊥) → false ≡ SamePlace
+        subfield-differs n = rw (after-field, eq-eqb (number 2) (p .repetition) repetition, ne-eqb (number 3) (p .subfield) n)
+
+        -- the last number decides
+        pub subsubfield-decides : number 3 ≡ p .subfield → eqb (number 4) (p .subsubfield) ≡ SamePlace
+        subsubfield-decides subfield =
+            rw (after-field, eq-eqb (number 2) (p .repetition) repetition, eq-eqb (number 3) (p .subfield) subfield)
 
 -- what is found in a row
 abbrev pub foundAt : List ℕ → ℕ → Sought

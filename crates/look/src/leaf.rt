@@ -11,7 +11,7 @@ ghost use Rattle.table.specs.Lent.{lent};
 ghost use Rattle.table.specs.Rows.{leafRowSize, placeIn};
 ghost use Rattle.look.specs.Looking.{numbersOf, fits, foundOf, soughtNumber};
 ghost use Rattle.look.specs.Matches.{lookedUp};
-ghost use Rattle.look.specs.inner.Searching.{soughtFrom, soughtIn, soughtInSegment};
+ghost use Rattle.look.specs.inner.Searching.{soughtFrom, soughtIn, soughtInSegment, AsksFor};
 
 // The place of a leaf (S5): the number of its segment's row, and the four numbers that tell it from the other leaves of the segment.
 pub struct Place {
@@ -56,7 +56,11 @@ pub fn find_leaf(
     ensures { λ r. ⌜ r ≡ soughtIn (lent card (now (segments .entry)) (now (leaves .entry)) (now (text .entry))) place ⌝ }
 {
     if rows::counts_fit(card, segments.len(), leaves.len(), text.len()) {
-        return first_leaf(leaves, 0, card.leaves, card.text, place);
+        let asked = Asked {
+            column: rows::SEGMENT,
+            number: place.segment,
+        };
+        return first_leaf(leaves, 0, card.leaves, card.text, place, asked);
     }
     Sought::NotThere
 }
@@ -89,7 +93,11 @@ pub fn find_leaf_in_segment(
     }
     let from = first - 1;
     let to = lesser(from + rows::wide(segments[at + rows::COUNT]), card.leaves);
-    first_leaf(leaves, from, to, card.text, place)
+    let asked = Asked {
+        column: rows::FIELD,
+        number: place.field,
+    };
+    first_leaf(leaves, from, to, card.text, place, asked)
 }
 
 // The text of the leaf at a place (F1): no copy, but that part of the lent text area, told by block, offset and bytes; an empty part where the
@@ -114,16 +122,29 @@ pub fn leaf_text<'a>(
     }
 }
 
+// The number of a place that a row is asked for first, and its column: that which tells most rows apart.
+struct Asked {
+    column: usize,
+    number: rows::Entry,
+}
+
 // What the first leaf row says, of those from one on and before another, counted from 0, that has the place and stays within so many bytes.
-fn first_leaf(leaves: &[rows::Entry], from: usize, to: usize, bytes: usize, place: Place) -> Sought
-    requires { ⌜ to * leafRowSize ≤ length (now leaves) ⌝ }
+fn first_leaf(
+    leaves: &[rows::Entry],
+    from: usize,
+    to: usize,
+    bytes: usize,
+    place: Place,
+    asked: Asked,
+) -> Sought
+    requires { ⌜ (to * leafRowSize ≤ length (now leaves)) × AsksFor asked place ⌝ }
     ensures { λ r. ⌜ r ≡ soughtFrom (fits (now (leaves .entry)) bytes place) (now (leaves .entry)) from (to - from) ⌝ }
 {
     let mut next = from;
     while next < to {
         let row = next;
         next += 1;
-        if is_at(leaves, row, place) {
+        if is_at(leaves, row, place, asked) {
             let at = row * rows::LEAF_ROW;
             let start = rows::wide(leaves[at + rows::START]);
             let length = rows::wide(leaves[at + rows::LENGTH]);
@@ -155,17 +176,19 @@ fn lesser(one: usize, other: usize) -> usize
     other
 }
 
-// Whether a leaf row, counted from 0, is that of a place: the field first, which within a segment tells most rows apart, and among all rows
-// nearly as many as the segment does.
-fn is_at(leaves: &[rows::Entry], row: usize, place: Place) -> bool
-    requires { ⌜ (row + 1) * leafRowSize ≤ length (now leaves) ⌝ }
+// Whether a leaf row, counted from 0, is that of a place.
+fn is_at(leaves: &[rows::Entry], row: usize, place: Place, asked: Asked) -> bool
+    requires { ⌜ ((row + 1) * leafRowSize ≤ length (now leaves)) × AsksFor asked place ⌝ }
     ensures { λ r. ⌜ r ≡ same (placeIn (now (leaves .entry)) row) (numbersOf place) ⌝ }
 {
     let at = row * rows::LEAF_ROW;
-    if leaves[at + rows::FIELD] != place.field {
+    if leaves[at + asked.column] != asked.number {
         return false;
     }
     if leaves[at] != place.segment {
+        return false;
+    }
+    if leaves[at + rows::FIELD] != place.field {
         return false;
     }
     if leaves[at + rows::REPETITION] != place.repetition {

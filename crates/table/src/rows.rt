@@ -19,8 +19,10 @@ pub const FIRST: usize = 2;
 
 pub const COUNT: usize = 3;
 
-// A leaf row has seven (T3): the number of its segment stands first, then these.
+// A leaf row has seven (T3): these, in this order.
 pub const LEAF_ROW: usize = 7;
+
+pub const SEGMENT: usize = 0;
 
 pub const FIELD: usize = 1;
 

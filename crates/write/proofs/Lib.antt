@@ -30,5 +30,6 @@ pub mod Passing
 pub mod Sizes
 pub mod TableTest
 pub mod LentTest
+pub mod ReadTables
 pub mod ShutOut
 pub mod Contract

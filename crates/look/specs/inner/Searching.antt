@@ -2,15 +2,22 @@
 -- Assumes nothing.
 use mathlib.Core.Bool.{Bool, true, false, _&&_}
 use mathlib.Core.List.{List}
-use Prim.Native.Nat.{ℕ, zero, suc, _-_}
-use lib.ListN.{take, drop}
+use mathlib.Core.Path.{_≡_}
+use Prim.Native.Nat.{ℕ, zero, suc, _-_, _<_}
+use lib.ListN.{take, drop, getD}
 use Rattle.laws.specs.Lists.{same}
 use Rattle.table.specs.Lent.{Lent, withinBuffers}
 use Rattle.table.specs.Rows.{startIn, lengthIn}
 use Rattle.look.specs.declared.leaf.Sought.{Sought}
 use Rattle.look.specs.declared.leaf.Sought.the-variants.{At, Empty, NotThere}
 use Rattle.look.specs.declared.leaf.Place.{Place}
-use Rattle.look.specs.Looking.{leafFits, namedFits, foundOf, segmentsFit, hasKindAndOwner, orderAt, orderPlace}
+use Rattle.look.specs.declared.leaf.Asked.{Asked}
+use Rattle.look.specs.Looking.{numbersOf, leafFits, namedFits, foundOf, segmentsFit, hasKindAndOwner, orderAt, orderPlace}
+
+-- a number that rows are asked for first is the place's own in that column
+pub record AsksFor (asked : Asked) (p : Place) : Type 0 where
+  pub column : asked .column < 5
+  pub number : getD (numbersOf p) (asked .column) 0 ≡ asked .number
 
 -- where the text of a leaf lies by the first of n rows, from row i on, that passes a test, or that none does
 unfoldable pub soughtFrom : (ℕ → Bool) → List ℕ → ℕ → ℕ → Sought

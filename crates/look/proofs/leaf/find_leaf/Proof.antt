@@ -1,14 +1,14 @@
 -- `look::leaf::find_leaf` meets its contract: the rows are searched where the counts are within the buffers.
 -- Assumes nothing.
 use denote.Ref.{now}
-use mathlib.Core.Path.{_≡_, sym, ap, _∙_}
+use mathlib.Core.Path.{_≡_, refl, sym, ap, _∙_}
 use Prim.Native.Nat.{_-_}
 use native.Mathlib.Omega.{arith}
 use lib.ListN.{length}
 use Rattle.table.specs.Lent.{Lent, lent}
 use Rattle.table.proofs.Lent.{leaves-within}
 use Rattle.look.specs.declared.leaf.Place.{Place}
-use Rattle.look.specs.Looking.{leafFits}
+use Rattle.look.specs.Looking.{numbersOf, leafFits}
 use Rattle.look.specs.inner.Searching.{soughtFrom}
 use Rattle.look.proofs.Seeking.{sought-counted, sought-uncounted}
 use borrow.Author.Needs.{needs}
@@ -28,10 +28,13 @@ counts-fit-requires : tie.Need-counts-fit-requires
 counts-fit-requires c κs = search needs
 
 first-leaf-requires : tie.Need-first-leaf-requires
+unfolding numbersOf
 first-leaf-requires c κs =
-    let t = lent-here (c .before) in
-    leaves-within (t .card) (length (t .segmentRows)) (length (t .leafRows)) (length (t .text))
-    (sym (c .before .counts-fit .ensures) ∙ c .if1 .taken)
+    let t = lent-here (c .before) in (
+      leaves-within (t .card) (length (t .segmentRows)) (length (t .leafRows)) (length (t .text))
+          (sym (c .before .counts-fit .ensures) ∙ c .if1 .taken),
+      record { column = omega arith; number = refl },
+    )
 
 returns : tie.Need-returns
 returns c =

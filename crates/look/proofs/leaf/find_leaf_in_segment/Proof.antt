@@ -3,7 +3,7 @@
 -- Assumes nothing.
 use denote.Ref.{now}
 use mathlib.Core.Bool.{true}
-use mathlib.Core.Path.{_≡_, sym, ap₂, _∙_}
+use mathlib.Core.Path.{_≡_, refl, sym, _∙_}
 use Prim.Native.Nat.{ℕ, _+_, _*_, _-_, _≤_}
 use native.Mathlib.Omega.{arith}
 use lib.ListN.{length}
@@ -13,7 +13,7 @@ use Rattle.table.specs.Lent.{Lent, lent, withinBuffers}
 use Rattle.table.specs.Rows.{segmentRowSize, leafRowSize}
 use Rattle.table.proofs.Lent.{segments-within, leaves-within}
 use Rattle.look.specs.declared.leaf.Place.{Place}
-use Rattle.look.specs.Looking.{leafFits, namedFits}
+use Rattle.look.specs.Looking.{numbersOf, namedFits}
 use Rattle.look.specs.inner.Searching.{soughtFrom}
 use Rattle.look.proofs.Seeking.{sought-uncounted}
 use Rattle.look.proofs.NamedRows.{segment-zero, segment-past, none-found-first, named-found}
@@ -132,13 +132,16 @@ lesser-requires : tie.Need-lesser-requires
 lesser-requires c κs = search needs
 
 first-leaf-requires : tie.Need-first-leaf-requires
+unfolding numbersOf
 first-leaf-requires c κs =
     let here = c .before .before .before .before .before .before in
-    let t = table-of here in
-    omega (
-      arith,
-      c .lesser .ensures .1,
-      leaves-within (t .card) (length (t .segmentRows)) (length (t .leafRows)) (length (t .text)) (fit-here (fitting-of here)),
+    let t = table-of here in (
+      omega (
+        arith,
+        c .lesser .ensures .1,
+        leaves-within (t .card) (length (t .segmentRows)) (length (t .leafRows)) (length (t .text)) (fit-here (fitting-of here)),
+      ),
+      record { column = omega arith; number = refl },
     )
 
 returns-5 : tie.Need-returns-5

@@ -9,10 +9,10 @@ use Rattle.look.proofs.leaf.first_leaf.Statement.{statement}
 use Rattle.look.proofs.leaf.first_leaf.Tie as tie
 
 abbrev Inv-loop : tie.InvT-loop
-Inv-loop leaves from to bytes place next₀ next = Seeking leaves bytes place from to next
+Inv-loop leaves from to bytes place asked next₀ next = Seeking leaves bytes place from to next
 
 abbrev μ-loop : tie.MeasureT-loop
-μ-loop leaves from to bytes place next₀ next = to - next
+μ-loop leaves from to bytes place asked next₀ next = to - next
 
 loop-holds : tie.Need-loop-holds Inv-loop μ-loop
 loop-holds c = seek-begins
@@ -21,7 +21,7 @@ add-next : tie.Need-add-next Inv-loop μ-loop
 add-next c = omega arith
 
 is-at-requires : tie.Need-is-at-requires Inv-loop μ-loop
-is-at-requires c κs = omega arith
+is-at-requires c κs = (omega arith, c .before .before .before .pre .1)
 
 mul-at : tie.Need-mul-at Inv-loop μ-loop
 mul-at c = omega arith

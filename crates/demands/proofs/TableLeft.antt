@@ -1,0 +1,32 @@
+-- What the reader leaves in the buffers of an accepted message is a table to which a message reads.
+-- Assumes nothing.
+use mathlib.Core.List.{List}
+use mathlib.Core.Path.{_≡_, sym, ap, _∙_, subst⁻¹}
+use Prim.Native.Nat.{ℕ}
+use Rattle.form.specs.declared.limits.Limits.{Limits}
+use Rattle.form.specs.Limits.{Lawful}
+use Rattle.table.specs.declared.Card.{Card}
+use Rattle.table.specs.Lent.{Lent, lent, counted}
+use Rattle.table.specs.Rows.{Table}
+use Rattle.table.specs.Reading.{Outcome, accepted, reading}
+use Rattle.read.specs.declared.Answer.{Answer}
+use Rattle.read.specs.Answering.{answerOf, textPut, segmentsPut, leavesPut, roomOf, Gives, ReadAs}
+use Rattle.read.proofs.Acceptance.{number-accepted}
+use Rattle.read.proofs.OnlyOne.{reading-numbered}
+use Rattle.write.specs.Writing.{ReadTo}
+use Rattle.write.proofs.ReadTables.{filed, filed-read}
+
+module _ (L : Limits) (lawful : Lawful L) (levels : ℕ → ℕ → ℕ) (message : List ℕ) {text segments leaves text′ segments′ leaves′ : List ℕ} {r : Answer}
+    (read : ReadAs L levels message text segments leaves r text′ segments′ leaves′) where
+  -- the card and the buffers are those of the table
+  left-as : (t : Table) (e : reading L levels (roomOf text segments leaves) message ≡ accepted t)
+      → lent (r .card) segments′ leaves′ text′ ≡ filed L lawful levels message text segments leaves t e
+  unfolding answerOf textPut segmentsPut leavesPut
+  left-as t e =
+      rw (read .answer, read .textArea, read .segmentRows, read .leafRows, e)
+
+  pub table-left : r .number ≡ 0 → ReadTo L levels (counted (lent (r .card) segments′ leaves′ text′))
+  table-left zero =
+      let room = roomOf text segments leaves in
+      let t = number-accepted (reading L levels room message) read (reading-numbered L levels room message) .0 zero in
+      subst⁻¹ (λ (l : Lent). ReadTo L levels (counted l)) (left-as (t .0) (t .1)) (filed-read L lawful levels message text segments leaves (t .0) (t .1))
