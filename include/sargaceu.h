@@ -139,7 +139,7 @@ uint8_t sargaceu_find_leaf(const size_t *card, size_t card_numbers,
  * The same question within the segment (F4): the leaf is sought among the leaf rows that the place's segment row names alone, from its first
  * leaf on and as many as it has, as far as the card counts them. Returns and answers as sargaceu_find_leaf does. The whole place is compared,
  * so a leaf of another segment is never answered, whatever the segment row names. Not there, too, where the place's segment is 0 or past the
- * card's count of segments.
+ * card's count of segments, and where the segment row's first leaf is 0.
  *
  * It is for tables that sargaceu_read gave or that sargaceu_is_table said yes to: there it answers the same as sargaceu_find_leaf, and costs
  * as many steps as the segment has leaves, not as many as the table has.

@@ -314,9 +314,8 @@ fn a_lookup_within_the_segment_sees_the_counted_leaves_that_its_row_names() {
     assert_eq!(told(&segment_row(2, 65535), 3), [0, 1, 1]);
     assert_eq!(told(&segment_row(65535, 65535), 3), [0, 0, 0]);
     assert_eq!(told(&segment_row(2, 2), 2), [0, 1, 0]);
-    // rows count from 1: of 0, 1 and 2 the last two are there
-    assert_eq!(told(&segment_row(0, 3), 3), [1, 1, 0]);
-    assert_eq!(told(&segment_row(0, 1), 3), [0, 0, 0]);
+    // leaves count from 1, so a first leaf of 0 is none
+    assert_eq!(told(&segment_row(0, 3), 3), [0, 0, 0]);
 }
 
 #[test]
