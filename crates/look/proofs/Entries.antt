@@ -23,9 +23,9 @@ use Rattle.table.proofs.Lent.{same-within}
 use Rattle.look.specs.declared.leaf.Sought.{Sought}
 use Rattle.look.specs.declared.leaf.Sought.the-variants.{At, Empty, NotThere}
 use Rattle.look.specs.declared.leaf.Place.{Place}
-use Rattle.look.specs.Looking.{fits, leafFits, isAmong, isNamed, namedFits, foundOf, segmentsFit, hasKindAndOwner, isOrder, orderAt, orderPlace}
+use Rattle.look.specs.Looking.{fits, leafFits, isAmong, isNamed, namedFits, segmentsFit, hasKindAndOwner, isOrder, orderAt, orderPlace}
 use Rattle.look.specs.Matches.{soughtPart, lookedUp}
-use Rattle.look.specs.inner.Searching.{soughtFrom, soughtBy, soughtIn, soughtInSegment, rowFrom, rowAfter, sameTexts, sameOrder}
+use Rattle.look.specs.inner.Searching.{foundOf, soughtFrom, soughtBy, soughtIn, soughtInSegment, rowFrom, rowAfter, sameTexts, sameOrder}
 use Rattle.look.specs.inner.Ordering.{orderText}
 use Rattle.look.proofs.Seeking.{foundAt, sought-first, Within, sought-counted, sought-uncounted, leaf-in-card}
 use Rattle.look.proofs.RowSearch.{row-first}

@@ -17,8 +17,8 @@ use Rattle.table.specs.Rows.{startIn, lengthIn}
 use Rattle.look.specs.declared.leaf.Place.{Place}
 use Rattle.look.specs.declared.leaf.Sought.{Sought}
 use Rattle.look.specs.declared.leaf.Sought.the-variants.{At, Empty, NotThere}
-use Rattle.look.specs.Looking.{leafFits, namedFits, foundOf, segmentsFit, hasKindAndOwner, orderAt, orderPlace}
-use Rattle.look.specs.inner.Searching.{soughtBy, soughtIn, soughtInSegment, rowAfter, sameTexts, sameOrder}
+use Rattle.look.specs.Looking.{leafFits, namedFits, segmentsFit, hasKindAndOwner, orderAt, orderPlace}
+use Rattle.look.specs.inner.Searching.{foundOf, soughtBy, soughtIn, soughtInSegment, rowAfter, sameTexts, sameOrder}
 use Rattle.look.specs.Matches.{FirstFit, FindsBy, Finds, FindsInSegment, FindsRow, SameOrders}
 use Rattle.look.proofs.Seeking.{foundAt, found-empty, found-some, sought-first, sought-counted, sought-uncounted}
 use Rattle.look.proofs.FirstFits.{first-means, first-found, none-found}

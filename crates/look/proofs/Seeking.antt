@@ -25,8 +25,8 @@ use Rattle.look.specs.declared.leaf.Sought.{Sought}
 use Rattle.look.specs.declared.leaf.Sought.the-variants.{At, Empty, NotThere}
 use Rattle.look.specs.declared.leaf.Place.{Place}
 use Rattle.look.specs.declared.leaf.Asked.{Asked}
-use Rattle.look.specs.Looking.{numbersOf, fits, leafFits, foundOf}
-use Rattle.look.specs.inner.Searching.{AsksFor, soughtFrom, soughtBy, soughtIn}
+use Rattle.look.specs.Looking.{numbersOf, fits, leafFits}
+use Rattle.look.specs.inner.Searching.{foundOf, AsksFor, soughtFrom, soughtBy, soughtIn}
 
 -- the five numbers of a row's place: the row has them where each is that of the place
 

@@ -18,9 +18,9 @@ use Rattle.table.specs.Rows.{segmentRow}
 use Rattle.look.specs.declared.leaf.Sought.{Sought}
 use Rattle.look.specs.declared.leaf.Sought.the-variants.{At, Empty, NotThere}
 use Rattle.look.specs.declared.leaf.Place.{Place}
-use Rattle.look.specs.Looking.{numbersOf, fits, foundOf, isNamed, soughtNumber, hasKindAndOwner, isOrder, orderPlace}
+use Rattle.look.specs.Looking.{numbersOf, fits, isNamed, soughtNumber, hasKindAndOwner, isOrder, orderPlace}
 use Rattle.look.specs.Matches.{lookedUp}
-use Rattle.look.specs.inner.Searching.{soughtFrom, soughtBy, soughtIn, soughtInSegment, rowFrom, rowAfter, sameTexts, sameOrder}
+use Rattle.look.specs.inner.Searching.{foundOf, soughtFrom, soughtBy, soughtIn, soughtInSegment, rowFrom, rowAfter, sameTexts, sameOrder}
 use Rattle.look.proofs.FirstMatch.{finds-exactly}
 use Rattle.look.proofs.TextParts.{part-found, empty-part, no-part}
 

@@ -1,7 +1,7 @@
 -- What is looked at when something is looked up (rules F1 to F4): a leaf row's place, a segment row's kind and owner, an order's number, and
 -- the leaf rows that a segment row names.
 -- Assumes nothing.
-use mathlib.Core.Bool.{Bool, true, false, _&&_}
+use mathlib.Core.Bool.{Bool, _&&_}
 use mathlib.Core.List.{List, [], _∷_}
 use Prim.Native.Nat.{ℕ, suc, _+_, _*_, _-_}
 use lib.Dec.{leb, ltb, eqb}
@@ -37,10 +37,6 @@ isNamed t s i =
 -- whether leaf row i fits and is one of those that its place's segment row names
 abbrev pub namedFits : Lent → Place → ℕ → Bool
 namedFits t p i = isNamed t (p .segment) i && leafFits t p i
-
--- what a row's start and length come to (F1): found, or found empty where there is no byte
-unfoldable pub foundOf : (start length : ℕ) → Sought
-foundOf start n = elim (eqb n 0) [ true ↦ Empty | false ↦ At start n ]
 
 -- the number of an answer (F1): 1 found, 2 found empty, 0 not there
 unfoldable pub soughtNumber : Sought → ℕ

@@ -9,9 +9,9 @@ ghost use Rattle.laws.specs.Lists.{same};
 ghost use Rattle.laws.specs.Parts.{wholeOf};
 ghost use Rattle.table.specs.Lent.{lent};
 ghost use Rattle.table.specs.Rows.{leafRowSize, placeIn};
-ghost use Rattle.look.specs.Looking.{numbersOf, fits, foundOf, soughtNumber};
+ghost use Rattle.look.specs.Looking.{numbersOf, fits, soughtNumber};
 ghost use Rattle.look.specs.Matches.{lookedUp};
-ghost use Rattle.look.specs.inner.Searching.{soughtFrom, soughtIn, soughtInSegment, AsksFor};
+ghost use Rattle.look.specs.inner.Searching.{foundOf, soughtFrom, soughtIn, soughtInSegment, AsksFor};
 
 // The place of a leaf (S5): the number of its segment's row, and the four numbers that tell it from the other leaves of the segment.
 pub struct Place {

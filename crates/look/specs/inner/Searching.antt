@@ -4,6 +4,7 @@ use mathlib.Core.Bool.{Bool, true, false, _&&_}
 use mathlib.Core.List.{List}
 use mathlib.Core.Path.{_≡_}
 use Prim.Native.Nat.{ℕ, zero, suc, _-_, _<_}
+use lib.Dec.{eqb}
 use lib.ListN.{take, drop, getD}
 use Rattle.laws.specs.Lists.{same}
 use Rattle.table.specs.Lent.{Lent, withinBuffers}
@@ -12,12 +13,16 @@ use Rattle.look.specs.declared.leaf.Sought.{Sought}
 use Rattle.look.specs.declared.leaf.Sought.the-variants.{At, Empty, NotThere}
 use Rattle.look.specs.declared.leaf.Place.{Place}
 use Rattle.look.specs.declared.leaf.Asked.{Asked}
-use Rattle.look.specs.Looking.{numbersOf, leafFits, namedFits, foundOf, segmentsFit, hasKindAndOwner, orderAt, orderPlace}
+use Rattle.look.specs.Looking.{numbersOf, leafFits, namedFits, segmentsFit, hasKindAndOwner, orderAt, orderPlace}
 
 -- a number that rows are asked for first is the place's own in that column
 pub record AsksFor (asked : Asked) (p : Place) : Type 0 where
   pub column : asked .column < 5
   pub number : getD (numbersOf p) (asked .column) 0 ≡ asked .number
+
+-- what a row's start and length come to: found, or found empty where there is no byte
+unfoldable pub foundOf : (start length : ℕ) → Sought
+foundOf start n = elim (eqb n 0) [ true ↦ Empty | false ↦ At start n ]
 
 -- where the text of a leaf lies by the first of n rows, from row i on, that passes a test, or that none does
 unfoldable pub soughtFrom : (ℕ → Bool) → List ℕ → ℕ → ℕ → Sought
