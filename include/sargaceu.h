@@ -82,7 +82,10 @@ enum sargaceu_context {
     SARGACEU_CONTEXT_ERR = 5, SARGACEU_CONTEXT_ORU = 6, SARGACEU_CONTEXT_FAC = 7
 };
 
-/* What a lookup of a leaf answers (F1): a field that was sent empty is not one that was never sent. */
+/*
+ * What a lookup of a leaf answers (F1): a field that was sent empty is not one that was never sent. In a switch, cast the answer to this type:
+ * then the compiler warns of a case that is left out.
+ */
 enum sargaceu_sought {
     SARGACEU_NOT_THERE = 0,
     SARGACEU_FOUND = 1,       /* with a text of one byte or more */
@@ -122,7 +125,7 @@ bool sargaceu_is_table(const size_t *card, size_t card_numbers,
 /*
  * The leaf at a place, sought among all leaf rows that the card counts (F1). Returns SARGACEU_FOUND, and answer gets where its text starts in
  * the text area and how many bytes it has, 1 or more; SARGACEU_FOUND_EMPTY where the leaf is there and has no text, and answer gets 0 and 0,
- * so that who only asks for 'not 0' gets an empty text; SARGACEU_NOT_THERE, and answer stays as it was. Of several rows with the place the
+ * so that whoever only asks for 'not 0' gets an empty text; SARGACEU_NOT_THERE, and answer stays as it was. Of several rows with the place the
  * first counts; one whose text would reach beyond the card's text bytes never counts; and no leaf is there where the card counts more than
  * some buffer holds. An answer of under two numbers stays as it was whatever comes back, and the return value still tells.
  *
@@ -136,13 +139,14 @@ uint8_t sargaceu_find_leaf(const size_t *card, size_t card_numbers,
                            size_t *answer, size_t answer_numbers);
 
 /*
- * The same question within the segment (F4): the leaf is sought among the leaf rows that the place's segment row names alone, from its first
+ * The same question within the segment (F4): the leaf is sought among those leaf rows alone that the place's segment row names, from its first
  * leaf on and as many as it has, as far as the card counts them. Returns and answers as sargaceu_find_leaf does. The whole place is compared,
  * so a leaf of another segment is never answered, whatever the segment row names. Not there, too, where the place's segment is 0 or past the
  * card's count of segments, and where the segment row's first leaf is 0.
  *
- * It is for tables that sargaceu_read gave or that sargaceu_is_table said yes to: there it answers the same as sargaceu_find_leaf, and costs
- * as many steps as the segment has leaves, not as many as the table has.
+ * It is for tables that sargaceu_read gave or that sargaceu_is_table said yes to: there it answers the same as sargaceu_find_leaf, and costs at
+ * most as many steps as the segment has leaves, not as many as the table has. In other buffers it may say not there of a leaf that
+ * sargaceu_find_leaf finds, or answer another of several rows with the place.
  */
 uint8_t sargaceu_find_leaf_in_segment(const size_t *card, size_t card_numbers,
                                       const uint16_t *segments, size_t segments_numbers,

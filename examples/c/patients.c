@@ -24,7 +24,7 @@ static void show(const char *what, size_t row, uint16_t field, uint16_t subfield
     }
 }
 
-/* A line with every leaf of a field: a value of 10^4 is two repetitions, and the second line of a text is one. */
+/* A line with every leaf of a field: a unit of 10^9/L is two repetitions, and the second line of a text is one. */
 static void show_whole(const char *what, size_t row, uint16_t field)
 {
     const uint16_t *segment = segments + (row - 1) * SARGACEU_SEGMENT_ROW;
@@ -53,7 +53,7 @@ static void results(size_t order)
     for (size_t x = next(0, SARGACEU_OBX, order); x != 0; x = next(x, SARGACEU_OBX, order)) {
         show("  result", x, 4, 1);
         show_whole("    value", x, 6);
-        show("    unit", x, 7, 1);
+        show_whole("    unit", x, 7);
         comments(x);
     }
 }

@@ -6,7 +6,7 @@ static uint8_t message[SARGACEU_MESSAGE + 1], text[SARGACEU_TEXT];
 static uint16_t segments[SARGACEU_SEGMENTS], leaves[SARGACEU_LEAVES];
 static size_t answer[SARGACEU_READ_ANSWER], *const card = answer + 1;
 
-/* The text of a field; a blank where it was sent empty, a dash where it was never sent. */
+/* The text of a field's first leaf; a blank where it was sent empty, a dash where it was never sent. */
 static void show(size_t row, uint16_t field)
 {
     size_t leaf[SARGACEU_LEAF_ANSWER];

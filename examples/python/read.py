@@ -40,7 +40,7 @@ card = (c_size_t * 5)(*answer[1:])
 
 
 def shown(row, field):
-    """The text of a field as it came, in ISO 8859-1; a blank where it was sent empty, a dash where it was never sent."""
+    """The text of a field's first leaf as it came, in ISO 8859-1; a blank where it was sent empty, a dash where it was never sent."""
     sought = library.sargaceu_find_leaf_in_segment(card, len(card), segments, len(segments), leaves, len(leaves), text, len(text),
                                                    row, field, 1, 1, 1, leaf, len(leaf))
     if sought == Sought.NOT_THERE:

@@ -35,7 +35,7 @@ fn results(table: &Table, order: Row) -> io::Result<()> {
     for result in table.children(order, Kind::OBX) {
         show(table, "  result", result.field(4))?;
         show_whole(table, "    value", result, 6)?;
-        show(table, "    unit", result.field(7))?;
+        show_whole(table, "    unit", result, 7)?;
         comments(table, result)?;
     }
     Ok(())
@@ -53,7 +53,7 @@ fn show(table: &Table, what: &str, place: Place) -> io::Result<()> {
     io::stdout().write_all(&[what.as_bytes(), b" ", text, b"\n"].concat())
 }
 
-/// A line with every leaf of a field: a value of `10^4` is two repetitions, and the second line of a text is one.
+/// A line with every leaf of a field: a unit of `10^9/L` is two repetitions, and the second line of a text is one.
 fn show_whole(table: &Table, what: &str, row: Row, field: u16) -> io::Result<()> {
     let leaves = table
         .row(row)
