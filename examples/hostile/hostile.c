@@ -75,7 +75,7 @@ int main(int arguments, char **argument)
     for (size_t which = 0; which < sizeof trials / sizeof *trials; which++)
         all = run(which, seed, calls) && all;
     if (!all) {
-        printf("hostile: a function was too seldom accepted, too seldom refused, or found too seldom something empty\n");
+        printf("hostile: a function was too seldom accepted, too seldom refused, or too seldom found something empty\n");
         return 1;
     }
     printf("hostile: no byte touched that should not be, no answer contradicted\n");

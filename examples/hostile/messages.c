@@ -86,7 +86,8 @@ static void draw_header(uint8_t context, struct measure measure)
     put_fields(below(measure.fields + 1), measure.text);
 }
 
-/* Orders often have one of a few numbers (9.4.2), so that two tables have the same order now and then; some have an empty one, and are none. */
+/* Orders often have one of a few numbers (9.4.2), so that two tables have the same order now and then; some have an empty one, which is no
+   other order's. */
 static void draw_order_number(void)
 {
     split(0);

@@ -17,9 +17,9 @@ use Rattle.order.specs.Owners.{level}
 use Rattle.table.specs.declared.Card.{Card}
 use Rattle.table.specs.Leaves.{contextOfHeader}
 use Rattle.table.specs.Rows.{Table, contextIn, tableOf}
-use Rattle.table.specs.Reading.{Outcome, refused, accepted, Room, reading}
+use Rattle.table.specs.Reading.{roomOf, Outcome, refused, accepted, Room, reading}
 use Rattle.table.proofs.Accepting.{Accepted, accepting}
-use Rattle.read.specs.Answering.{answerOf, roomOf}
+use Rattle.read.specs.Answering.{answerOf}
 use Rattle.abi.specs.Cards.{cardNumbers, cardOf}
 use Rattle.abi.specs.Putting.{putAll}
 use Rattle.abi.specs.Reading.{readNumbers, ReadInto}

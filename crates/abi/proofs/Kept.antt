@@ -4,14 +4,14 @@
 use mathlib.Core.Bool.{Bool, false}
 use mathlib.Core.List.{List, [], _∷_}
 use mathlib.Core.Logic.{⊎-elim}
-use mathlib.Core.Path.{_≡_, refl, sym, ap, _∙_}
+use mathlib.Core.Path.{_≡_, sym, ap, _∙_}
 use Prim.Native.Nat.{ℕ, _<_}
 use native.Mathlib.Omega.{arith}
 use borrow.Author.Tests.{le-leb}
 use lib.ListN.{length, getD, set}
 use lib.Seq.{set-getD}
 use Rattle.laws.proofs.Cases.{less-or-not}
-use Rattle.laws.proofs.Tests.{and-passed, never-both}
+use Rattle.laws.proofs.Tests.{and-passed}
 use Rattle.line.specs.declared.finder.Found.{Found}
 use Rattle.order.specs.declared.watcher.Watcher.{Watcher}
 use Rattle.order.specs.inner.Telling.{tellOf}

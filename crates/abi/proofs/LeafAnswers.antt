@@ -4,6 +4,9 @@ use mathlib.Core.List.{List, [], _∷_}
 use mathlib.Core.Path.{_≡_, sym, ap, _∙_, subst}
 use Prim.Native.Nat.{ℕ}
 use native.Mathlib.Omega.{arith}
+use Rattle.table.specs.declared.Card.{Card}
+use Rattle.table.specs.Lent.{Lent, lent}
+use Rattle.look.specs.declared.leaf.Place.{Place}
 use Rattle.look.specs.declared.leaf.Sought.{Sought}
 use Rattle.look.specs.declared.leaf.Sought.the-variants.{At, Empty, NotThere}
 use Rattle.look.specs.Looking.{soughtNumber}
@@ -12,9 +15,9 @@ use Rattle.abi.specs.Looking.{leafNumbers, TellsSought}
 use Rattle.abi.proofs.Puts.{put-whole}
 
 module _ {s : Sought} (answer : List ℕ) {r : ℕ} (told : r ≡ soughtNumber s) {answer′ : List ℕ} where
-  pub leaf-there : (start n : ℕ) → s ≡ At start n → answer′ ≡ putAll answer (start ∷ n ∷ []) → TellsSought s answer r answer′
+  pub leaf-with-text : (start n : ℕ) → s ≡ At start n → answer′ ≡ putAll answer (start ∷ n ∷ []) → TellsSought s answer r answer′
   unfolding leafNumbers
-  leaf-there start n found stored =
+  leaf-with-text start n found stored =
       record { told = told; numbers = stored ∙ sym (ap (λ (t : Sought). putAll answer (leafNumbers t)) found) }
 
   pub leaf-empty : s ≡ Empty → answer′ ≡ putAll answer (0 ∷ 0 ∷ []) → TellsSought s answer r answer′
@@ -27,6 +30,9 @@ module _ {s : Sought} (answer : List ℕ) {r : ℕ} (told : r ≡ soughtNumber s
   leaf-not-there none =
       record { told = told; numbers = sym (ap (λ (t : Sought). putAll answer (leafNumbers t)) none ∙ put-whole answer [] (omega arith)) }
 
--- the same of what equals it
-pub tells-same : {s t : Sought} {answer : List ℕ} {r : ℕ} {answer′ : List ℕ} → TellsSought s answer r answer′ → s ≡ t → TellsSought t answer r answer′
-tells-same {answer = answer} {r = r} {answer′ = answer′} w e = subst (λ (u : Sought). TellsSought u answer r answer′) e w
+-- told of a lookup that goes by the card that came in
+pub tells-looked : (lookup : Lent → Place → Sought) {card read : Card} {segments leaves text : List ℕ} {place : Place} {s : Sought} {answer : List ℕ} {r : ℕ}
+    {answer′ : List ℕ} → TellsSought s answer r answer′ → s ≡ lookup (lent read segments leaves text) place → read ≡ card
+    → TellsSought (lookup (lent card segments leaves text) place) answer r answer′
+tells-looked lookup {segments = segments} {leaves = leaves} {text = text} {place = place} {answer = answer} {r = r} {answer′ = answer′} told found same =
+    subst (λ (u : Sought). TellsSought u answer r answer′) (found ∙ ap (λ (k : Card). lookup (lent k segments leaves text) place) same) told

@@ -8,9 +8,9 @@ use lib.ListN.{length}
 use Rattle.form.specs.Limits.{form}
 use Rattle.form.specs.Numbers.{shortBuffer}
 use Rattle.order.specs.Owners.{level}
-use Rattle.table.specs.Reading.{Outcome, refused, reading}
+use Rattle.table.specs.Reading.{roomOf, Outcome, refused, reading}
 use Rattle.read.specs.declared.Answer.{Answer}
-use Rattle.read.specs.Answering.{answerOf, textPut, segmentsPut, leavesPut, roomOf, ReadAs}
+use Rattle.read.specs.Answering.{answerOf, textPut, segmentsPut, leavesPut, ReadAs}
 use Rattle.abi.specs.Cards.{cardNumbers}
 use Rattle.abi.specs.Putting.{putAll}
 use Rattle.abi.specs.Reading.{readOutcome, readNumbers, TellsOutcome, ReadInto}

@@ -1,5 +1,5 @@
 -- What the contracts rule out: a reader that fills an answer although it is short, a lookup that leaves an old start and length beside an empty
--- leaf or tells it as one that has text, a watcher that goes on after a no, one that takes a single byte for a watcher.
+-- leaf or tells it as one that has text or is not there, a watcher that goes on after a no, one that takes a single byte for a watcher.
 -- Assumes nothing.
 use mathlib.Core.Bool.{Bool, true, true≢false}
 use mathlib.Core.List.{List, [], _∷_}
@@ -38,6 +38,10 @@ module _ {r : ℕ} {answer′ : List ℕ} (tells : TellsSought Empty (7 ∷ 7 �
   pub told-as-text : r ≡ 1 → ⊥
   unfolding soughtNumber
   told-as-text one = let z : _≡_ {A = ℕ} 2 1 = sym (tells .told) ∙ one in omega arith
+
+  pub told-as-not-there : r ≡ 0 → ⊥
+  unfolding soughtNumber
+  told-as-not-there zero = let z : _≡_ {A = ℕ} 2 0 = sym (tells .told) ∙ zero in omega arith
 
 -- what meets the contract of `sargaceu_watch`
 module _ (says : List ℕ → ℕ → Bool) (after : List ℕ → ℕ → List ℕ)

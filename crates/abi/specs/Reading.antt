@@ -10,8 +10,8 @@ use lib.Seq.{sets}
 use Rattle.form.specs.Limits.{form}
 use Rattle.form.specs.Numbers.{shortBuffer}
 use Rattle.order.specs.Owners.{level}
-use Rattle.table.specs.Reading.{Outcome, refused, reading}
-use Rattle.read.specs.Answering.{answerOf, textPut, segmentsPut, leavesPut, roomOf}
+use Rattle.table.specs.Reading.{roomOf, Outcome, refused, reading}
+use Rattle.read.specs.Answering.{answerOf, textPut, segmentsPut, leavesPut}
 use Rattle.abi.specs.Cards.{cardNumbers}
 use Rattle.abi.specs.Putting.{putAll}
 

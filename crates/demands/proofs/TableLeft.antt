@@ -1,26 +1,25 @@
 -- What the reader leaves in the buffers of an accepted message is a table to which a message reads.
 -- Assumes nothing.
 use mathlib.Core.List.{List}
-use mathlib.Core.Path.{_≡_, sym, ap, _∙_, subst⁻¹}
+use mathlib.Core.Path.{_≡_, subst⁻¹}
 use Prim.Native.Nat.{ℕ}
 use Rattle.form.specs.declared.limits.Limits.{Limits}
 use Rattle.form.specs.Limits.{Lawful}
-use Rattle.table.specs.declared.Card.{Card}
 use Rattle.table.specs.Lent.{Lent, lent, counted}
 use Rattle.table.specs.Rows.{Table}
-use Rattle.table.specs.Reading.{Outcome, accepted, reading}
+use Rattle.table.specs.Reading.{roomOf, accepted, reading}
 use Rattle.read.specs.declared.Answer.{Answer}
-use Rattle.read.specs.Answering.{answerOf, textPut, segmentsPut, leavesPut, roomOf, Gives, ReadAs}
+use Rattle.read.specs.Answering.{answerOf, textPut, segmentsPut, leavesPut, ReadAs}
 use Rattle.read.proofs.Acceptance.{number-accepted}
 use Rattle.read.proofs.OnlyOne.{reading-numbered}
 use Rattle.write.specs.Writing.{ReadTo}
-use Rattle.write.proofs.ReadTables.{filed, filed-read}
+use Rattle.write.proofs.ReadTables.{tableLeft, filed-read}
 
 module _ (L : Limits) (lawful : Lawful L) (levels : ℕ → ℕ → ℕ) (message : List ℕ) {text segments leaves text′ segments′ leaves′ : List ℕ} {r : Answer}
     (read : ReadAs L levels message text segments leaves r text′ segments′ leaves′) where
   -- the card and the buffers are those of the table
   left-as : (t : Table) (e : reading L levels (roomOf text segments leaves) message ≡ accepted t)
-      → lent (r .card) segments′ leaves′ text′ ≡ filed L lawful levels message text segments leaves t e
+      → lent (r .card) segments′ leaves′ text′ ≡ tableLeft L lawful levels message text segments leaves t e
   unfolding answerOf textPut segmentsPut leavesPut
   left-as t e =
       rw (read .answer, read .textArea, read .segmentRows, read .leafRows, e)

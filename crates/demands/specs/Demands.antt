@@ -21,9 +21,9 @@ use Rattle.order.specs.Watcher.{begun, watched, said}
 use Rattle.order.specs.inner.Telling.{tellOf}
 use Rattle.table.specs.Lent.{Lent, lent, counted}
 use Rattle.table.specs.Rows.{kindsOf, contextIn, RowOf}
-use Rattle.table.specs.Reading.{accepted, reading, stated, short}
+use Rattle.table.specs.Reading.{roomOf, accepted, reading, stated, short}
 use Rattle.read.specs.declared.Answer.{Answer}
-use Rattle.read.specs.Answering.{ReadAs, noCard, roomOf}
+use Rattle.read.specs.Answering.{ReadAs, noCard}
 use Rattle.read.specs.Acceptance.{Read}
 use Rattle.read.specs.Sound.{segmentsIn, SoundLines, SoundMessage}
 use Rattle.write.specs.declared.Written.{Written}
@@ -69,7 +69,7 @@ pub record Demand2 (L : Limits) (levels : ℕ → ℕ → ℕ) : Type 0 where
   pub accepted-table : (message : List ℕ) {text segments leaves text′ segments′ leaves′ : List ℕ} {r : Answer}
       → ReadAs L levels message text segments leaves r text′ segments′ leaves′ → r .number ≡ 0
       → (ps : Separators) × Read L levels message ps text segments leaves r text′ segments′ leaves′
-  -- what it leaves in the buffers is a table to which a message reads, as the statements below ask
+  -- accepted: what the reader leaves in the buffers is a table that some message reads to (W4)
   pub table-left : (message : List ℕ) {text segments leaves text′ segments′ leaves′ : List ℕ} {r : Answer}
       → ReadAs L levels message text segments leaves r text′ segments′ leaves′ → r .number ≡ 0
       → ReadTo L levels (counted (lent (r .card) segments′ leaves′ text′))

@@ -13,22 +13,21 @@ use Rattle.laws.proofs.Tables.{values-same}
 use Rattle.form.specs.declared.limits.Limits.{Limits}
 use Rattle.form.specs.Limits.{Lawful}
 use Rattle.table.specs.Rows.{Table, segmentRowSize}
-use Rattle.table.specs.Reading.{accepted, reading}
+use Rattle.table.specs.Reading.{roomOf, accepted, reading}
 use Rattle.table.specs.inner.Back.{written}
-use Rattle.table.specs.Lent.{Lent, lent}
+use Rattle.table.specs.Lent.{Lent}
 use Rattle.table.proofs.RowNumbers.{judged-few}
-use Rattle.read.specs.Answering.{roomOf}
 use Rattle.table.proofs.Room.{front-at}
 use Rattle.write.specs.Answer.{answer, writtenSize}
 use Rattle.write.proofs.LentTables.{table-written-out}
-use Rattle.write.proofs.ReadTables.{passed, sized, segments-fit, filed, filed-counted, filed-table}
+use Rattle.write.proofs.ReadTables.{accepted-so, sized, segments-fit, tableLeft, filed-counted, filed-table}
 use Rattle.listing.specs.Listing.{columns, rowLine, rowLines}
 
 module _ (L : Limits) (lawful : Lawful L) (levels : ℕ → ℕ → ℕ) (message text segments leaves : List ℕ) (t : Table)
     (read : reading L levels (roomOf text segments leaves) message ≡ accepted t) where
   -- the table as it is lent to the writer
   abbrev here : Lent
-  here = filed L lawful levels message text segments leaves t read
+  here = tableLeft L lawful levels message text segments leaves t read
 
   pub filed-size : writtenSize L levels here ≡ length (written L t)
   unfolding writtenSize answer
@@ -51,7 +50,7 @@ module _ (L : Limits) (lawful : Lawful L) (levels : ℕ → ℕ → ℕ) (messag
       omega (
         arith,
         number-at j h,
-        all-at j 0 (judged-few most kinds rows few (passed L lawful levels message text segments leaves t read .segments))
+        all-at j 0 (judged-few most kinds rows few (accepted-so L lawful levels message text segments leaves t read .segments))
             (let g : j < length (t .segmentRows) = omega (arith, rows-sized) in g),
       )
 

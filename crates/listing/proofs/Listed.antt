@@ -1,23 +1,21 @@
 -- What `list` answers, by cases: a short buffer, a refused message, an accepted one.
 -- Assumes nothing.
-use mathlib.Core.Bool.{true, false}
 use mathlib.Core.List.{List, [], _++_}
-use mathlib.Core.Path.{_≡_, refl, sym, ap, ap₂, _∙_, subst}
+use mathlib.Core.Path.{_≡_, sym, ap, ap₂, _∙_, subst}
 use Prim.Native.Nat.{ℕ, _+_, _*_, _≤_, _<_}
 use native.Mathlib.Omega.{arith}
-use lib.Dec.{ltb, lit≤}
+use lib.Dec.{lit≤}
 use lib.ListN.{length, getD}
-use lib.Seq.{sets, length-sets}
+use lib.Seq.{sets}
 use borrow.Author.Tests.{lt-ltb, le-ltb}
 use Rattle.form.specs.declared.limits.Limits.{Limits}
 use Rattle.form.specs.Limits.{Lawful}
 use Rattle.form.specs.Numbers.{shortBuffer}
 use Rattle.table.specs.declared.Card.{Card}
 use Rattle.table.specs.Rows.{Table}
-use Rattle.table.specs.Reading.{Outcome, refused, accepted, reading}
-use Rattle.table.specs.inner.Back.{written}
+use Rattle.table.specs.Reading.{roomOf, Outcome, refused, accepted, reading}
 use Rattle.read.specs.declared.Answer.{Answer}
-use Rattle.read.specs.Answering.{answerOf, textPut, segmentsPut, leavesPut, roomOf, Gives, ReadAs}
+use Rattle.read.specs.Answering.{answerOf, textPut, segmentsPut, leavesPut, Gives, ReadAs}
 use Rattle.read.proofs.OnlyOne.{reading-numbered}
 use Rattle.read.proofs.Acceptance.{number-accepted}
 use Rattle.table.specs.Lent.{lent}
@@ -25,7 +23,7 @@ use Rattle.write.specs.Answer.{writtenSize}
 use Rattle.listing.specs.Listing.{listing, listingSize, listingFor, shown, Lists, ListedAs, answerLines, countLines, rowLines}
 use Rattle.listing.specs.inner.Putting.{Put, PutWithin, sixDigits, RowsReady}
 use Rattle.listing.proofs.Putting.{put-as, put-then, put-length}
-use Rattle.write.proofs.ReadTables.{filed, few-segments, filed-within}
+use Rattle.write.proofs.ReadTables.{tableLeft, few-segments, filed-within}
 use Rattle.listing.proofs.Filed.{filed-size, filed-numbers, filed-rows}
 
 -- a buffer that is short, or is not
@@ -107,7 +105,7 @@ module _ (L : Limits) (levels : ℕ → ℕ → ℕ) (message text segments leav
     unfolding answerOf
     card-is = ap (λ (a : Answer). a .card) (given .answer)
 
-    lent-is : lent (r .card) segments′ leaves′ text′ ≡ filed L lawful levels message text segments leaves table (found .1)
+    lent-is : lent (r .card) segments′ leaves′ text′ ≡ tableLeft L lawful levels message text segments leaves table (found .1)
     unfolding textPut segmentsPut leavesPut
     lent-is =
         let card = card-is in

@@ -16,9 +16,9 @@ use Rattle.form.specs.Names.{kindNames, contextNames}
 use Rattle.form.specs.Numbers.{shortBuffer}
 use Rattle.table.specs.declared.Card.{Card}
 use Rattle.table.specs.Rows.{kindIn, ownerIn, firstIn, countIn}
-use Rattle.table.specs.Reading.{Outcome, refused, accepted, reading}
+use Rattle.table.specs.Reading.{roomOf, Outcome, refused, accepted, reading}
 use Rattle.table.specs.inner.Back.{written}
-use Rattle.read.specs.Answering.{roomOf, textPut, segmentsPut, leavesPut}
+use Rattle.read.specs.Answering.{textPut, segmentsPut, leavesPut}
 use Rattle.listing.specs.Decimal.{decimal}
 
 -- a line: a name with its `=`, a value, and the LF that ends it (G1)

@@ -8,7 +8,7 @@ use Prim.Native.Nat.{ℕ, suc, _+_, _-_, _*_, _<_}
 use native.Mathlib.Omega.{arith}
 use borrow.Author.Tests.{leb-true}
 use lib.Dec.{leb, eqb}
-use lib.ListN.{length, getD, take, drop}
+use lib.ListN.{length, take, drop}
 use lib.Seq.{getD-take}
 use denote.Ref.{RefT, ptr, now}
 use Rattle.laws.specs.Lists.{same}
@@ -18,12 +18,12 @@ use Rattle.laws.proofs.Searching.{firstOf-same}
 use Rattle.laws.proofs.Tests.{Tested, passed, failed, tested, and-first, and-second, and-where}
 use Rattle.table.specs.declared.Card.{Card}
 use Rattle.table.specs.Lent.{Lent, lent, withinBuffers, counted, SameCounted}
-use Rattle.table.specs.Rows.{Table, segmentRowSize, leafRowSize, kindIn, ownerIn, firstIn, countIn, startIn, lengthIn}
+use Rattle.table.specs.Rows.{Table, segmentRowSize, leafRowSize, kindIn, firstIn, countIn, startIn, lengthIn}
 use Rattle.table.proofs.Lent.{same-within}
 use Rattle.look.specs.declared.leaf.Sought.{Sought}
 use Rattle.look.specs.declared.leaf.Sought.the-variants.{At, Empty, NotThere}
 use Rattle.look.specs.declared.leaf.Place.{Place}
-use Rattle.look.specs.Looking.{fits, leafFits, isAmong, isNamed, namedFits, segmentsFit, hasKindAndOwner, isOrder, orderAt, orderPlace}
+use Rattle.look.specs.Looking.{fits, leafFits, inRun, isNamed, namedFits, segmentsFit, hasKindAndOwner, isOrder, orderAt, orderPlace}
 use Rattle.look.specs.Matches.{soughtPart, lookedUp}
 use Rattle.look.specs.inner.Searching.{foundOf, soughtFrom, soughtBy, soughtIn, soughtInSegment, rowFrom, rowAfter, sameTexts, sameOrder}
 use Rattle.look.specs.inner.Ordering.{orderText}
@@ -33,9 +33,9 @@ use Rattle.look.proofs.Orders.{order-text, no-order, same-order-texts}
 
 -- the search for a leaf, in the counted rows
 
--- a table that is lent whole
-abbrev pub whole : Table → Lent
-whole T = lent (T .card) (T .segmentRows) (T .leafRows) (T .text)
+-- a table that is lent lentWhole
+abbrev pub lentWhole : Table → Lent
+lentWhole T = lent (T .card) (T .segmentRows) (T .leafRows) (T .text)
 
 module _ (t : Lent) where
   -- what a counted leaf row says
@@ -47,7 +47,7 @@ module _ (t : Lent) where
   unfolding counted
   length-taken k h = getD-take (t .card .leaves * leafRowSize) (t .leafRows) (k * leafRowSize + 6) 0 (omega arith)
 
-  pub fits-taken : (p : Place) (k : ℕ) → k < t .card .leaves → leafFits (whole (counted t)) p k ≡ leafFits t p k
+  pub fits-taken : (p : Place) (k : ℕ) → k < t .card .leaves → leafFits (lentWhole (counted t)) p k ≡ leafFits t p k
   unfolding fits counted
   fits-taken p k h =
       rw (
@@ -57,44 +57,44 @@ module _ (t : Lent) where
       )
 
   -- what a counted segment row names
-  pub named-taken : (s k : ℕ) → isNamed (whole (counted t)) s k ≡ isNamed t s k
+  pub named-taken : (s k : ℕ) → isNamed (lentWhole (counted t)) s k ≡ isNamed t s k
   unfolding isNamed counted
   named-taken s k =
       let most = t .card .segments * segmentRowSize in
       and-where (leb 1 s && leb s (t .card .segments))
-      (isAmong (firstIn (take most (t .segmentRows)) (s - 1)) (countIn (take most (t .segmentRows)) (s - 1)) k)
-      (isAmong (firstIn (t .segmentRows) (s - 1)) (countIn (t .segmentRows) (s - 1)) k)
+      (inRun (firstIn (take most (t .segmentRows)) (s - 1)) (countIn (take most (t .segmentRows)) (s - 1)) k)
+      (inRun (firstIn (t .segmentRows) (s - 1)) (countIn (t .segmentRows) (s - 1)) k)
       (λ e.
       let least = leb-true 1 s (and-first (leb 1 s) (leb s (t .card .segments)) e) in
       let counts = leb-true s (t .card .segments) (and-second (leb 1 s) (leb s (t .card .segments)) e) in
-      ap₂ (λ (first count : ℕ). isAmong first count k)
+      ap₂ (λ (first count : ℕ). inRun first count k)
       (getD-take most (t .segmentRows) ((s - 1) * segmentRowSize + 2) 0 (omega arith))
       (getD-take most (t .segmentRows) ((s - 1) * segmentRowSize + 3) 0 (omega arith)))
 
 -- a search in a table, where its counts fit
-searched : (Lent → ℕ → Bool) → Table → Bool → Sought
-searched test T b = elim b [ true ↦ soughtFrom (test (whole T)) (T .leafRows) 0 (T .card .leaves) | false ↦ NotThere ]
+soughtInTable : (Lent → ℕ → Bool) → Table → Bool → Sought
+soughtInTable test T b = elim b [ true ↦ soughtFrom (test (lentWhole T)) (T .leafRows) 0 (T .card .leaves) | false ↦ NotThere ]
 
 -- by a test that looks at counted entries alone
-module _ (test : Lent → ℕ → Bool) (local : (t : Lent) (k : ℕ) → k < t .card .leaves → test (whole (counted t)) k ≡ test t k) where
-  sought-taken : (t : Lent) → soughtFrom (test (whole (counted t))) (counted t .leafRows) 0 (t .card .leaves) ≡ soughtFrom (test t) (t .leafRows) 0 (t .card .leaves)
+module _ (test : Lent → ℕ → Bool) (local : (t : Lent) (k : ℕ) → k < t .card .leaves → test (lentWhole (counted t)) k ≡ test t k) where
+  sought-taken : (t : Lent) → soughtFrom (test (lentWhole (counted t))) (counted t .leafRows) 0 (t .card .leaves) ≡ soughtFrom (test t) (t .leafRows) 0 (t .card .leaves)
   sought-taken t =
-      sought-first (test (whole (counted t))) (counted t .leafRows) 0 (t .card .leaves)
-      ∙ firstOf-same (test (whole (counted t))) (test t) (foundAt (counted t .leafRows)) (foundAt (t .leafRows)) NotThere 0 (t .card .leaves)
+      sought-first (test (lentWhole (counted t))) (counted t .leafRows) 0 (t .card .leaves)
+      ∙ firstOf-same (test (lentWhole (counted t))) (test t) (foundAt (counted t .leafRows)) (foundAt (t .leafRows)) NotThere 0 (t .card .leaves)
       (λ k g h. local t k (omega arith)) (λ k g h. ap₂ foundOf (start-taken t k (omega arith)) (length-taken t k (omega arith)))
       ∙ sym (sought-first (test t) (t .leafRows) 0 (t .card .leaves))
 
-  sought-by-entries : (t : Lent) → soughtBy (test t) t ≡ searched test (counted t) (withinBuffers t)
-  unfolding searched counted
+  sought-by-entries : (t : Lent) → soughtBy (test t) t ≡ soughtInTable test (counted t) (withinBuffers t)
+  unfolding soughtInTable counted
   sought-by-entries t = go (tested (withinBuffers t))
     where
-      go : Tested (withinBuffers t) → soughtBy (test t) t ≡ searched test (counted t) (withinBuffers t)
-      go (passed e) = sought-counted (test t) t e ∙ sym (sought-taken t) ∙ sym (rw (e, searched))
-      go (failed e) = sought-uncounted (test t) t e ∙ sym (rw (e, searched))
+      go : Tested (withinBuffers t) → soughtBy (test t) t ≡ soughtInTable test (counted t) (withinBuffers t)
+      go (passed e) = sought-counted (test t) t e ∙ sym (sought-taken t) ∙ sym (rw (e, soughtInTable))
+      go (failed e) = sought-uncounted (test t) t e ∙ sym (rw (e, soughtInTable))
 
   uncounted-sought : (t u : Lent) → SameCounted t u → soughtBy (test t) t ≡ soughtBy (test u) u
   uncounted-sought t u w =
-      sought-by-entries t ∙ ap₂ (λ (T : Table) (b : Bool). searched test T b) (w .entries) (same-within t u w) ∙ sym (sought-by-entries u)
+      sought-by-entries t ∙ ap₂ (λ (T : Table) (b : Bool). soughtInTable test T b) (w .entries) (same-within t u w) ∙ sym (sought-by-entries u)
 
 -- the search for a row, in the counted rows
 
@@ -215,7 +215,7 @@ module _ (t u : Lent) (w : SameCounted t u) where
   uncounted-order-text row =
       ap₂ (λ (b : Bool) (s : Sought). elim b [ true ↦ s | false ↦ NotThere ]) (uncounted-order row) (uncounted-leaf (orderPlace row))
 
--- of the text that is handed back: its bytes, and the whole part where the text area lies at the same place
+-- of the text that is handed back: its bytes, and the lentWhole part where the text area lies at the same place
 module _ (card card′ : Card) (segments leaves segments′ leaves′ : List ℕ) (text text′ : RefT (List ℕ))
     (w : SameCounted (lent card segments leaves (now text)) (lent card′ segments′ leaves′ (now text′))) (p : Place) (substitute : RefT (List ℕ)) where
   abbrev one : Lent

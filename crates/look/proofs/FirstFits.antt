@@ -1,7 +1,7 @@
 -- The first number that passes a test (`FirstFit`, `NoFit`) is what a search finds, and a search over some numbers is one over a part of them
 -- where no other passes.
 -- Assumes nothing.
-use mathlib.Core.Bool.{Bool, true, false}
+use mathlib.Core.Bool.{Bool, false}
 use mathlib.Core.Logic.{_⊎_, inl, inr}
 use mathlib.Core.Path.{_≡_, refl, sym, ap, _∙_, subst⁻¹}
 use Prim.Native.Nat.{ℕ, zero, suc, _+_, _-_, _≤_, _<_}
@@ -48,8 +48,8 @@ module _ {A : Type 0} (test : ℕ → Bool) (hit : ℕ → A) (none : A) (P : A 
 
 -- and a number that is the first to fit is what a search finds
 module _ {A : Type 0} (test : ℕ → Bool) (hit : ℕ → A) (none : A) where
-  pub first-found : (i n end k : ℕ) → end ≡ i + n → FirstFit test i end k → hit k ≡ firstOf test hit none i n
-  first-found i n end k e f =
+  pub first-fit-found : (i n end k : ℕ) → end ≡ i + n → FirstFit test i end k → hit k ≡ firstOf test hit none i n
+  first-fit-found i n end k e f =
       first-means test hit none (λ (a : A). hit k ≡ a) i n end e
       (λ no. absurd (never-both (f .fits) (no k (f .later) (f .within))))
       (λ j g. ap hit (one-first f g))
@@ -70,9 +70,9 @@ module _ {A : Type 0} (test : ℕ → Bool) (hit : ℕ → A) (none : A) where
 module _ {A : Type 0} (test other : ℕ → Bool) (hit : ℕ → A) (none : A) (n from to : ℕ) (few : to ≤ n)
     (outside : (k : ℕ) → k < n → (k < from) ⊎ (to ≤ k) → test k ≡ false)
     (inside : (k : ℕ) → from ≤ k → k < to → test k ≡ other k) where
-  -- the numbers that a test of the part fails at, and those before the part, fail the whole's
-  before-part : (j : ℕ) → j < n → (from ≤ j → j < to → other j ≡ false) → test j ≡ false
-  before-part j h fails = pick (less-or-not j from) (less-or-not j to)
+  -- a number outside the part, or in it where the part's test fails, fails the whole's test
+  fails-whole : (j : ℕ) → j < n → (from ≤ j → j < to → other j ≡ false) → test j ≡ false
+  fails-whole j h fails = pick (less-or-not j from) (less-or-not j to)
     where
       pick : (j < from) ⊎ (from ≤ j) → (j < to) ⊎ (to ≤ j) → test j ≡ false
       pick (inl b) w = outside j h (inl b)
@@ -82,14 +82,14 @@ module _ {A : Type 0} (test other : ℕ → Bool) (hit : ℕ → A) (none : A) (
   pub part-searched : firstOf test hit none 0 n ≡ firstOf other hit none from (to - from)
   part-searched =
       first-means other hit none (λ (a : A). firstOf test hit none 0 n ≡ a) from (to - from) (from + (to - from)) refl
-      (λ no. sym (none-found test hit none 0 n n (omega arith) (λ j f h. before-part j h (λ g t. no j g (omega (arith, g, t))))))
+      (λ no. sym (none-found test hit none 0 n n (omega arith) (λ j f h. fails-whole j h (λ g t. no j g (omega (arith, g, t))))))
       (λ k f.
       let above = f .later in
       let below : k < to = omega (arith, f .later, f .within) in
-      sym (first-found test hit none 0 n n k (omega arith)
+      sym (first-fit-found test hit none 0 n n k (omega arith)
       (record {
         later = omega arith;
         within = omega (arith, below, few);
         fits = inside k above below ∙ f .fits;
-        first = λ j g h. before-part j (omega (arith, h, below, few)) (λ u v. f .first j u h);
+        first = λ j g h. fails-whole j (omega (arith, h, below, few)) (λ u v. f .first j u h);
       })))

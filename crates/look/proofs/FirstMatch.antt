@@ -1,14 +1,14 @@
 -- What the lookups answer (rules F1 to F4): the first row that fits, or none where none does.
 -- Assumes nothing.
-use mathlib.Core.Bool.{Bool, true, false, _&&_}
+use mathlib.Core.Bool.{Bool, true, _&&_}
 use mathlib.Core.List.{List}
 use mathlib.Core.Logic.{_⊎_, inl, inr, _↔_}
 use mathlib.Core.Path.{_≡_, refl, sym, ap, ap₂, _∙_, subst, subst⁻¹}
-use Prim.Native.Nat.{ℕ, zero, suc, _+_, _-_, _≤_, _<_}
+use Prim.Native.Nat.{ℕ, zero, suc, _+_, _-_}
 use native.Mathlib.Omega.{arith}
 use lib.ListN.{take, drop}
 use Rattle.laws.specs.Lists.{same}
-use Rattle.laws.proofs.Cases.{less-or-not, equal-or-not}
+use Rattle.laws.proofs.Cases.{equal-or-not, at-least-one}
 use Rattle.laws.proofs.Lists.{same-self, same-equal}
 use Rattle.laws.proofs.Searching.{firstOf}
 use Rattle.laws.proofs.Tests.{Tested, passed, failed, tested, and-first, and-second, and-both, never-both}
@@ -18,21 +18,14 @@ use Rattle.look.specs.declared.leaf.Place.{Place}
 use Rattle.look.specs.declared.leaf.Sought.{Sought}
 use Rattle.look.specs.declared.leaf.Sought.the-variants.{At, Empty, NotThere}
 use Rattle.look.specs.Looking.{leafFits, namedFits, segmentsFit, hasKindAndOwner, orderAt, orderPlace}
-use Rattle.look.specs.inner.Searching.{foundOf, soughtBy, soughtIn, soughtInSegment, rowAfter, sameTexts, sameOrder}
+use Rattle.look.specs.inner.Searching.{soughtBy, soughtIn, soughtInSegment, rowAfter, sameTexts, sameOrder}
 use Rattle.look.specs.Matches.{FirstFit, FindsBy, Finds, FindsInSegment, FindsRow, SameOrders}
-use Rattle.look.proofs.Seeking.{foundAt, found-empty, found-some, sought-first, sought-counted, sought-uncounted}
-use Rattle.look.proofs.FirstFits.{first-means, first-found, none-found}
+use Rattle.look.proofs.Seeking.{foundAt, found-empty, found-some, sought-searched, sought-uncounted}
+use Rattle.look.proofs.FirstFits.{first-means, first-fit-found, none-found}
 use Rattle.look.proofs.RowSearch.{row-first, rows-past}
-
-at-least-one : (n : ℕ) → (n ≡ 0 → ⊥) → 1 ≤ n
-at-least-one zero w = absurd (w refl)
-at-least-one (suc n) w = omega arith
 
 -- a lookup by the first row that passes a test
 module _ (test : ℕ → Bool) (t : Lent) where
-  searched : withinBuffers t ≡ true → soughtBy test t ≡ firstOf test (foundAt (t .leafRows)) NotThere 0 (t .card .leaves)
-  searched h = sought-counted test t h ∙ sought-first test (t .leafRows) 0 (t .card .leaves)
-
   -- what the first row states
   states : withinBuffers t ≡ true → (k : ℕ) → FirstFit test 0 (t .card .leaves) k → FindsBy test t (foundAt (t .leafRows) k)
   states h k f = by (equal-or-not (lengthIn (t .leafRows) k) 0)
@@ -48,14 +41,14 @@ module _ (test : ℕ → Bool) (t : Lent) where
     where
       by : Tested (withinBuffers t) → FindsBy test t (soughtBy test t)
       by (passed h) =
-          subst⁻¹ (FindsBy test t) (searched h)
+          subst⁻¹ (FindsBy test t) (sought-searched test t h)
           (first-means test (foundAt (t .leafRows)) NotThere (FindsBy test t) 0 (t .card .leaves) (t .card .leaves) (omega arith)
           (λ no w. no) (states h))
       by (failed h) = subst⁻¹ (FindsBy test t) (sought-uncounted test t h) (λ w. absurd (never-both w h))
 
   first-row : withinBuffers t ≡ true → (k : ℕ) → FirstFit test 0 (t .card .leaves) k → foundAt (t .leafRows) k ≡ soughtBy test t
   first-row h k f =
-      first-found test (foundAt (t .leafRows)) NotThere 0 (t .card .leaves) (t .card .leaves) k (omega arith) f ∙ sym (searched h)
+      first-fit-found test (foundAt (t .leafRows)) NotThere 0 (t .card .leaves) (t .card .leaves) k (omega arith) f ∙ sym (sought-searched test t h)
 
   found-by : (r : Sought) → FindsBy test t r → r ≡ soughtBy test t
   found-by (At start n) f =
@@ -70,7 +63,7 @@ module _ (test : ℕ → Bool) (t : Lent) where
     where
       by : Tested (withinBuffers t) → NotThere ≡ soughtBy test t
       by (passed h) =
-          none-found test (foundAt (t .leafRows)) NotThere 0 (t .card .leaves) (t .card .leaves) (omega arith) (f h) ∙ sym (searched h)
+          none-found test (foundAt (t .leafRows)) NotThere 0 (t .card .leaves) (t .card .leaves) (omega arith) (f h) ∙ sym (sought-searched test t h)
       by (failed h) = sym (sought-uncounted test t h)
 
   finds-by-exactly : (r : Sought) → (r ≡ soughtBy test t) ↔ FindsBy test t r
@@ -112,7 +105,7 @@ module _ (rows : List ℕ) (count after kind owner : ℕ) where
 
   found-row : (r : ℕ) → FindsRow rows count after kind owner r → r ≡ rowAfter rows count after kind owner
   found-row (suc i) f =
-      first-found has suc 0 after (count - after) (after + (count - after)) i refl (lengthened (f .1)) ∙ sym (searched-rows (f .0))
+      first-fit-found has suc 0 after (count - after) (after + (count - after)) i refl (lengthened (f .1)) ∙ sym (searched-rows (f .0))
   found-row zero f = by (tested (segmentsFit rows count))
     where
       by : Tested (segmentsFit rows count) → 0 ≡ rowAfter rows count after kind owner

@@ -1,23 +1,21 @@
--- The leaf rows that a segment row names (F4): a search for those among all counted rows is one over a part of them alone.
+-- The leaf rows that a segment row names (F4): a search for those named-fits all counted rows is one over a part of them alone.
 -- Assumes nothing.
-use mathlib.Core.Bool.{Bool, true, false, _&&_}
-use mathlib.Core.List.{List}
+use mathlib.Core.Bool.{true, false, _&&_}
 use mathlib.Core.Logic.{_⊎_, inl, inr}
-use mathlib.Core.Path.{_≡_, refl, sym, ap, _∙_}
+use mathlib.Core.Path.{_≡_, sym, ap, _∙_}
 use Prim.Native.Nat.{ℕ, suc, _+_, _-_, _<_, _≤_}
 use native.Mathlib.Omega.{arith}
 use borrow.Author.Tests.{le-leb, lt-leb, lt-ltb, le-ltb}
 use lib.Dec.{leb, ltb}
-use Rattle.laws.proofs.Searching.{firstOf}
-use Rattle.laws.proofs.Tests.{and-both, and-fails-first, and-fails-second}
+use Rattle.laws.proofs.Tests.{and-fails-first, and-fails-second}
 use Rattle.table.specs.Lent.{Lent, withinBuffers}
 use Rattle.table.specs.Rows.{firstIn, countIn}
 use Rattle.look.specs.declared.leaf.Place.{Place}
 use Rattle.look.specs.declared.leaf.Sought.the-variants.{NotThere}
-use Rattle.look.specs.Looking.{leafFits, isAmong, isNamed, namedFits}
+use Rattle.look.specs.Looking.{leafFits, inRun, isNamed, namedFits}
 use Rattle.look.specs.inner.Searching.{soughtFrom, soughtInSegment}
 use Rattle.look.proofs.FirstFits.{none-found, part-searched}
-use Rattle.look.proofs.Seeking.{foundAt, sought-first, sought-counted}
+use Rattle.look.proofs.Seeking.{foundAt, sought-first, sought-searched}
 
 -- a segment row that is not counted names no leaf row
 module _ (t : Lent) (s i : ℕ) where
@@ -28,19 +26,16 @@ module _ (t : Lent) (s i : ℕ) where
   past-names : t .card .segments < s → isNamed t s i ≡ false
   unfolding isNamed
   past-names h =
-      and-fails-first (isAmong (firstIn (t .segmentRows) (s - 1)) (countIn (t .segmentRows) (s - 1)) i)
+      and-fails-first (inRun (firstIn (t .segmentRows) (s - 1)) (countIn (t .segmentRows) (s - 1)) i)
       (and-fails-second (leb 1 s) (lt-leb s (t .card .segments) h))
 
 -- a lookup in a segment that names none
 module _ (t : Lent) (p : Place) (fit : withinBuffers t ≡ true) where
-  searched : soughtInSegment t p ≡ firstOf (namedFits t p) (foundAt (t .leafRows)) NotThere 0 (t .card .leaves)
-  searched = sought-counted (namedFits t p) t fit ∙ sought-first (namedFits t p) (t .leafRows) 0 (t .card .leaves)
-
   none-named : ((i : ℕ) → isNamed t (p .segment) i ≡ false) → NotThere ≡ soughtInSegment t p
   none-named unnamed =
       none-found (namedFits t p) (foundAt (t .leafRows)) NotThere 0 (t .card .leaves) (t .card .leaves) (omega arith)
       (λ j from to. and-fails-first (leafFits t p j) (unnamed j))
-      ∙ sym searched
+      ∙ sym (sought-searched (namedFits t p) t fit)
 
   pub segment-zero : p .segment < 1 → NotThere ≡ soughtInSegment t p
   segment-zero h = none-named (λ i. zero-names t (p .segment) i h)
@@ -56,43 +51,43 @@ module _ (t : Lent) (p : Place) (fit : withinBuffers t ≡ true) where
     abbrev count : ℕ
     count = countIn (t .segmentRows) (p .segment - 1)
 
-    is-among : (i : ℕ) → isNamed t (p .segment) i ≡ isAmong first count i
+    in-run : (i : ℕ) → isNamed t (p .segment) i ≡ inRun first count i
     unfolding isNamed
-    is-among i = rw (le-leb 1 (p .segment) some, le-leb (p .segment) (t .card .segments) counts)
+    in-run i = rw (le-leb 1 (p .segment) some, le-leb (p .segment) (t .card .segments) counts)
 
-    not-among : (i : ℕ) → isAmong first count i ≡ false → namedFits t p i ≡ false
-    not-among i e = and-fails-first (leafFits t p i) (is-among i ∙ e)
+    out-of-run : (i : ℕ) → inRun first count i ≡ false → namedFits t p i ≡ false
+    out-of-run i e = and-fails-first (leafFits t p i) (in-run i ∙ e)
 
     -- a first leaf of 0 names none
-    pub first-zero : first < 1 → NotThere ≡ soughtInSegment t p
+    first-zero : first < 1 → NotThere ≡ soughtInSegment t p
     first-zero h =
         none-named
         (λ i.
-        is-among i
+        in-run i
         ∙ and-fails-first (ltb (suc i) (first + count)) (and-fails-first (leb first (suc i)) (lt-leb 1 first h)))
 
     module _ (begins : 1 ≤ first) where
-      among : (i : ℕ) → first ≤ suc i → suc i < first + count → namedFits t p i ≡ leafFits t p i
-      among i from to = rw (is-among i, le-leb 1 first begins, le-leb first (suc i) from, lt-ltb (suc i) (first + count) to)
+      named-fits : (i : ℕ) → first ≤ suc i → suc i < first + count → namedFits t p i ≡ leafFits t p i
+      named-fits i from to = rw (in-run i, le-leb 1 first begins, le-leb first (suc i) from, lt-ltb (suc i) (first + count) to)
 
       named-part : (to : ℕ) → to ≤ first - 1 + count → to ≤ t .card .leaves → (to ≡ first - 1 + count) ⊎ (to ≡ t .card .leaves)
           → soughtFrom (leafFits t p) (t .leafRows) (first - 1) (to - (first - 1)) ≡ soughtInSegment t p
       named-part to named counted either =
           sought-first (leafFits t p) (t .leafRows) (first - 1) (to - (first - 1))
-          ∙ sym (searched
+          ∙ sym (sought-searched (namedFits t p) t fit
           ∙ part-searched (namedFits t p) (leafFits t p) (foundAt (t .leafRows)) NotThere (t .card .leaves) (first - 1) to counted outside
-          (λ k from below. among k (omega (arith, from)) (omega (arith, below, named, begins))))
+          (λ k from below. named-fits k (omega (arith, from)) (omega (arith, below, named, begins))))
         where
-          before : (k : ℕ) → k < first - 1 → isAmong first count k ≡ false
+          before : (k : ℕ) → k < first - 1 → inRun first count k ≡ false
           before k h = and-fails-first (ltb (suc k) (first + count)) (and-fails-second (leb 1 first) (lt-leb first (suc k) (omega (arith, h))))
 
-          behind : (k : ℕ) → k < t .card .leaves → to ≤ k → (to ≡ first - 1 + count) ⊎ (to ≡ t .card .leaves) → isAmong first count k ≡ false
+          behind : (k : ℕ) → k < t .card .leaves → to ≤ k → (to ≡ first - 1 + count) ⊎ (to ≡ t .card .leaves) → inRun first count k ≡ false
           behind k h past (inl e) = and-fails-second (leb 1 first && leb first (suc k)) (le-ltb (suc k) (first + count) (omega (arith, past, e, begins)))
           behind k h past (inr e) = absurd (omega (arith, h, past, e))
 
           outside : (k : ℕ) → k < t .card .leaves → (k < first - 1) ⊎ (to ≤ k) → namedFits t p k ≡ false
-          outside k h (inl early) = not-among k (before k early)
-          outside k h (inr late) = not-among k (behind k h late either)
+          outside k h (inl early) = out-of-run k (before k early)
+          outside k h (inr late) = out-of-run k (behind k h late either)
 
   -- the same as a function comes to them: by the segment's number, its first leaf and its leaf count as they are read
   module _ {number first : ℕ} (row : number ≡ p .segment) (some : 1 ≤ number) (counts : number ≤ t .card .segments)

@@ -61,17 +61,17 @@ module _ (t : Lent) (row : ℕ) where
 
 -- the test, by where the two texts lie
 
-none-same : (text : List ℕ) (s : Sought) (other : List ℕ) → sameTexts text s other NotThere ≡ false
+not-there-differs : (text : List ℕ) (s : Sought) (other : List ℕ) → sameTexts text s other NotThere ≡ false
 unfolding sameTexts
-none-same text (At start n) other = refl
-none-same text Empty other = refl
-none-same text NotThere other = refl
+not-there-differs text (At start n) other = refl
+not-there-differs text Empty other = refl
+not-there-differs text NotThere other = refl
 
-empty-same : (text : List ℕ) (s : Sought) (other : List ℕ) → sameTexts text s other Empty ≡ false
+empty-differs : (text : List ℕ) (s : Sought) (other : List ℕ) → sameTexts text s other Empty ≡ false
 unfolding sameTexts
-empty-same text (At start n) other = refl
-empty-same text Empty other = refl
-empty-same text NotThere other = refl
+empty-differs text (At start n) other = refl
+empty-differs text Empty other = refl
+empty-differs text NotThere other = refl
 
 module _ (t : Lent) (row : ℕ) (u : Lent) (other : ℕ) where
   pub same-order-texts : sameOrder t row u other ≡ sameTexts (t .text) (orderText t row) (u .text) (orderText u other)
@@ -82,14 +82,14 @@ module _ (t : Lent) (row : ℕ) (u : Lent) (other : ℕ) where
           → sameOrder t row u other ≡ sameTexts (t .text) (orderText t row) (u .text) (orderText u other)
       go (passed e) (passed f) = rw (order-text t row e, order-text u other f, e, f)
       go (passed e) (failed f) =
-          rw (order-text t row e, no-order u other f, e, f) (sym (none-same (t .text) (soughtIn t (orderPlace row)) (u .text)))
+          rw (order-text t row e, no-order u other f, e, f) (sym (not-there-differs (t .text) (soughtIn t (orderPlace row)) (u .text)))
       go (failed e) f = rw (no-order t row e, e)
 
-  -- the answer where both are there, and where one is empty or not there
-  pub both-there : (a n b m : ℕ) → orderText t row ≡ At a n → orderText u other ≡ At b m
+  -- the answer where both have a text, and where one is empty or not there
+  pub both-with-text : (a n b m : ℕ) → orderText t row ≡ At a n → orderText u other ≡ At b m
       → same (take (a + n - a) (drop a (t .text))) (take (b + m - b) (drop b (u .text))) ≡ sameOrder t row u other
   unfolding sameTexts
-  both-there a n b m e f =
+  both-with-text a n b m e f =
       ap₂ (λ (x y : List ℕ). same x y) (part-long (t .text) a n) (part-long (u .text) b m)
       ∙ sym (same-order-texts ∙ ap₂ (λ (x y : Sought). sameTexts (t .text) x (u .text) y) e f)
 
@@ -109,7 +109,7 @@ module _ (t : Lent) (row : ℕ) (u : Lent) (other : ℕ) where
   first-not-there e = first-decides e refl
 
   pub second-empty : orderText u other ≡ Empty → false ≡ sameOrder t row u other
-  second-empty e = second-decides e (empty-same (t .text) (orderText t row) (u .text))
+  second-empty e = second-decides e (empty-differs (t .text) (orderText t row) (u .text))
 
   pub second-not-there : orderText u other ≡ NotThere → false ≡ sameOrder t row u other
-  second-not-there e = second-decides e (none-same (t .text) (orderText t row) (u .text))
+  second-not-there e = second-decides e (not-there-differs (t .text) (orderText t row) (u .text))

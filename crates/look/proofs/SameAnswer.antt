@@ -1,10 +1,10 @@
 -- The lookup within a segment (F4) answers what the lookup (F1) answers, of every table that some message reads to: there each leaf row is one of
 -- those that its segment's row names.
 -- Assumes nothing.
-use mathlib.Core.Bool.{Bool, true, false, _&&_}
+use mathlib.Core.Bool.{true}
 use mathlib.Core.List.{List}
-use mathlib.Core.Path.{_≡_, refl, sym, ap, ap₂, _∙_, subst, subst⁻¹}
-use Prim.Native.Nat.{ℕ, suc, _+_, _-_, _≤_, _<_}
+use mathlib.Core.Path.{_≡_, refl, sym, ap, _∙_, subst, subst⁻¹}
+use Prim.Native.Nat.{ℕ, suc, _+_, _-_, _<_}
 use native.Mathlib.Omega.{arith}
 use borrow.Author.Tests.{le-leb, lt-ltb}
 use lib.Dec.{leb}
@@ -12,7 +12,7 @@ use lib.ListN.{getD}
 use Rattle.laws.specs.Lists.{same}
 use Rattle.laws.proofs.Lists.{same-equal}
 use Rattle.laws.proofs.Searching.{firstOf-same}
-use Rattle.laws.proofs.Tests.{Tested, passed, failed, tested, and-first, and-both, and-passed, and-fails-second}
+use Rattle.laws.proofs.Tests.{Tested, passed, failed, tested, and-first, and-both, and-fails-second}
 use Rattle.form.specs.declared.limits.Limits.{Limits}
 use Rattle.form.specs.declared.separators.Separators.{Separators}
 use Rattle.table.specs.Lent.{Lent, withinBuffers, counted}
@@ -22,10 +22,10 @@ use Rattle.table.proofs.Accepting.{accepting}
 use Rattle.table.proofs.OwnLeaves.{Named, own-leaf}
 use Rattle.look.specs.declared.leaf.Place.{Place}
 use Rattle.look.specs.declared.leaf.Sought.the-variants.{NotThere}
-use Rattle.look.specs.Looking.{numbersOf, fits, leafFits, isAmong, isNamed, namedFits}
+use Rattle.look.specs.Looking.{numbersOf, fits, leafFits, inRun, isNamed, namedFits}
 use Rattle.look.specs.inner.Searching.{soughtIn, soughtInSegment}
-use Rattle.look.proofs.Entries.{whole, fits-taken, named-taken}
-use Rattle.look.proofs.Seeking.{foundAt, sought-first, sought-counted, sought-uncounted}
+use Rattle.look.proofs.Entries.{lentWhole, fits-taken, named-taken}
+use Rattle.look.proofs.Seeking.{foundAt, sought-searched, sought-uncounted}
 
 -- where each counted row that fits is named by its segment row, the two lookups are one
 module _ (t : Lent) (p : Place) (own : (i : ℕ) → i < t .card .leaves → leafFits t p i ≡ true → isNamed t (p .segment) i ≡ true) where
@@ -36,24 +36,23 @@ module _ (t : Lent) (p : Place) (own : (i : ℕ) → i < t .card .leaves → lea
       by (passed e) = and-both (own i h e) e ∙ sym e
       by (failed e) = and-fails-second (isNamed t (p .segment) i) e ∙ sym e
 
-  pub same-search : soughtInSegment t p ≡ soughtIn t p
+  same-search : soughtInSegment t p ≡ soughtIn t p
   same-search = by (tested (withinBuffers t))
     where
       by : Tested (withinBuffers t) → soughtInSegment t p ≡ soughtIn t p
       by (passed e) =
-          sought-counted (namedFits t p) t e
-          ∙ sought-first (namedFits t p) (t .leafRows) 0 (t .card .leaves)
+          sought-searched (namedFits t p) t e
           ∙ firstOf-same (namedFits t p) (leafFits t p) (foundAt (t .leafRows)) (foundAt (t .leafRows)) NotThere 0 (t .card .leaves)
           (λ k g h. same-test k (omega (arith, h))) (λ k g h. refl)
-          ∙ sym (sought-counted (leafFits t p) t e ∙ sought-first (leafFits t p) (t .leafRows) 0 (t .card .leaves))
+          ∙ sym (sought-searched (leafFits t p) t e)
       by (failed e) = sought-uncounted (namedFits t p) t e ∙ sym (sought-uncounted (leafFits t p) t e)
 
 -- a row that its segment row names by the table's law is named by the lookup's test
-named-by : (T : Table) (s i : ℕ) → Named T s i → isNamed (whole T) s i ≡ true
+named-by : (T : Table) (s i : ℕ) → Named T s i → isNamed (lentWhole T) s i ≡ true
 unfolding isNamed
 named-by T s i w =
     and-both (and-both (le-leb 1 s (omega (arith, w .number))) (le-leb s (T .card .segments) (omega (arith, w .number, w .counts))))
-    (ap (λ (k : ℕ). isAmong (firstIn (T .segmentRows) k) (countIn (T .segmentRows) k) i) (let e : s - 1 ≡ w .row = omega (arith, w .number) in e)
+    (ap (λ (k : ℕ). inRun (firstIn (T .segmentRows) k) (countIn (T .segmentRows) k) i) (let e : s - 1 ≡ w .row = omega (arith, w .number) in e)
     ∙ and-both (and-both (le-leb 1 (firstIn (T .segmentRows) (w .row)) (w .begins)) (le-leb (firstIn (T .segmentRows) (w .row)) (suc i) (w .from)))
     (lt-ltb (suc i) (firstIn (T .segmentRows) (w .row) + countIn (T .segmentRows) (w .row)) (w .to)))
 

@@ -9,7 +9,7 @@ use native.Mathlib.Nat.{le-trans}
 use native.Mathlib.Omega.{arith}
 use borrow.Author.Tests.{leb-true, le-leb, lt-leb, eq-eqb, ne-eqb}
 use lib.Dec.{leb, eqb}
-use lib.ListN.{length, getD, take, drop}
+use lib.ListN.{length, getD, drop}
 use lib.Seq.{getD-take, getD-drop}
 use Rattle.laws.specs.Lists.{same}
 use Rattle.laws.proofs.Cases.{equal-or-not}
@@ -24,9 +24,9 @@ use Rattle.table.proofs.Lent.{text-within}
 use Rattle.look.specs.declared.leaf.Sought.{Sought}
 use Rattle.look.specs.declared.leaf.Sought.the-variants.{At, Empty, NotThere}
 use Rattle.look.specs.declared.leaf.Place.{Place}
-use Rattle.look.specs.declared.leaf.Asked.{Asked}
+use Rattle.look.specs.declared.leaf.AskedFirst.{AskedFirst}
 use Rattle.look.specs.Looking.{numbersOf, fits, leafFits}
-use Rattle.look.specs.inner.Searching.{foundOf, AsksFor, soughtFrom, soughtBy, soughtIn}
+use Rattle.look.specs.inner.Searching.{foundOf, AsksFirst, soughtFrom, soughtBy, soughtIn}
 
 -- the five numbers of a row's place: the row has them where each is that of the place
 
@@ -61,7 +61,7 @@ module _ (rows : List ℕ) (i : ℕ) (within : (i + 1) * leafRowSize ≤ length 
   number-in : (k : ℕ) → k < 5 → getD (placeIn rows i) k 0 ≡ number k
   number-in k h = getD-take 5 (drop (i * leafRowSize) rows) k 0 h ∙ getD-drop (i * leafRowSize) rows k 0
 
-  pub asked-differs : (asked : Asked) → AsksFor asked p → (number (asked .column) ≡ asked .number → ⊥) → false ≡ SamePlace
+  pub asked-differs : (asked : AskedFirst) → AsksFirst asked p → (number (asked .column) ≡ asked .number → ⊥) → false ≡ SamePlace
   asked-differs asked w n = sym (by (tested SamePlace))
     where
       by : Tested SamePlace → SamePlace ≡ false
@@ -180,24 +180,27 @@ module _ (test : ℕ → Bool) (t : Lent) where
   unfolding soughtBy
   sought-counted e = rw (e, soughtBy)
 
+  pub sought-searched : withinBuffers t ≡ true → soughtBy test t ≡ firstOf test (foundAt (t .leafRows)) NotThere 0 (t .card .leaves)
+  sought-searched e = sought-counted e ∙ sought-first test (t .leafRows) 0 (t .card .leaves)
+
   pub sought-uncounted : withinBuffers t ≡ false → soughtBy test t ≡ NotThere
   unfolding soughtBy
   sought-uncounted e = rw (e, soughtBy)
 
   -- where each row that passes lies within the card's text, so does a leaf that is found
   module _ (inside : (k : ℕ) → test k ≡ true → startIn (t .leafRows) k + lengthIn (t .leafRows) k ≤ t .card .text) where
-    pub sought-in-card : Within (t .card .text) (soughtBy test t)
+    sought-in-card : Within (t .card .text) (soughtBy test t)
     sought-in-card = go (tested (withinBuffers t))
       where
         go : Tested (withinBuffers t) → Within (t .card .text) (soughtBy test t)
         go (passed e) =
-            subst⁻¹ (Within (t .card .text)) (sought-counted e ∙ sought-first test (t .leafRows) 0 (t .card .leaves))
+            subst⁻¹ (Within (t .card .text)) (sought-searched e)
             (firstOf-holds test (foundAt (t .leafRows)) NotThere (Within (t .card .text)) tt
             (λ k passes. found-within-bytes (t .card .text) (startIn (t .leafRows) k) (lengthIn (t .leafRows) k) (inside k passes)) 0 (t .card .leaves))
         go (failed e) = subst⁻¹ (Within (t .card .text)) (sought-uncounted e) tt
 
     -- and within the text area
-    pub sought-in-area : (start n : ℕ) → soughtBy test t ≡ At start n → start + n ≤ length (t .text)
+    sought-in-area : (start n : ℕ) → soughtBy test t ≡ At start n → start + n ≤ length (t .text)
     sought-in-area start n found = go (tested (withinBuffers t))
       where
         go : Tested (withinBuffers t) → start + n ≤ length (t .text)

@@ -21,7 +21,7 @@ use Rattle.look.specs.declared.leaf.Place.{Place}
 use Rattle.look.specs.Looking.{numbersOf, fits, isNamed, soughtNumber, hasKindAndOwner, isOrder, orderPlace}
 use Rattle.look.specs.Matches.{lookedUp}
 use Rattle.look.specs.inner.Searching.{foundOf, soughtFrom, soughtBy, soughtIn, soughtInSegment, rowFrom, rowAfter, sameTexts, sameOrder}
-use Rattle.look.proofs.FirstMatch.{finds-exactly}
+use Rattle.look.proofs.FirstMatch.{finds-exactly, finds-in-segment-exactly}
 use Rattle.look.proofs.TextParts.{part-found, empty-part, no-part}
 
 -- an OBR, row 1, with as many leaf rows counted and as many bytes of text
@@ -82,41 +82,54 @@ module _ (f : Lent → Place → Sought) (meets : (t : Lent) (p : Place) → f t
   no-byte t p start h = let some = finds-exactly t p (At start 0) .0 (sym h ∙ meets t p) .1 .4 in omega (arith, some)
 
 -- two orders, of which each names one leaf row, the first or the second; both rows have the place of leaf 9.4.2, of the segments given
-abbrev orders : (first second : ℕ) → Lent
-orders first second =
+abbrev twoOrders : (first second : ℕ) → Lent
+twoOrders first second =
     lent (record { separator = 124; context = 2; segments = 2; leaves = 2; text = 2 }) (segmentRow 5 0 1 1 ++ segmentRow 5 0 2 1)
     (first ∷ 4 ∷ 1 ∷ 2 ∷ 1 ∷ 0 ∷ 1 ∷ second ∷ 4 ∷ 1 ∷ 2 ∷ 1 ∷ 1 ∷ 1 ∷ []) (65 ∷ 66 ∷ [])
 
 -- what meets the contract of `find_leaf_in_segment`
 module _ (f : Lent → Place → Sought) (meets : (t : Lent) (p : Place) → f t p ≡ soughtInSegment t p) where
   -- the first order's row names leaf row 1 alone: it does not go on to row 2, though that has the place
-  pub past-its-leaves : f (orders 2 1) (orderPlace 1) ≡ At 1 1 → ⊥
+  pub past-its-leaves : f (twoOrders 2 1) (orderPlace 1) ≡ At 1 1 → ⊥
   unfolding soughtBy soughtFrom fits foundOf numbersOf orderPlace isNamed countsFit same
   past-its-leaves h =
-      let e : NotThere ≡ At 1 1 = sym (meets (orders 2 1) (orderPlace 1)) ∙ h in
+      let e : NotThere ≡ At 1 1 = sym (meets (twoOrders 2 1) (orderPlace 1)) ∙ h in
       let z : _≡_ {A = ℕ} 0 1 = cc in
       omega arith
 
   -- nor is leaf row 1 the answer, which has another segment's number
-  pub of-another-segment : f (orders 2 1) (orderPlace 1) ≡ At 0 1 → ⊥
+  pub of-another-segment : f (twoOrders 2 1) (orderPlace 1) ≡ At 0 1 → ⊥
   unfolding soughtBy soughtFrom fits foundOf numbersOf orderPlace isNamed countsFit same
   of-another-segment h =
-      let e : NotThere ≡ At 0 1 = sym (meets (orders 2 1) (orderPlace 1)) ∙ h in
+      let e : NotThere ≡ At 0 1 = sym (meets (twoOrders 2 1) (orderPlace 1)) ∙ h in
       let z : _≡_ {A = ℕ} 0 1 = cc in
       omega arith
 
-  -- where the rows have the numbers of the segments that name them, each is found
-  pub in-its-segment : (f (orders 1 2) (orderPlace 1) ≡ At 0 1) × (f (orders 1 2) (orderPlace 2) ≡ At 1 1)
+  -- a leaf that was sent empty is there, and never found with a text of no byte
+  pub sent-empty-in-segment : f (table 1 2 (row 1 0 []) (65 ∷ 66 ∷ [])) (orderPlace 1) ≡ NotThere → ⊥
   unfolding soughtBy soughtFrom fits foundOf numbersOf orderPlace isNamed countsFit same
-  in-its-segment = (meets (orders 1 2) (orderPlace 1), meets (orders 1 2) (orderPlace 2))
+  sent-empty-in-segment h =
+      let e : Empty ≡ NotThere = sym (meets (table 1 2 (row 1 0 []) (65 ∷ 66 ∷ [])) (orderPlace 1)) ∙ h in
+      let z : _≡_ {A = ℕ} 0 1 = cc in
+      omega arith
 
--- what meets the contract of `Sought::number`: an empty leaf is told neither as one that is not there nor as one that has text
+  pub no-byte-in-segment : (t : Lent) (p : Place) (start : ℕ) → f t p ≡ At start 0 → ⊥
+  no-byte-in-segment t p start h =
+      let some = finds-in-segment-exactly t p (At start 0) .0 (sym h ∙ meets t p) .1 .4 in omega (arith, some)
+
+  -- where the rows have the numbers of the segments that name them, each is found
+  pub in-its-segment : (f (twoOrders 1 2) (orderPlace 1) ≡ At 0 1) × (f (twoOrders 1 2) (orderPlace 2) ≡ At 1 1)
+  unfolding soughtBy soughtFrom fits foundOf numbersOf orderPlace isNamed countsFit same
+  in-its-segment = (meets (twoOrders 1 2) (orderPlace 1), meets (twoOrders 1 2) (orderPlace 2))
+
+-- what meets the contract of `Sought::number`: the three answers have three numbers
 module _ (f : Sought → ℕ) (meets : (s : Sought) → f s ≡ soughtNumber s) where
-  pub empty-told-apart : (f Empty ≡ f NotThere → ⊥) × (f Empty ≡ f (At 0 1) → ⊥)
+  pub told-apart : (start n : ℕ) → (f Empty ≡ f NotThere → ⊥) × (f Empty ≡ f (At start n) → ⊥) × (f (At start n) ≡ f NotThere → ⊥)
   unfolding soughtNumber
-  empty-told-apart = (
+  told-apart start n = (
     λ e. let z : _≡_ {A = ℕ} 2 0 = sym (meets Empty) ∙ e ∙ meets NotThere in omega arith,
-    λ e. let z : _≡_ {A = ℕ} 2 1 = sym (meets Empty) ∙ e ∙ meets (At 0 1) in omega arith,
+    λ e. let z : _≡_ {A = ℕ} 2 1 = sym (meets Empty) ∙ e ∙ meets (At start n) in omega arith,
+    λ e. let z : _≡_ {A = ℕ} 1 0 = sym (meets (At start n)) ∙ e ∙ meets NotThere in omega arith,
   )
 
 -- what meets the contract of `leaf_text`: equal bytes from elsewhere do not, whatever the table is
@@ -134,9 +147,17 @@ module _ (card : Card) (segments leaves : List ℕ) (text : RefT (List ℕ)) (p 
     pub another-place : (b : ℕ) → ptr r .1 ≡ b + ptr text .1 → (b ≡ start → ⊥) → ⊥
     another-place b lies other = other (at-no-other r text start n found b lies)
 
-  -- a leaf that was sent empty gives no byte, and from the text area: not the substitute
-  pub substitute-for-empty : soughtIn (lent card segments leaves (now text)) p ≡ Empty → (wholeOf r ≡ partOf text 0 0 → ⊥) → ⊥
-  substitute-for-empty empty other = other (meets ∙ empty-part text substitute empty)
+  -- a leaf that was sent empty gives no byte, at the front of the text area and nowhere else
+  module _ (empty : soughtIn (lent card segments leaves (now text)) p ≡ Empty) where
+    none-of-text : wholeOf r ≡ partOf text 0 0
+    none-of-text = meets ∙ empty-part text substitute empty
+
+    pub empty-elsewhere : (wholeOf r ≡ partOf text 0 0 → ⊥) → ⊥
+    empty-elsewhere other = other none-of-text
+
+    -- so not the substitute, which lies in another block
+    pub substitute-for-empty : (ptr substitute .0 ≡ ptr text .0 → ⊥) → wholeOf r ≡ wholeOf substitute → ⊥
+    substitute-for-empty apart it = apart (ap (λ (q : Part). q .block) (sym it) ∙ in-its-block r text 0 0 none-of-text)
 
   -- where no leaf is there, the substitute itself comes back, not a text like it
   pub like-the-substitute : soughtIn (lent card segments leaves (now text)) p ≡ NotThere → (wholeOf r ≡ wholeOf substitute → ⊥) → ⊥
@@ -188,7 +209,7 @@ module _ (f : Lent → ℕ → Lent → ℕ → Bool) (meets : (t : Lent) (row :
   unfolding sameOrder isOrder sameTexts soughtBy soughtFrom fits foundOf numbersOf orderPlace countsFit same
   different-bytes h = true≢false (sym h ∙ meets (table 1 1 (row 0 1 []) (65 ∷ [])) 1 (table 1 1 (row 0 1 []) (66 ∷ [])) 1)
 
-  -- two orders whose numbers were sent empty are not the same
+  -- two twoOrders whose numbers were sent empty are not the same
   pub both-empty : f (table 1 1 (row 0 0 []) (65 ∷ [])) 1 (table 1 1 (row 0 0 []) (65 ∷ [])) 1 ≡ true → ⊥
   unfolding sameOrder isOrder sameTexts soughtBy soughtFrom fits foundOf numbersOf orderPlace countsFit same
   both-empty h = true≢false (sym h ∙ meets (table 1 1 (row 0 0 []) (65 ∷ [])) 1 (table 1 1 (row 0 0 []) (65 ∷ [])) 1)

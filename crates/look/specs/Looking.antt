@@ -26,13 +26,13 @@ abbrev pub leafFits : Lent → Place → ℕ → Bool
 leafFits t p i = fits (t .leafRows) (t .card .text) p i
 
 -- whether leaf row i, counted from 0, is one of so many from a first leaf on, which counts from 1 (T2): a first leaf of 0 is none
-abbrev pub isAmong : (first count : ℕ) → ℕ → Bool
-isAmong first count i = leb 1 first && leb first (suc i) && ltb (suc i) (first + count)
+abbrev pub inRun : (first count : ℕ) → ℕ → Bool
+inRun first count i = leb 1 first && leb first (suc i) && ltb (suc i) (first + count)
 
 -- whether it is one of those that segment row s, counted from 1, names by its first leaf and its leaf count (F4); only a counted row names any
 unfoldable pub isNamed : Lent → ℕ → ℕ → Bool
 isNamed t s i =
-    leb 1 s && leb s (t .card .segments) && isAmong (firstIn (t .segmentRows) (s - 1)) (countIn (t .segmentRows) (s - 1)) i
+    leb 1 s && leb s (t .card .segments) && inRun (firstIn (t .segmentRows) (s - 1)) (countIn (t .segmentRows) (s - 1)) i
 
 -- whether leaf row i fits and is one of those that its place's segment row names
 abbrev pub namedFits : Lent → Place → ℕ → Bool

@@ -11,7 +11,7 @@ ghost use Rattle.table.specs.Lent.{lent};
 ghost use Rattle.table.specs.Rows.{leafRowSize, placeIn};
 ghost use Rattle.look.specs.Looking.{numbersOf, fits, soughtNumber};
 ghost use Rattle.look.specs.Matches.{lookedUp};
-ghost use Rattle.look.specs.inner.Searching.{foundOf, soughtFrom, soughtIn, soughtInSegment, AsksFor};
+ghost use Rattle.look.specs.inner.Searching.{foundOf, soughtFrom, soughtIn, soughtInSegment, AsksFirst};
 
 // The place of a leaf (S5): the number of its segment's row, and the four numbers that tell it from the other leaves of the segment.
 pub struct Place {
@@ -56,7 +56,7 @@ pub fn find_leaf(
     ensures { λ r. ⌜ r ≡ soughtIn (lent card (now (segments .entry)) (now (leaves .entry)) (now (text .entry))) place ⌝ }
 {
     if rows::counts_fit(card, segments.len(), leaves.len(), text.len()) {
-        let asked = Asked {
+        let asked = AskedFirst {
             column: rows::SEGMENT,
             number: place.segment,
         };
@@ -66,7 +66,8 @@ pub fn find_leaf(
 }
 
 // The same among the counted leaf rows that the segment row of the place names (F4): of every table that some message reads to, the same answer
-// (`look/proofs/SameAnswer.antt`), found in as many steps as the segment has leaves. Not there, too, where the place names no counted segment row.
+// (`look/proofs/SameAnswer.antt`), found in at most as many steps as the segment has leaves. Not there, too, where the place names no counted
+// segment row, or that row's first leaf is 0.
 pub fn find_leaf_in_segment(
     card: Card,
     segments: &[rows::Entry],
@@ -93,7 +94,7 @@ pub fn find_leaf_in_segment(
     }
     let from = first - 1;
     let to = lesser(from + rows::wide(segments[at + rows::COUNT]), card.leaves);
-    let asked = Asked {
+    let asked = AskedFirst {
         column: rows::FIELD,
         number: place.field,
     };
@@ -123,7 +124,7 @@ pub fn leaf_text<'a>(
 }
 
 // The number of a place that a row is asked for first, and its column: that which tells most rows apart.
-struct Asked {
+struct AskedFirst {
     column: usize,
     number: rows::Entry,
 }
@@ -135,9 +136,9 @@ fn first_leaf(
     to: usize,
     bytes: usize,
     place: Place,
-    asked: Asked,
+    asked: AskedFirst,
 ) -> Sought
-    requires { ⌜ (to * leafRowSize ≤ length (now leaves)) × AsksFor asked place ⌝ }
+    requires { ⌜ (to * leafRowSize ≤ length (now leaves)) × AsksFirst asked place ⌝ }
     ensures { λ r. ⌜ r ≡ soughtFrom (fits (now (leaves .entry)) bytes place) (now (leaves .entry)) from (to - from) ⌝ }
 {
     let mut next = from;
@@ -177,8 +178,8 @@ fn lesser(one: usize, other: usize) -> usize
 }
 
 // Whether a leaf row, counted from 0, is that of a place.
-fn is_at(leaves: &[rows::Entry], row: usize, place: Place, asked: Asked) -> bool
-    requires { ⌜ ((row + 1) * leafRowSize ≤ length (now leaves)) × AsksFor asked place ⌝ }
+fn is_at(leaves: &[rows::Entry], row: usize, place: Place, asked: AskedFirst) -> bool
+    requires { ⌜ ((row + 1) * leafRowSize ≤ length (now leaves)) × AsksFirst asked place ⌝ }
     ensures { λ r. ⌜ r ≡ same (placeIn (now (leaves .entry)) row) (numbersOf place) ⌝ }
 {
     let at = row * rows::LEAF_ROW;

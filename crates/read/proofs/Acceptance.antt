@@ -26,10 +26,10 @@ use Rattle.order.proofs.Seven.{all-seven, context-or-never, grammars}
 use Rattle.order.proofs.Misplaced.{derived-unless-misplaced}
 use Rattle.order.proofs.OneTree.{one-derivation}
 use Rattle.table.specs.Rows.{Table, kindsOf, contextIn, allLeaves, tableOf}
-use Rattle.table.specs.Reading.{Room, Outcome, refused, accepted, refuseIf, short, judged, ofMessage, reading}
+use Rattle.table.specs.Reading.{roomOf, Room, Outcome, refused, accepted, refuseIf, short, judged, ofMessage, reading}
 use Rattle.table.proofs.Accepting.{Known, Judged, judged-accepted, Accepted, accepting, refuse-passed}
 use Rattle.read.specs.declared.Answer.{Answer}
-use Rattle.read.specs.Answering.{answerOf, roomOf, Gives, ReadAs}
+use Rattle.read.specs.Answering.{answerOf, Gives, ReadAs}
 use Rattle.read.specs.Sound.{segmentsIn, SoundLines, SoundMessage}
 use Rattle.read.specs.Acceptance.{Read}
 use Rattle.read.proofs.Deciding.{message-judged}

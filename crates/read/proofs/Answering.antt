@@ -7,12 +7,12 @@ use Rattle.form.specs.declared.limits.Limits.{Limits}
 use Rattle.order.specs.inner.Levels.{levelIn, LevelsBelow}
 use Rattle.table.specs.declared.Card.{Card}
 use Rattle.table.specs.Rows.{Table, tableOf}
-use Rattle.table.specs.Reading.{Outcome, refused, accepted, reading}
+use Rattle.table.specs.Reading.{roomOf, Outcome, refused, accepted, reading}
 use Rattle.table.proofs.Accepting.{accepting}
 use Rattle.table.proofs.Room.{roomy-text, roomy-segments, roomy-leaves}
 use Rattle.read.specs.declared.Answer.{Answer}
 use Rattle.read.specs.declared.decide.Decision.{Decision}
-use Rattle.read.specs.Answering.{Gives, ReadAs, answerOf, roomOf, textPut, segmentsPut, leavesPut}
+use Rattle.read.specs.Answering.{Gives, ReadAs, answerOf, textPut, segmentsPut, leavesPut}
 use Rattle.read.specs.inner.Deciding.{DecidesAs}
 use Rattle.read.specs.inner.Filling.{tableIn, Prepared, Filled}
 use Rattle.read.proofs.Deciding.{decided-refuses, decided-accepts}

@@ -9,6 +9,7 @@ use native.Mathlib.Omega.{arith}
 use lib.Dec.{eqb}
 use lib.ListN.{drop, getD}
 use borrow.Author.Tests.{eqb-false, le-leb}
+use Rattle.laws.proofs.Cases.{at-least-one}
 use Rattle.laws.proofs.Tests.{Tested, passed, failed, tested, and-both}
 use Rattle.form.specs.declared.limits.Limits.{Limits}
 use Rattle.form.specs.declared.separators.Separators.{Separators}
@@ -21,10 +22,10 @@ use Rattle.order.specs.inner.Place.{misplaced}
 use Rattle.order.proofs.Misplaced.{misplaced-means}
 use Rattle.table.specs.Leaves.{split, contextOfHeader}
 use Rattle.table.specs.Rows.{Table, kindsOf, contextIn}
-use Rattle.table.specs.Reading.{Outcome, refused, accepted, refuseIf, refuseAt, short, judged, reading}
+use Rattle.table.specs.Reading.{roomOf, Outcome, refused, accepted, refuseIf, refuseAt, short, judged, reading}
 use Rattle.table.proofs.Accepting.{accepting, refuse-passed}
 use Rattle.read.specs.declared.Answer.{Answer}
-use Rattle.read.specs.Answering.{noCard, answerOf, roomOf, Gives, ReadAs}
+use Rattle.read.specs.Answering.{noCard, answerOf, Gives, ReadAs}
 use Rattle.read.specs.Acceptance.{Read}
 use Rattle.read.specs.Sound.{segmentsIn, SoundLines}
 use Rattle.read.proofs.Acceptance.{accepted-read, number-accepted, sound-lines-judged}
@@ -76,12 +77,8 @@ unfolding contextIn contextOfHeader isContext
 named-context ps segs h =
     let c = contextIn ps segs in
     let most = context-within (getD (split (ps .field) (drop 7 (getD segs 0 []))) 4 []) in
-    let some : 1 ≤ c = not-zero c (eqb-false c 0 h) in
+    let some : 1 ≤ c = at-least-one c (eqb-false c 0 h) in
     and-both (le-leb 1 c some) (le-leb c 7 most)
-  where
-    not-zero : (c : ℕ) → (c ≡ 0 → ⊥) → 1 ≤ c
-    not-zero zero g = absurd (g refl)
-    not-zero (suc c) g = omega arith
 
 -- joined segments that are refused with 10 are so at the first that may not stand where it stands
 module _ (L : Limits) (levels : ℕ → ℕ → ℕ) (ps : Separators) (segs : List (List ℕ)) (p : ℕ) where

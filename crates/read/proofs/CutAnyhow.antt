@@ -23,11 +23,11 @@ use Rattle.line.specs.Joining.{letterA, addendum, joined}
 use Rattle.line.proofs.FirstLine.{FirstBegins, walk-begins}
 use Rattle.line.proofs.Walking.{Low, walk-lows}
 use Rattle.table.specs.inner.Filed.{headerBytes}
-use Rattle.table.specs.Reading.{Room, Outcome, refuseIf, short, judged, reading}
+use Rattle.table.specs.Reading.{roomOf, Room, Outcome, refuseIf, short, judged, reading}
 use Rattle.table.proofs.Filing.{joined-header}
 use Rattle.table.proofs.HeaderBytes.{fromBytes, header-bytes, header-text, header-clear, bytes-sound}
 use Rattle.read.specs.declared.Answer.{Answer}
-use Rattle.read.specs.Answering.{roomOf, Gives, ReadAs}
+use Rattle.read.specs.Answering.{Gives, ReadAs}
 use Rattle.read.specs.Sound.{segmentsIn}
 use Rattle.read.specs.Sound.{SoundLines}
 use Rattle.read.proofs.Acceptance.{sound-lines-judged}

@@ -6,6 +6,7 @@ use mathlib.Core.Path.{_≡_, sym, ap, subst}
 use Prim.Native.Nat.{ℕ, _<_}
 use native.Mathlib.Omega.{arith}
 use lib.ListN.{length}
+use Rattle.table.specs.Reading.{roomOf}
 use Rattle.form.specs.declared.limits.Limits.{Limits}
 use Rattle.form.specs.declared.separators.Separators.{Separators}
 use Rattle.table.specs.Rows.{tableOf, RowOf}
@@ -13,7 +14,7 @@ use Rattle.table.proofs.Room.{roomy-segments}
 use Rattle.table.proofs.SegmentColumns.{table-rows, length-table-rows, front-row}
 use Rattle.read.specs.declared.Answer.{Answer}
 use Rattle.read.specs.Acceptance.{Read}
-use Rattle.read.specs.Answering.{answerOf, segmentsPut, roomOf}
+use Rattle.read.specs.Answering.{answerOf, segmentsPut}
 use Rattle.read.specs.Sound.{segmentsIn}
 
 -- an accepted call leaves the row of each segment at its place

@@ -15,12 +15,12 @@ use Rattle.order.specs.Owners.{level}
 use Rattle.table.specs.declared.Card.{Card}
 use Rattle.table.specs.Rows.{segmentRowSize, leafRowSize, ownerIn, Table}
 use Rattle.table.specs.inner.Columns.{segmentIn}
-use Rattle.table.specs.Reading.{Room, Outcome, refused, accepted, short, reading, stated}
+use Rattle.table.specs.Reading.{roomOf, Room, Outcome, refused, accepted, short, reading, stated}
 use Rattle.table.specs.Examples.{Example, Says, refuses, files, says, read, filed, examples, k1, k6, k10}
 use Rattle.table.proofs.Accepting.{refuse-passed}
 use Rattle.table.proofs.Examples.{examples-hold}
 use Rattle.read.specs.declared.Answer.{Answer}
-use Rattle.read.specs.Answering.{answerOf, segmentsPut, leavesPut, roomOf, Gives, ReadAs}
+use Rattle.read.specs.Answering.{answerOf, segmentsPut, leavesPut, Gives, ReadAs}
 use Rattle.table.proofs.Room.{front-at, roomy-segments, roomy-leaves}
 
 -- what an example says of the outcome

@@ -7,9 +7,9 @@ use Rattle.form.specs.declared.separators.Separators.{Separators}
 use Rattle.order.specs.Grammar.{Derives}
 use Rattle.order.specs.Contexts.{grammar}
 use Rattle.table.specs.Rows.{kindsOf, contextIn, tableOf}
-use Rattle.table.specs.Reading.{accepted}
+use Rattle.table.specs.Reading.{roomOf, accepted}
 use Rattle.read.specs.declared.Answer.{Answer}
-use Rattle.read.specs.Answering.{roomOf, Gives}
+use Rattle.read.specs.Answering.{Gives}
 use Rattle.read.specs.Sound.{segmentsIn, SoundMessage}
 
 -- of a message, its separators ps, the answer, and the buffers before and after: the message is sound, the grammar of its context derives

@@ -3,11 +3,10 @@
 use mathlib.Core.List.{List, []}
 use mathlib.Core.Path.{_≡_}
 use Prim.Native.Nat.{ℕ}
-use lib.ListN.{length}
 use lib.Seq.{sets}
 use Rattle.form.specs.declared.limits.Limits.{Limits}
 use Rattle.table.specs.declared.Card.{Card}
-use Rattle.table.specs.Reading.{Room, Outcome, refused, accepted, reading}
+use Rattle.table.specs.Reading.{roomOf, Outcome, refused, accepted, reading}
 use Rattle.read.specs.declared.Answer.{Answer}
 
 -- the card of a refused call (N3)
@@ -31,10 +30,6 @@ segmentsPut (accepted t) = t .segmentRows
 unfoldable pub leavesPut : Outcome → List ℕ
 leavesPut (refused n p) = []
 leavesPut (accepted t) = t .leafRows
-
--- how long three lent buffers are
-abbrev pub roomOf : List ℕ → List ℕ → List ℕ → Room
-roomOf text segments leaves = record { text = length text; segmentRows = length segments; leafRows = length leaves }
 
 -- an outcome, answered and put into the buffers: entries past the counted ones are as they were (T7)
 pub record Gives (o : Outcome) (text segments leaves : List ℕ) (r : Answer) (text′ segments′ leaves′ : List ℕ) : Type 0 where

@@ -38,6 +38,7 @@ fn put_sought(sought: Sought) {
     end();
 }
 
+// Start and length.
 fn put_pair(start: usize, length: usize) {
     put(start);
     put(length);

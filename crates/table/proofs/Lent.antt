@@ -12,7 +12,7 @@ use Rattle.laws.proofs.Cases.{less-or-not}
 use Rattle.laws.proofs.Tests.{and-first, and-second, and-fails-second}
 use Rattle.form.specs.declared.limits.Limits.{Limits}
 use Rattle.table.specs.declared.Card.{Card}
-use Rattle.table.specs.Rows.{Table, segmentRowSize, leafRowSize}
+use Rattle.table.specs.Rows.{segmentRowSize, leafRowSize}
 use Rattle.table.specs.Lent.{Lent, withinLimits, countsFit, withinBuffers, counted, SameCounted}
 
 -- a count of leaves against so many numbers, by division

@@ -1,5 +1,5 @@
--- Each leaf row of a table is one of those that its segment's row names (T2, T3): it stands from the segment's first leaf on, and before as many
--- leaves are passed as the segment has.
+-- Each leaf row of a table is one of those that its segment's row names (T2, T3): it stands at the segment's first leaf or behind it, and before
+-- the row behind the segment's last.
 -- Assumes nothing.
 use mathlib.Core.List.{List, [], _∷_, _++_}
 use mathlib.Core.Logic.{_⊎_, inl, inr}
@@ -14,7 +14,7 @@ use Rattle.laws.proofs.Cases.{less-or-not}
 use Rattle.laws.proofs.Every.{all-at}
 use Rattle.laws.proofs.Tables.{getD-values-zero}
 use Rattle.form.specs.declared.separators.Separators.{Separators}
-use Rattle.table.specs.Leaves.{Leaf, messageLeaves}
+use Rattle.table.specs.Leaves.{Leaf}
 use Rattle.table.specs.Rows.{Table, firstIn, countIn, placeIn, allLeaves, tableOf}
 use Rattle.table.specs.inner.Back.{leafAt, leavesOf}
 use Rattle.table.specs.inner.BySegment.{segmentOf}
@@ -27,7 +27,7 @@ abbrev noLeaf : Leaf
 noLeaf = record { place = []; text = [] }
 
 -- where leaf i of groups of leaves stands, the first group in segment n: in which group, counted from 0, and that it is one of its leaves
-record Standing (n : ℕ) (groups : List (List Leaf)) (i : ℕ) : Type 0 where
+record InGroup (n : ℕ) (groups : List (List Leaf)) (i : ℕ) : Type 0 where
   pub which : ℕ
   pub among : which < length groups
   pub segment : segmentOf (getD (concat groups) i noLeaf) ≡ n + which
@@ -35,7 +35,7 @@ record Standing (n : ℕ) (groups : List (List Leaf)) (i : ℕ) : Type 0 where
   pub to : i < length (concat (take which groups)) + length (getD groups which [])
 
 -- in the first group, or in one behind it
-stands-first : {n : ℕ} (ls : List Leaf) {groups : List (List Leaf)} {i : ℕ} → All (InSegment n) ls → i < length ls → Standing n (ls ∷ groups) i
+stands-first : {n : ℕ} (ls : List Leaf) {groups : List (List Leaf)} {i : ℕ} → All (InSegment n) ls → i < length ls → InGroup n (ls ∷ groups) i
 unfolding concat
 stands-first ls {groups} {i} w h =
     record {
@@ -46,8 +46,8 @@ stands-first ls {groups} {i} w h =
       to = omega (arith, h);
     }
 
-stands-later : {n : ℕ} (ls : List Leaf) {groups : List (List Leaf)} {i : ℕ} → length ls ≤ i → Standing (suc n) groups (i - length ls)
-    → Standing n (ls ∷ groups) i
+stands-later : {n : ℕ} (ls : List Leaf) {groups : List (List Leaf)} {i : ℕ} → length ls ≤ i → InGroup (suc n) groups (i - length ls)
+    → InGroup n (ls ∷ groups) i
 unfolding concat
 stands-later ls {groups} {i} h w =
     record {
@@ -62,13 +62,13 @@ stands-later ls {groups} {i} h w =
       to = omega (arith, h, w .to, length-append ls (concat (take (w .which) groups)));
     }
 
-stands : {n : ℕ} {groups : List (List Leaf)} → Groups n groups → (i : ℕ) → i < length (concat groups) → Standing n groups i
+stands : {n : ℕ} {groups : List (List Leaf)} → Groups n groups → (i : ℕ) → i < length (concat groups) → InGroup n groups i
 unfolding concat
 stands {n} done i h = absurd (omega (arith, h))
 stands {n} (group {l = l} {ls = ls} {groups = groups} w v) i h = by (less-or-not i (length (l ∷ ls))) (stands v (i - length (l ∷ ls)))
   where
-    by : (i < length (l ∷ ls)) ⊎ (length (l ∷ ls) ≤ i) → (i - length (l ∷ ls) < length (concat groups) → Standing (suc n) groups (i - length (l ∷ ls)))
-        → Standing n ((l ∷ ls) ∷ groups) i
+    by : (i < length (l ∷ ls)) ⊎ (length (l ∷ ls) ≤ i) → (i - length (l ∷ ls) < length (concat groups) → InGroup (suc n) groups (i - length (l ∷ ls)))
+        → InGroup n ((l ∷ ls) ∷ groups) i
     by (inl early) later = stands-first (l ∷ ls) w early
     by (inr late) later = stands-later (l ∷ ls) late (later (omega (arith, h, late, length-append (l ∷ ls) (concat groups))))
 
@@ -82,18 +82,18 @@ pub record Named (t : Table) (s i : ℕ) : Type 0 where
   pub to : suc i < firstIn (t .segmentRows) row + countIn (t .segmentRows) row
 
 module _ (levels : ℕ → ℕ → ℕ) (ps : Separators) (segs : List (List ℕ)) where
-  abbrev filed : Table
-  filed = tableOf levels ps segs
+  abbrev here : Table
+  here = tableOf levels ps segs
 
   -- the place of a row is that of its leaf
-  place-of : (i : ℕ) → i < length (allLeaves ps segs) → placeIn (filed .leafRows) i ≡ getD (allLeaves ps segs) i noLeaf .place
+  place-of : (i : ℕ) → i < length (allLeaves ps segs) → placeIn (here .leafRows) i ≡ getD (allLeaves ps segs) i noLeaf .place
   unfolding tableOf leavesOf leafAt
   place-of i h =
       ap (λ (l : Leaf). l .place)
-      (sym (getD-values-zero (leafAt (filed .leafRows) (filed .text)) (length (allLeaves ps segs)) i noLeaf h)
+      (sym (getD-values-zero (leafAt (here .leafRows) (here .text)) (length (allLeaves ps segs)) i noLeaf h)
       ∙ ap (λ (ls : List Leaf). getD ls i noLeaf) (leavesOf-table levels ps segs))
 
-  pub own-leaf : (i : ℕ) → i < filed .card .leaves → Named filed (getD (placeIn (filed .leafRows) i) 0 0) i
+  pub own-leaf : (i : ℕ) → i < here .card .leaves → Named here (getD (placeIn (here .leafRows) i) 0 0) i
   unfolding tableOf allLeaves segmentOf
   own-leaf i h =
       let w = stands (message-grouped ps segs) i h in

@@ -22,6 +22,10 @@ pub record Room : Type 0 where
   pub segmentRows : ℕ
   pub leafRows : ℕ
 
+-- that of three lent buffers
+abbrev pub roomOf : (text segments leaves : List ℕ) → Room
+roomOf text segments leaves = record { text = length text; segmentRows = length segments; leafRows = length leaves }
+
 -- what reading comes to: a refusal with its number and its place, or the table
 pub data Outcome : Type 0 where
   refused : (number place : ℕ) → Outcome

@@ -19,7 +19,7 @@ pub const FIRST: usize = 2;
 
 pub const COUNT: usize = 3;
 
-// A leaf row has seven (T3): these, in this order.
+// A leaf row has seven numbers (T3), in the order of the names below.
 pub const LEAF_ROW: usize = 7;
 
 pub const SEGMENT: usize = 0;

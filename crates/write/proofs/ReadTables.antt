@@ -13,7 +13,7 @@ use Rattle.laws.proofs.Tests.{and-second}
 use Rattle.form.specs.declared.limits.Limits.{Limits}
 use Rattle.form.specs.Limits.{Lawful}
 use Rattle.table.specs.Rows.{Table, segmentRowSize}
-use Rattle.table.specs.Reading.{Room, accepted, reading, stated}
+use Rattle.table.specs.Reading.{roomOf, accepted, reading, stated}
 use Rattle.table.specs.Lent.{Lent, withinLimits, counted, lent}
 use Rattle.table.proofs.Accepting.{Accepted, accepting}
 use Rattle.table.proofs.Room.{roomy-text, roomy-segments, roomy-leaves}
@@ -26,18 +26,14 @@ use Rattle.write.proofs.RowByRow.{row-by-row}
 use Rattle.write.proofs.LocalTables.{stated-roomy, accepted-local}
 use Rattle.write.proofs.LentTables.{Within, within-buffers, local-within, is-table}
 
--- how long three buffers are
-abbrev roomIn : (text segments leaves : List ℕ) → Room
-roomIn text segments leaves = record { text = length text; segmentRows = length segments; leafRows = length leaves }
-
 -- what is stored at the front is taken from there
 front-taken : (buffer front : List ℕ) (n : ℕ) → length front ≡ n → length front ≤ length buffer → take n (sets buffer 0 front) ≡ front
 front-taken buffer front n e fits = ap (take n) (sets-eq front buffer 0 (omega arith)) ∙ take-at front (drop (0 + length front) buffer) n e
 
 module _ (L : Limits) (lawful : Lawful L) (levels : ℕ → ℕ → ℕ) (message text segments leaves : List ℕ) (t : Table)
-    (read : reading L levels (roomIn text segments leaves) message ≡ accepted t) where
-  pub passed : Accepted L levels (roomIn text segments leaves) message t
-  passed = accepting L levels (roomIn text segments leaves) message t .0 read
+    (read : reading L levels (roomOf text segments leaves) message ≡ accepted t) where
+  pub accepted-so : Accepted L levels (roomOf text segments leaves) message t
+  accepted-so = accepting L levels (roomOf text segments leaves) message t .0 read
 
   -- buffers of the stated sizes would do
   to-table : ReadTo L levels t
@@ -45,12 +41,12 @@ module _ (L : Limits) (lawful : Lawful L) (levels : ℕ → ℕ → ℕ) (messag
     message,
     accepting L levels (stated L) message t .1
         (record {
-          separators = passed .separators;
+          separators = accepted-so .separators;
           roomy = stated-roomy L;
-          fits = passed .fits;
-          header = passed .header;
-          no-fault = passed .no-fault;
-          segments = passed .segments;
+          fits = accepted-so .fits;
+          header = accepted-so .header;
+          no-fault = accepted-so .no-fault;
+          segments = accepted-so .segments;
         }),
   )
 
@@ -58,13 +54,13 @@ module _ (L : Limits) (lawful : Lawful L) (levels : ℕ → ℕ → ℕ) (messag
   sized = row-by-row L lawful levels t .0 (reads-back L lawful levels t .1 to-table) .0
 
   pub few-segments : t .card .segments ≤ L .segments
-  few-segments = accepted-local lawful passed .few .segments
+  few-segments = accepted-local lawful accepted-so .few .segments
 
   pub segments-fit : length (t .segmentRows) ≤ length segments
-  segments-fit = omega (arith, sized .segmentRows, few-segments, roomy-segments L (roomIn text segments leaves) (passed .roomy))
+  segments-fit = omega (arith, sized .segmentRows, few-segments, roomy-segments L (roomOf text segments leaves) (accepted-so .roomy))
 
   leaves-fit : length (t .leafRows) ≤ length leaves
-  leaves-fit = omega (arith, sized .leafRows, accepted-local lawful passed .few .leaves, roomy-leaves L (roomIn text segments leaves) (passed .roomy))
+  leaves-fit = omega (arith, sized .leafRows, accepted-local lawful accepted-so .few .leaves, roomy-leaves L (roomOf text segments leaves) (accepted-so .roomy))
 
   text-fits : length (t .text) ≤ length text
   unfolding withinLimits
@@ -74,21 +70,21 @@ module _ (L : Limits) (lawful : Lawful L) (levels : ℕ → ℕ → ℕ) (messag
         sized .text,
         leb-true (t .card .text) (L .bytes)
             (and-second (leb (t .card .segments) (L .segments) && leb (t .card .leaves) (L .leaves)) (leb (t .card .text) (L .bytes))
-            (local-within L lawful levels t (accepted-local lawful passed))),
-        roomy-text L (roomIn text segments leaves) (passed .roomy),
+            (local-within L lawful levels t (accepted-local lawful accepted-so))),
+        roomy-text L (roomOf text segments leaves) (accepted-so .roomy),
       )
 
   -- the table as it is lent to a lookup or to the writer
-  abbrev pub filed : Lent
-  filed = lent (t .card) (sets segments 0 (t .segmentRows)) (sets leaves 0 (t .leafRows)) (sets text 0 (t .text))
+  abbrev pub tableLeft : Lent
+  tableLeft = lent (t .card) (sets segments 0 (t .segmentRows)) (sets leaves 0 (t .leafRows)) (sets text 0 (t .text))
 
-  pub filed-counted : counted filed ≡ t
+  pub filed-counted : counted tableLeft ≡ t
   unfolding counted
   filed-counted =
-      same-parts (counted filed) t refl (front-taken segments (t .segmentRows) (t .card .segments * segmentRowSize) (sized .segmentRows) segments-fit)
+      same-parts (counted tableLeft) t refl (front-taken segments (t .segmentRows) (t .card .segments * segmentRowSize) (sized .segmentRows) segments-fit)
       (front-taken leaves (t .leafRows) _ (sized .leafRows) leaves-fit) (front-taken text (t .text) (t .card .text) (sized .text) text-fits)
 
-  pub filed-within : Within filed
+  pub filed-within : Within tableLeft
   filed-within =
       record {
         segmentRows = omega (arith, sized .segmentRows, segments-fit, length-sets segments 0 (t .segmentRows));
@@ -96,9 +92,9 @@ module _ (L : Limits) (lawful : Lawful L) (levels : ℕ → ℕ → ℕ) (messag
         text = omega (arith, sized .text, text-fits, length-sets text 0 (t .text));
       }
 
-  pub filed-table : isTable L levels filed ≡ true
-  filed-table = is-table L lawful levels filed .1 (within-buffers filed .1 filed-within, subst⁻¹ (ReadTo L levels) filed-counted to-table)
+  pub filed-table : isTable L levels tableLeft ≡ true
+  filed-table = is-table L lawful levels tableLeft .1 (within-buffers tableLeft .1 filed-within, subst⁻¹ (ReadTo L levels) filed-counted to-table)
 
   -- so some message reads to what was left
-  pub filed-read : ReadTo L levels (counted filed)
+  pub filed-read : ReadTo L levels (counted tableLeft)
   filed-read = subst⁻¹ (ReadTo L levels) filed-counted to-table

@@ -12,11 +12,11 @@ use Rattle.table.specs.Rows.{startIn, lengthIn}
 use Rattle.look.specs.declared.leaf.Sought.{Sought}
 use Rattle.look.specs.declared.leaf.Sought.the-variants.{At, Empty, NotThere}
 use Rattle.look.specs.declared.leaf.Place.{Place}
-use Rattle.look.specs.declared.leaf.Asked.{Asked}
+use Rattle.look.specs.declared.leaf.AskedFirst.{AskedFirst}
 use Rattle.look.specs.Looking.{numbersOf, leafFits, namedFits, segmentsFit, hasKindAndOwner, orderAt, orderPlace}
 
 -- a number that rows are asked for first is the place's own in that column
-pub record AsksFor (asked : Asked) (p : Place) : Type 0 where
+pub record AsksFirst (asked : AskedFirst) (p : Place) : Type 0 where
   pub column : asked .column < 5
   pub number : getD (numbersOf p) (asked .column) 0 ≡ asked .number
 

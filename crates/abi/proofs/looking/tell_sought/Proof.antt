@@ -1,6 +1,6 @@
 -- `abi::looking::tell_sought` meets its contract: the number of what was sought, and what goes into the answer.
 -- Assumes nothing.
-use Rattle.abi.proofs.LeafAnswers.{leaf-there, leaf-empty, leaf-not-there}
+use Rattle.abi.proofs.LeafAnswers.{leaf-with-text, leaf-empty, leaf-not-there}
 use borrow.Author.Needs.{needs}
 use Rattle.abi.proofs.looking.tell_sought.Statement.{statement}
 use Rattle.abi.proofs.looking.tell_sought.Tie as tie
@@ -40,15 +40,15 @@ returns c =
     let put = c .before .before in
     let there = put .before .before .before .before in
     let asked = there .before .before in
-    leaf-there (asked .before .before .args .answer .now) (asked .number .ensures) (there .sought .given .0 .0) (there .sought .given .0 .1 .0)
+    leaf-with-text (asked .before .before .args .answer .now) (asked .number .ensures) (there .sought .given .0 .0) (there .sought .given .0 .1 .0)
     (there .sought .given .1) (put .put-numbers .ensures)
 
 returns-2 : tie.Need-returns-2
 returns-2 c =
     let put = c .before .before in
-    let there = put .before .before .before in
-    let asked = there .before .before in
-    leaf-empty (asked .before .before .args .answer .now) (asked .number .ensures) (there .enum-told .given .1) (put .put-numbers2 .ensures)
+    let empty = put .before .before .before in
+    let asked = empty .before .before in
+    leaf-empty (asked .before .before .args .answer .now) (asked .number .ensures) (empty .enum-told .given .1) (put .put-numbers2 .ensures)
 
 returns-3 : tie.Need-returns-3
 returns-3 c =

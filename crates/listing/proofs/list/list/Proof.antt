@@ -5,8 +5,7 @@ use native.Mathlib.Omega.{arith}
 use Rattle.form.specs.Limits.{form}
 use Rattle.form.proofs.LineCount.{form-lawful}
 use Rattle.order.specs.Owners.{level}
-use Rattle.table.specs.Reading.{reading}
-use Rattle.read.specs.Answering.{roomOf}
+use Rattle.table.specs.Reading.{roomOf, reading}
 use Rattle.listing.specs.Listing.{listingSize}
 use Rattle.listing.proofs.Listed.{list-short, list-refused, list-ready, list-accepted}
 use Rattle.listing.proofs.Putting.{put-length}

@@ -4,17 +4,16 @@
 use denote.Ref.{now}
 use mathlib.Core.Bool.{true}
 use mathlib.Core.Path.{_≡_, refl, sym, _∙_}
-use Prim.Native.Nat.{ℕ, _+_, _*_, _-_, _≤_}
+use Prim.Native.Nat.{_*_, _-_, _≤_}
 use native.Mathlib.Omega.{arith}
 use lib.ListN.{length}
 use borrow.Author.Needs.{needs}
 use borrow.Author.Tests.{not-true, not-false}
 use Rattle.table.specs.Lent.{Lent, lent, withinBuffers}
-use Rattle.table.specs.Rows.{segmentRowSize, leafRowSize}
+use Rattle.table.specs.Rows.{segmentRowSize}
 use Rattle.table.proofs.Lent.{segments-within, leaves-within}
 use Rattle.look.specs.declared.leaf.Place.{Place}
 use Rattle.look.specs.Looking.{numbersOf, namedFits}
-use Rattle.look.specs.inner.Searching.{soughtFrom}
 use Rattle.look.proofs.Seeking.{sought-uncounted}
 use Rattle.look.proofs.NamedRows.{segment-zero, segment-past, none-found-first, named-found}
 use Rattle.look.proofs.leaf.find_leaf_in_segment.Statement.{statement}

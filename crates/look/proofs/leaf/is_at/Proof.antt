@@ -2,7 +2,6 @@
 -- Assumes nothing.
 use native.Mathlib.Omega.{arith}
 use Rattle.look.proofs.Seeking.{asked-differs, segment-differs, field-differs, repetition-differs, subfield-differs, subsubfield-decides}
-use borrow.Author.Needs.{needs}
 use Rattle.look.proofs.leaf.is_at.Statement.{statement}
 use Rattle.look.proofs.leaf.is_at.Tie as tie
 
@@ -115,4 +114,6 @@ returns-6 c =
 pub is-at-spec : {M : Type 1} → statement M
 is-at-spec =
     tie.close
-    (tie.spec mul-at add-if1 mul-if1 shared-slice-read-if1 returns mul-if2 shared-slice-read-if2 returns-2 add-if3 mul-if3 shared-slice-read-if3 returns-3 add-if4 mul-if4 shared-slice-read-if4 returns-4 add-if5 mul-if5 shared-slice-read-if5 returns-5 add-result mul-result shared-slice-read-result returns-6)
+    (tie.spec mul-at add-if1 mul-if1 shared-slice-read-if1 returns mul-if2 shared-slice-read-if2 returns-2 add-if3 mul-if3
+    shared-slice-read-if3 returns-3 add-if4 mul-if4 shared-slice-read-if4 returns-4 add-if5 mul-if5 shared-slice-read-if5 returns-5
+    add-result mul-result shared-slice-read-result returns-6)

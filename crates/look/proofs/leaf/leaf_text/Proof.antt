@@ -93,4 +93,5 @@ returns-3 c =
 pub leaf-text-spec : {M : Type 1} → statement M
 leaf-text-spec =
     tie.close
-    (tie.spec find-leaf-requires enum-known-start add-end sub-result part-result-start part-result-end enum-told sub-result-2 part-result-start-2 part-result-end-2 enum-told-2 returns returns-2 returns-3)
+    (tie.spec find-leaf-requires enum-known-start add-end sub-result part-result-start part-result-end enum-told sub-result-2
+    part-result-start-2 part-result-end-2 enum-told-2 returns returns-2 returns-3)

@@ -8,7 +8,7 @@ use lib.ListN.{length}
 use Rattle.table.specs.Lent.{Lent, lent}
 use Rattle.look.specs.declared.leaf.Sought.the-variants.{At}
 use Rattle.look.specs.inner.Ordering.{orderText}
-use Rattle.look.proofs.Orders.{order-within, both-there, first-empty, first-not-there, second-empty, second-not-there}
+use Rattle.look.proofs.Orders.{order-within, both-with-text, first-empty, first-not-there, second-empty, second-not-there}
 use borrow.Author.Needs.{needs}
 use Rattle.look.proofs.order.same_order.Statement.{statement}
 use Rattle.look.proofs.order.same_order.Tie as tie
@@ -110,7 +110,7 @@ returns c =
     let asked = asked-of both in
     let a = start-of asked .args in
     c .same-bytes .ensures
-    ∙ both-there (one asked) (a .row) (other asked) (a .other-row) (first .start .given .0 .0) (first .start .given .0 .1 .0)
+    ∙ both-with-text (one asked) (a .row) (other asked) (a .other-row) (first .start .given .0 .0) (first .start .given .0 .1 .0)
     (both .order .given .0 .0) (both .order .given .0 .1 .0) (found first) (other-found both)
 
 returns-2 : tie.Need-returns-2
