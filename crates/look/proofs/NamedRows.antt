@@ -7,7 +7,7 @@ use Prim.Native.Nat.{ℕ, suc, _+_, _-_, _<_, _≤_}
 use native.Mathlib.Omega.{arith}
 use borrow.Author.Tests.{le-leb, lt-leb, lt-ltb, le-ltb}
 use lib.Dec.{leb, ltb}
-use Rattle.laws.proofs.Tests.{and-fails-first, and-fails-second}
+use Rattle.laws.proofs.Tests.{Tested, passed, failed, tested, and-fails-first, and-fails-second}
 use Rattle.table.specs.Lent.{Lent, withinBuffers}
 use Rattle.table.specs.Rows.{firstIn, countIn}
 use Rattle.look.specs.declared.leaf.Place.{Place}
@@ -15,7 +15,7 @@ use Rattle.look.specs.declared.leaf.Sought.the-variants.{NotThere}
 use Rattle.look.specs.Looking.{leafFits, inRun, isNamed, namedFits}
 use Rattle.look.specs.inner.Searching.{soughtFrom, soughtInSegment}
 use Rattle.look.proofs.FirstFits.{none-found, part-searched}
-use Rattle.look.proofs.Seeking.{foundAt, sought-first, sought-searched}
+use Rattle.look.proofs.Seeking.{foundAt, sought-first, sought-searched, sought-uncounted}
 
 -- a segment row that is not counted names no leaf row
 module _ (t : Lent) (s i : ℕ) where
@@ -37,11 +37,11 @@ module _ (t : Lent) (p : Place) (fit : withinBuffers t ≡ true) where
       (λ j from to. and-fails-first (leafFits t p j) (unnamed j))
       ∙ sym (sought-searched (namedFits t p) t fit)
 
+  past-named : t .card .segments < p .segment → NotThere ≡ soughtInSegment t p
+  past-named h = none-named (λ i. past-names t (p .segment) i h)
+
   pub segment-zero : p .segment < 1 → NotThere ≡ soughtInSegment t p
   segment-zero h = none-named (λ i. zero-names t (p .segment) i h)
-
-  pub segment-past : t .card .segments < p .segment → NotThere ≡ soughtInSegment t p
-  segment-past h = none-named (λ i. past-names t (p .segment) i h)
 
   -- one in a counted segment: from its first leaf's row on, and before the row after its last leaf's or the end of the counted rows
   module _ (some : 1 ≤ p .segment) (counts : p .segment ≤ t .card .segments) where
@@ -118,3 +118,11 @@ module _ (t : Lent) (p : Place) (fit : withinBuffers t ≡ true) where
             → (to ≡ firstIn (t .segmentRows) (p .segment - 1) - 1 + countIn (t .segmentRows) (p .segment - 1)) ⊎ (to ≡ t .card .leaves)
         either (inl e) = inl (e ∙ at-end)
         either (inr e) = inr e
+
+-- a place past the counted segments has no leaf, whatever the buffers hold
+pub segment-past : (t : Lent) (p : Place) → t .card .segments < p .segment → NotThere ≡ soughtInSegment t p
+segment-past t p h = by (tested (withinBuffers t))
+  where
+    by : Tested (withinBuffers t) → NotThere ≡ soughtInSegment t p
+    by (passed e) = past-named t p e h
+    by (failed e) = sym (sought-uncounted (namedFits t p) t e)

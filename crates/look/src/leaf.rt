@@ -77,14 +77,14 @@ pub fn find_leaf_in_segment(
 ) -> Sought
     ensures { λ r. ⌜ r ≡ soughtInSegment (lent card (now (segments .entry)) (now (leaves .entry)) (now (text .entry))) place ⌝ }
 {
+    let number = rows::wide(place.segment);
+    if card.segments < number {
+        return Sought::NotThere;
+    }
     if !rows::counts_fit(card, segments.len(), leaves.len(), text.len()) {
         return Sought::NotThere;
     }
-    let number = rows::wide(place.segment);
     if number < 1 {
-        return Sought::NotThere;
-    }
-    if card.segments < number {
         return Sought::NotThere;
     }
     let at = (number - 1) * rows::SEGMENT_ROW;
