@@ -1,24 +1,25 @@
 /*
- * Sargaceu: the reader, the writer and the lookups for laboratory messages in H.PR.I.M. Santé 2.4.
+ * Sargaceu: the reader, the writer, the lookups and the numeric results of laboratory messages in H.PR.I.M. Santé 2.4.
  *
  * Every function takes any bytes, any numbers and any lengths, and returns. None allocates, none keeps anything between two calls,
  * and none touches memory but the buffers of that call, so calls may run at the same time where none writes to a buffer that another uses.
  *
  * A buffer goes in as a pointer and a count of its elements. Four things no function can test, and every caller owes them: the pointer is
  * not null, not even where the count is 0; as many elements as the count says are there; the pointer is aligned as its type asks (uint16_t
- * to 2 bytes, size_t to 8); and a buffer that is written overlaps no other buffer of the call.
+ * to 2 bytes, size_t and int64_t to 8); and a buffer that is written overlaps no other buffer of the call.
  *
  * A card is five numbers: field separator, context, counts of segments, leaves and text bytes. What `sargaceu_read` answers from
  * answer[1] on is one. Of more numbers the first five count; fewer than five, or a separator or context over 255, are taken as the card
  * that is all zero, which counts nothing.
  *
  * `answer` is where the numbers go that do not fit the return value. A refusal is answered there, too: reader and writer put its place into
- * answer[0], and zeros for the card or the counts behind it, while every other buffer stays as it was. An answer that is shorter than
- * stated gets no number at all: it stays as it was, and the call has no place then.
+ * answer[0], and zeros for the card or the counts behind it, while every other buffer stays as it was. So does sargaceu_order_values; the
+ * refusal of a single value has no place, and answer gets zeros. An answer that is shorter than stated gets no number at all: it stays as
+ * it was, and the call has no place then.
  *
  * Elements of a buffer past those that a call fills stay as they were.
  *
- * L1, N3, W4 and the like are rules of docs/RULES.md.
+ * L1, N3, W4, D2 and the like are rules of docs/RULES.md.
  */
 #ifndef SARGACEU_INCLUDED
 #define SARGACEU_INCLUDED
@@ -49,10 +50,17 @@ enum {
     SARGACEU_WRITE_ANSWER = 3,
     SARGACEU_LEAF_ANSWER = 2,
     SARGACEU_LINE_ANSWER = 2,
-    SARGACEU_WATCHER = 2
+    SARGACEU_WATCHER = 2,
+    SARGACEU_VALUE_TEXT = 17,
+    SARGACEU_VALUE_ANSWER = 2,
+    SARGACEU_TEXT_ANSWER = 1,
+    SARGACEU_ORDER_ANSWER = 2
 };
 
-/* The numbers that come back, each with its place (N1). */
+/* So many places always do for the values of an order: three buffers of as many elements are never refused with 25. Fewer may do as well. */
+enum { SARGACEU_VALUES = 256 };
+
+/* The numbers that come back, each with its place (N1). Those from 20 on are of numeric results (D3, D5, D6). */
 enum sargaceu_number {
     SARGACEU_ACCEPTED = 0,
     SARGACEU_SHORT_BUFFER = 1,   /* place 0, and no place at all where the answer itself is short */
@@ -67,7 +75,13 @@ enum sargaceu_number {
     SARGACEU_MISPLACED = 10,     /* the first such segment, or segments + 1 where the L is missing */
     SARGACEU_MANY_LEAVES = 11,   /* place 0 */
     SARGACEU_SHORT_OUTPUT = 12,  /* place 0 */
-    SARGACEU_NO_TABLE = 13       /* place 0 */
+    SARGACEU_NO_TABLE = 13,      /* place 0 */
+    SARGACEU_NOT_A_NUMBER = 20,  /* no place */
+    SARGACEU_MANY_DIGITS = 21,   /* no place */
+    SARGACEU_OUT_OF_RANGE = 22,  /* no place */
+    SARGACEU_NARROW_OUTPUT = 23, /* no place */
+    SARGACEU_NOT_AN_ORDER = 24,  /* place 0 */
+    SARGACEU_FEW_PLACES = 25     /* place 0 */
 };
 
 /* A segment row's first number (S1). */
@@ -204,6 +218,51 @@ size_t sargaceu_list(const uint8_t *message, size_t message_bytes,
                      uint16_t *segments, size_t segments_numbers,
                      uint16_t *leaves, size_t leaves_numbers,
                      uint8_t *listing, size_t listing_bytes);
+
+/*
+ * Numeric results as numbers. A value is a whole number and a count of decimals, so nothing is rounded: -.52 is -52 with 2. Where several
+ * refusals hold, the first of these comes back: from sargaceu_read_value 1, 20, 21; from sargaceu_write_value 1, 22, 23; from
+ * sargaceu_order_values 1, 13, 24, 25. Here 1 is an answer that is too short, and nothing else was looked at then.
+ */
+
+/*
+ * The value of a text of any length (D1 to D3): an optional sign, then digits, at most one point among them and a digit behind it. Returns 0,
+ * and answer gets the whole number that all the digits make, with its sign, and how many of them stand behind the point. Returns 20 where the
+ * text says no number, else 21 where it has over 15 digits, zeros in front too, and answer gets 0 and 0. An answer of under two numbers is
+ * refused with 1 before the text is looked at; it stays as it was.
+ */
+uint8_t sargaceu_read_value(const uint8_t *text, size_t text_bytes, int64_t *answer, size_t answer_numbers);
+
+/*
+ * Writes the shortest text that reads to a whole number and a count of decimals at the front of the output (D4): no plus, and no zero in front
+ * of a point, so 0 with 2 is .00 and -5 with 1 is -.5. Returns 0, and answer gets the text's bytes. Returns 22 where no text reads to the value:
+ * the whole number without its sign has over 15 digits, or there are over 15 decimals; else 23 where the output has under 17 bytes, for a short
+ * text too (D5). A refusal changes no output byte; answer gets 0. An answer of no number is refused with 1 before value and output are looked
+ * at; it stays as it was.
+ */
+uint8_t sargaceu_write_value(int64_t whole, size_t decimals,
+                             uint8_t *output, size_t output_bytes,
+                             size_t *answer, size_t answer_numbers);
+
+/*
+ * The values of an order's numeric results (D6): of all OBX rows whose owner is the OBR in row `order` and whose leaf 10.3 is NM, in row order.
+ * Returns 0; answer gets the place, which is 0, and how many there are; and the result that comes k-th among them, from 0 on, has its answer
+ * in numbers[k], wholes[k] and decimals[k]: 0, 20 or 21, the whole number and the decimals, as sargaceu_read_value answers the text of field
+ * 10.6. Where that field is not there or is several leaves, the answer is 20. Returns 13 where no message reads to the table (W4); 24 where the
+ * row is no OBR that the card counts; 25 where one of the three buffers has fewer elements than there are such results. A refusal changes none
+ * of the three; answer gets two zeros. An answer of under two numbers is refused with 1 before the table is looked at; it stays as it was.
+ *
+ * The table is tested once a call, as sargaceu_is_table does; after that only the order's own rows and leaves are looked at.
+ */
+uint8_t sargaceu_order_values(const size_t *card, size_t card_numbers,
+                              const uint16_t *segments, size_t segments_numbers,
+                              const uint16_t *leaves, size_t leaves_numbers,
+                              const uint8_t *text, size_t text_bytes,
+                              uint16_t order,
+                              uint8_t *numbers, size_t numbers_bytes,
+                              int64_t *wholes, size_t wholes_numbers,
+                              uint8_t *decimals, size_t decimals_bytes,
+                              size_t *answer, size_t answer_numbers);
 
 #ifdef __cplusplus
 }

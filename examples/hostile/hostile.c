@@ -30,6 +30,9 @@ static const struct {
     { "sargaceu_line", try_line, false },
     { "sargaceu_watch", try_watch, false },
     { "sargaceu_list", try_list, false },
+    { "sargaceu_read_value", try_read_value, false },
+    { "sargaceu_write_value", try_write_value, false },
+    { "sargaceu_order_values", try_order_values, false },
 };
 
 /* One line: the calls, how many were accepted and refused, those that found something empty, and the numbers of the refusals where they have one. */

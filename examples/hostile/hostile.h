@@ -30,7 +30,8 @@ _Noreturn void fail(const char *format, ...) __attribute__((format(printf, 1, 2)
 
 enum buffer {
     MESSAGE, TEXT, SEGMENTS, LEAVES, CARD, ANSWER, OUTPUT, LISTING, WATCHER,
-    OTHER_TEXT, OTHER_SEGMENTS, OTHER_LEAVES, OTHER_CARD, BUFFERS
+    OTHER_TEXT, OTHER_SEGMENTS, OTHER_LEAVES, OTHER_CARD,
+    VALUE_NUMBERS, VALUE_WHOLES, VALUE_DECIMALS, BUFFERS
 };
 
 void prepare_buffers(void);
@@ -51,6 +52,13 @@ struct message {
 
 void draw_sound_message(struct message *m); /* of the form, but for the limits, which it may pass */
 void draw_message(struct message *m);       /* sound, damaged, or any bytes */
+
+/* ---- numerals.c ---- */
+
+enum { NUMERAL_MOST = 64 };
+
+size_t draw_numeral(uint8_t *to); /* the text of a number mostly, and how many bytes it has: NUMERAL_MOST at most */
+int64_t draw_whole(void);         /* a whole number at some limit, or any other */
 
 /* ---- tables.c ---- */
 
@@ -73,6 +81,9 @@ bool draw_table(struct table *t);      /* such a table, or a damaged one; whethe
 uint8_t read_table(const uint8_t *message, size_t bytes, struct table *t, size_t *place); /* in buffers of ordinary memory */
 uint8_t write_table(const struct table *t, uint8_t *output, size_t *answer);              /* the same, with output enough */
 void expect_same_table(const struct table *a, const struct table *b, const char *what);
+size_t segments_there(const struct table *t); /* segment rows that are counted and lie in the buffer */
+size_t leaves_there(const struct table *t);
+uint16_t draw_order(const struct table *t);   /* the row of an order mostly */
 
 /* ---- plain.c: the same answers by plain loops ---- */
 
@@ -95,11 +106,22 @@ uint8_t plain_find_leaf_in_segment(const struct table *t, const uint16_t place[5
 size_t plain_next_row(const struct table *t, size_t after, uint16_t kind, uint16_t owner);
 bool plain_same_order(const struct table *a, uint16_t row, const struct table *b, uint16_t other_row);
 
+struct value {
+    uint8_t number; /* 0, 20 or 21 */
+    int64_t whole;
+    uint8_t decimals;
+};
+
+struct value plain_read_value(const uint8_t *text, size_t bytes);
+size_t plain_write_value(int64_t whole, size_t decimals, uint8_t text[SARGACEU_VALUE_TEXT]); /* 0 where no text reads to it */
+bool plain_is_order(const struct table *t, uint16_t row);
+size_t plain_order_values(const struct table *t, uint16_t order, struct value values[SARGACEU_VALUES]); /* of a table, and of an order in it */
+
 /* ---- the trials: each draws arguments, makes the call on both sides, and answers 0 where it was accepted ---- */
 
 enum {
-    NO = SARGACEU_NO_TABLE + 1, /* a plain no, which has no number */
-    EMPTY                       /* accepted, and what was found is empty */
+    NO = SARGACEU_FEW_PLACES + 1, /* a plain no, which has no number */
+    EMPTY                         /* accepted, and what was found is empty */
 };
 
 int try_read(void);
@@ -112,5 +134,8 @@ int try_find_leaf(void);
 int try_find_leaf_in_segment(void);
 int try_next_row(void);
 int try_same_order(void);
+int try_read_value(void);
+int try_write_value(void);
+int try_order_values(void);
 
 #endif

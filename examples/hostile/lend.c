@@ -35,14 +35,17 @@ static struct lent all[BUFFERS] = {
     [SEGMENTS] = { .name = "segments", .size = sizeof(uint16_t) },
     [LEAVES] = { .name = "leaves", .size = sizeof(uint16_t) },
     [CARD] = { .name = "card", .size = sizeof(size_t) },
-    [ANSWER] = { .name = "answer", .size = sizeof(size_t) },
+    [ANSWER] = { .name = "answer", .size = sizeof(size_t) }, /* an int64_t is as wide */
     [OUTPUT] = { .name = "output", .size = 1 },
     [LISTING] = { .name = "listing", .size = 1 },
     [WATCHER] = { .name = "watcher", .size = 1 },
     [OTHER_TEXT] = { .name = "other text", .size = 1 },
     [OTHER_SEGMENTS] = { .name = "other segments", .size = sizeof(uint16_t) },
     [OTHER_LEAVES] = { .name = "other leaves", .size = sizeof(uint16_t) },
-    [OTHER_CARD] = { .name = "other card", .size = sizeof(size_t) }
+    [OTHER_CARD] = { .name = "other card", .size = sizeof(size_t) },
+    [VALUE_NUMBERS] = { .name = "numbers", .size = 1 },
+    [VALUE_WHOLES] = { .name = "wholes", .size = sizeof(int64_t) },
+    [VALUE_DECIMALS] = { .name = "decimals", .size = 1 }
 };
 
 static void need(bool done, const char *what)

@@ -5,21 +5,10 @@
 
 static struct table one, two;
 
-/* How many rows of a table may be looked at: those that are there. */
-static size_t rows_there(size_t counted, size_t numbers, size_t row)
-{
-    return counted < numbers / row ? counted : numbers / row;
-}
-
-static size_t segments_there(const struct table *t)
-{
-    return rows_there(t->card[CARD_SEGMENTS], t->segments_numbers, SARGACEU_SEGMENT_ROW);
-}
-
 /* The place of some leaf, or one beside it, or any. */
 static void draw_place(uint16_t place[5])
 {
-    size_t leaves = rows_there(one.card[CARD_LEAVES], one.leaves_numbers, SARGACEU_LEAF_ROW);
+    size_t leaves = leaves_there(&one);
     for (int i = 0; i < 5; i++)
         place[i] = (uint16_t)wild();
     if (leaves > 0 && !one_in(12))
@@ -113,18 +102,6 @@ int try_next_row(void)
     return expected != 0 ? SARGACEU_ACCEPTED : NO;
 }
 
-/* An order's row mostly. */
-static uint16_t draw_row(const struct table *t)
-{
-    size_t rows = segments_there(t), row = one_in(8) ? wild() : below(rows + 2), orders = 0;
-    if (one_in(8))
-        return (uint16_t)row;
-    for (size_t i = 0; i < rows; i++)
-        if (t->segments[i * SARGACEU_SEGMENT_ROW] == SARGACEU_OBR && one_in(++orders))
-            row = i + 1;
-    return (uint16_t)row;
-}
-
 /* The second table is the first, or another; one of them may be damaged. */
 static void draw_pair(void)
 {
@@ -138,7 +115,7 @@ static void draw_pair(void)
 int try_same_order(void)
 {
     draw_pair();
-    uint16_t row = draw_row(&one), other_row = one_in(2) ? row : draw_row(&two);
+    uint16_t row = draw_order(&one), other_row = one_in(2) ? row : draw_order(&two);
     bool expected = plain_same_order(&one, row, &two, other_row);
     for (int side = 0; side < SIDES; side++) {
         begin_side(side);

@@ -99,6 +99,29 @@ static void draw_order_number(void)
         put_byte((uint8_t)('0' + below(4)));
 }
 
+/* Results are often of type NM (10.3) and have a number (10.6). Where a separator is a sign or a point, the number is cut by it. */
+static void draw_result(void)
+{
+    static const char *const others[] = { "", "N", "NMX", "nm", "TX" };
+    uint8_t numeral[NUMERAL_MOST];
+    split(0);
+    put_text(below(3));
+    split(0);
+    put_name(one_in(6) ? others[below(sizeof others / sizeof *others)] : "NM");
+    split(0);
+    put_text(below(4));
+    split(0);
+    split(0);
+    size_t bytes = draw_numeral(numeral);
+    for (size_t i = 0; i < bytes; i++) {
+        const uint8_t *separator = memchr(draft.separators, numeral[i], sizeof draft.separators);
+        if (separator == NULL)
+            put_byte(numeral[i]);
+        else
+            split((int)(separator - draft.separators));
+    }
+}
+
 /* ---- lines ---- */
 
 static void put_in_message(const void *bytes, size_t count)
@@ -183,6 +206,8 @@ static void draw_segment(uint8_t kind, struct measure measure)
     begin_segment(kind);
     if (kind == SARGACEU_OBR && !one_in(3))
         draw_order_number();
+    if ((kind == SARGACEU_OBX && !one_in(3)) || (kind == SARGACEU_C && one_in(4))) /* a comment that looks like a result is none */
+        draw_result();
     put_fields(below(measure.fields + 1), measure.text);
     if (kind == SARGACEU_L && measure.dense)
         for (size_t wanted = 2045 + below(6); draft.leaves < wanted;)

@@ -1,9 +1,10 @@
 /* The answers by plain loops over the whole input, each with memory of its own and no thought of speed. */
 #include "hostile.h"
 
+#include <stdio.h>
 #include <string.h>
 
-enum { CR = 13, FIRST_TEXT = 32, LINE = 219, MOST_SEGMENTS = 256, MOST_LEAVES = 2048 };
+enum { CR = 13, FIRST_TEXT = 32, LINE = 219, MOST_SEGMENTS = 256, MOST_LEAVES = 2048, MOST_DIGITS = 15 };
 
 const char *const kind_names[13] = { "", "H", "P", "AP", "AC", "OBR", "OBX", "FAC", "REG", "ACT", "ERR", "L", "C" };
 const char *const context_names[8] = { "", "ADM", "ORM", "ORA", "REG", "ERR", "ORU", "FAC" };
@@ -294,4 +295,92 @@ bool plain_same_order(const struct table *a, uint16_t row, const struct table *b
     size_t one[2], other[2];
     return order_number(a, row, one) && order_number(b, other_row, other) && one[1] == other[1] &&
            memcmp(a->text + one[0], b->text + other[0], one[1]) == 0;
+}
+
+/* ---- numeric results ---- */
+
+static size_t count_bytes(const uint8_t *text, size_t bytes, uint8_t from, uint8_t to)
+{
+    size_t count = 0;
+    for (size_t i = 0; i < bytes; i++)
+        count += text[i] >= from && text[i] <= to;
+    return count;
+}
+
+/* Behind the sign nothing stands but digits and a point at most, and the last byte is a digit. */
+struct value plain_read_value(const uint8_t *text, size_t bytes)
+{
+    const struct value none = { SARGACEU_NOT_A_NUMBER, 0, 0 }, many = { SARGACEU_MANY_DIGITS, 0, 0 };
+    bool negative = bytes > 0 && text[0] == '-';
+    if (bytes > 0 && (text[0] == '-' || text[0] == '+'))
+        text++, bytes--;
+    size_t digits = count_bytes(text, bytes, '0', '9'), points = count_bytes(text, bytes, '.', '.');
+    if (points > 1 || digits + points != bytes || bytes == 0 || text[bytes - 1] == '.')
+        return none;
+    if (digits > MOST_DIGITS)
+        return many;
+    struct value value = { SARGACEU_ACCEPTED, 0, 0 };
+    for (size_t i = 0; i < bytes; i++)
+        if (text[i] != '.')
+            value.whole = 10 * value.whole + (text[i] - '0');
+        else
+            value.decimals = (uint8_t)(bytes - i - 1);
+    if (negative)
+        value.whole = -value.whole;
+    return value;
+}
+
+/* The digits, with zeros in front where they are fewer than the decimals, and the point put among them. */
+size_t plain_write_value(int64_t whole, size_t decimals, uint8_t text[SARGACEU_VALUE_TEXT])
+{
+    char digits[32];
+    uint64_t magnitude = whole < 0 ? -(uint64_t)whole : (uint64_t)whole;
+    if (decimals > MOST_DIGITS)
+        return 0;
+    size_t count = (size_t)snprintf(digits, sizeof digits, "%0*llu", decimals == 0 ? 1 : (int)decimals, (unsigned long long)magnitude);
+    size_t front = count - decimals, bytes = 0;
+    if (count > MOST_DIGITS)
+        return 0;
+    if (whole < 0)
+        text[bytes++] = '-';
+    memcpy(text + bytes, digits, front);
+    bytes += front;
+    if (decimals > 0)
+        text[bytes++] = '.';
+    memcpy(text + bytes, digits + front, decimals);
+    return bytes + decimals;
+}
+
+bool plain_is_order(const struct table *t, uint16_t row)
+{
+    size_t card[SARGACEU_CARD];
+    card_of(t, card);
+    return row != 0 && row <= card[CARD_SEGMENTS] && t->segments[(size_t)(row - 1) * SARGACEU_SEGMENT_ROW] == SARGACEU_OBR;
+}
+
+/* Over all leaves of the table: the value is that of the only one of field 10.6. */
+static struct value result_value(const struct table *t, size_t row)
+{
+    const uint16_t *only = NULL;
+    size_t found = 0;
+    for (size_t i = 0; i < t->card[CARD_LEAVES]; i++) {
+        const uint16_t *leaf = t->leaves + i * SARGACEU_LEAF_ROW;
+        if (leaf[0] == row && leaf[1] == 6) {
+            only = leaf;
+            found++;
+        }
+    }
+    return found == 1 ? plain_read_value(t->text + only[5], only[6]) : plain_read_value(NULL, 0);
+}
+
+size_t plain_order_values(const struct table *t, uint16_t order, struct value values[SARGACEU_VALUES])
+{
+    size_t count = 0, type[2];
+    for (size_t row = 1; row <= t->card[CARD_SEGMENTS]; row++) {
+        const uint16_t *segment = t->segments + (row - 1) * SARGACEU_SEGMENT_ROW, place[5] = { (uint16_t)row, 3, 1, 1, 1 };
+        if (segment[0] == SARGACEU_OBX && segment[1] == order && plain_find_leaf(t, place, type) == SARGACEU_FOUND && type[1] == 2 &&
+            memcmp(t->text + type[0], "NM", 2) == 0)
+            values[count++] = result_value(t, row);
+    }
+    return count;
 }

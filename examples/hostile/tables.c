@@ -43,6 +43,35 @@ void expect_same_table(const struct table *a, const struct table *b, const char 
         fail("%s: another text", what);
 }
 
+/* ---- rows ---- */
+
+/* How many rows of a table may be looked at: those that are there. */
+static size_t rows_there(size_t counted, size_t numbers, size_t row)
+{
+    return counted < numbers / row ? counted : numbers / row;
+}
+
+size_t segments_there(const struct table *t)
+{
+    return rows_there(t->card[CARD_SEGMENTS], t->segments_numbers, SARGACEU_SEGMENT_ROW);
+}
+
+size_t leaves_there(const struct table *t)
+{
+    return rows_there(t->card[CARD_LEAVES], t->leaves_numbers, SARGACEU_LEAF_ROW);
+}
+
+uint16_t draw_order(const struct table *t)
+{
+    size_t rows = segments_there(t), row = one_in(8) ? wild() : below(rows + 2), orders = 0;
+    if (one_in(8))
+        return (uint16_t)row;
+    for (size_t i = 0; i < rows; i++)
+        if (t->segments[i * SARGACEU_SEGMENT_ROW] == SARGACEU_OBR && one_in(++orders))
+            row = i + 1;
+    return (uint16_t)row;
+}
+
 /* ---- drawing ---- */
 
 void draw_read_table(struct table *t)

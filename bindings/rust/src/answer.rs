@@ -14,3 +14,15 @@ pub const LINE_ANSWER: usize = 2;
 
 /// The bytes of an order watcher.
 pub const WATCHER: usize = 2;
+
+/// The numbers that the value of a text is answered by: the whole number and the decimals.
+pub const VALUE_ANSWER: usize = 2;
+
+/// The numbers that writing a value answers: the bytes of the text.
+pub const TEXT_ANSWER: usize = 1;
+
+/// The numbers that the values of an order are counted by: the place and the count.
+pub const ORDER_ANSWER: usize = 2;
+
+/// The places that the values of every order have room in, one for each segment of the longest table.
+pub const VALUES: usize = 256;

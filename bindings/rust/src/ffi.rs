@@ -126,6 +126,39 @@ extern "C" {
         listing: *mut u8,
         listing_bytes: usize,
     ) -> usize;
+    pub fn sargaceu_read_value(
+        text: *const u8,
+        text_bytes: usize,
+        answer: *mut i64,
+        answer_numbers: usize,
+    ) -> u8;
+    pub fn sargaceu_write_value(
+        whole: i64,
+        decimals: usize,
+        output: *mut u8,
+        output_bytes: usize,
+        answer: *mut usize,
+        answer_numbers: usize,
+    ) -> u8;
+    pub fn sargaceu_order_values(
+        card: *const usize,
+        card_numbers: usize,
+        segments: *const u16,
+        segments_numbers: usize,
+        leaves: *const u16,
+        leaves_numbers: usize,
+        text: *const u8,
+        text_bytes: usize,
+        order: u16,
+        numbers: *mut u8,
+        numbers_bytes: usize,
+        wholes: *mut i64,
+        wholes_numbers: usize,
+        decimals: *mut u8,
+        decimals_bytes: usize,
+        answer: *mut usize,
+        answer_numbers: usize,
+    ) -> u8;
 }
 
 #[cfg(test)]

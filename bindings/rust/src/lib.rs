@@ -1,4 +1,4 @@
-//! Sargaceu for Rust: the reader, the writer and the lookups for laboratory messages in H.PR.I.M. Santé 2.4.
+//! Sargaceu for Rust: the reader, the writer, the lookups and the numeric results of laboratory messages in H.PR.I.M. Santé 2.4.
 //!
 //! The work is done by a library whose every function is proved to meet its contract for all inputs; this crate lends it slices and
 //! names what comes back. `./archive` in the repository's folder makes that library, for x86-64 Linux.
@@ -25,6 +25,8 @@
 //! - A table has its [`Card`], its [`rows`](Table::rows) (a [`Segment`] each, by its [`Row`]) and its [`leaves`](Table::leaves).
 //!   [`children`](Table::children) finds the rows that belong to a row, [`leaf`](Table::leaf) the leaf at a [`Place`], [`Sought`] in three
 //!   ways: found, found empty, not there; [`same_order`](Table::same_order) compares two orders.
+//! - [`order_values`](Table::order_values) gives the numeric results of an order as numbers, a [`Value`] each; [`read_value`] reads one text, and a
+//!   value is shown as the shortest text that reads to it.
 //! - [`write`](Table::write) and [`to_message`](Table::to_message) give a message that reads to the same table.
 //! - [`lines()`] walks the lines of a file, a [`Watcher`] says which [`Kind`] may come next in a [`Context`], and [`Buffers::list`] lists a
 //!   message.
@@ -46,6 +48,7 @@ mod number;
 mod order;
 mod place;
 mod reading;
+mod results;
 mod row;
 mod segment;
 pub mod size;
@@ -53,6 +56,7 @@ mod sought;
 mod table;
 mod text;
 mod unknown;
+mod value;
 mod watcher;
 mod writing;
 
@@ -71,5 +75,6 @@ pub use sought::Sought;
 pub use table::Table;
 pub use text::latin1;
 pub use unknown::Unknown;
+pub use value::{read_value, Value};
 pub use watcher::Watcher;
 pub use writing::Written;

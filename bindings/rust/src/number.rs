@@ -42,10 +42,22 @@ pub enum Number {
     ShortOutput = 12,
     /// The numbers and the text are no table.
     NoTable = 13,
+    /// A text says no number.
+    NotANumber = 20,
+    /// The text of a number has too many digits.
+    ManyDigits = 21,
+    /// A whole number and its decimals are a value that no text says.
+    OutOfRange = 22,
+    /// The output lent for the text of a value is under its stated size.
+    NarrowOutput = 23,
+    /// The row is no order of the table.
+    NotAnOrder = 24,
+    /// Fewer places are lent than the order has numeric results.
+    FewPlaces = 25,
 }
 
 impl Number {
-    const ALL: [Number; 13] = [
+    const ALL: [Number; 19] = [
         Number::ShortBuffer,
         Number::LongMessage,
         Number::BrokenHeader,
@@ -59,6 +71,12 @@ impl Number {
         Number::ManyLeaves,
         Number::ShortOutput,
         Number::NoTable,
+        Number::NotANumber,
+        Number::ManyDigits,
+        Number::OutOfRange,
+        Number::NarrowOutput,
+        Number::NotAnOrder,
+        Number::FewPlaces,
     ];
 
     /// What the place counts that comes with this number, or nothing where the place is always 0.
@@ -95,6 +113,14 @@ impl fmt::Display for Number {
             Number::ManyLeaves => "over 2,048 leaves",
             Number::ShortOutput => "the output lent to the writer is under 16,384 bytes",
             Number::NoTable => "the table is one that no message reads to",
+            Number::NotANumber => "the text says no number",
+            Number::ManyDigits => "the text says a number of over 15 digits",
+            Number::OutOfRange => {
+                "no text says the value: the whole number has over 15 digits, or there are over 15 decimals"
+            }
+            Number::NarrowOutput => "the output lent for the text of a value is under 17 bytes",
+            Number::NotAnOrder => "the row is no order of the table",
+            Number::FewPlaces => "fewer places are lent than the order has numeric results",
         })
     }
 }

@@ -26,3 +26,6 @@ pub const LISTING: usize = 8448;
 
 /// The numbers of a card.
 pub const CARD: usize = 5;
+
+/// The least bytes of an output that a value is written into.
+pub const VALUE_TEXT: usize = 17;

@@ -10,3 +10,4 @@ pub mod Kept
 pub mod ShutOut
 pub mod CardBack
 pub mod WalkEnd
+pub mod ValueAnswers

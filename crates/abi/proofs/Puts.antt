@@ -11,7 +11,7 @@ use Rattle.laws.proofs.Parts.{left-cons}
 use Rattle.laws.proofs.Stores.{sets-first}
 use Rattle.abi.specs.Putting.{putAll}
 
-module _ (buffer numbers : List ℕ) where
+module _ {A : Type 0} (buffer numbers : List A) where
   pub put-short : length buffer < length numbers → putAll buffer numbers ≡ buffer
   unfolding putAll
   put-short h = rw (lt-ltb (length buffer) (length numbers) h, putAll)

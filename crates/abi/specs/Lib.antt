@@ -5,3 +5,4 @@ pub mod Writing
 pub mod Looking
 pub mod Lines
 pub mod Watching
+pub mod Values

@@ -6,5 +6,6 @@ pub mod lines;
 pub mod looking;
 pub mod reading;
 pub mod showing;
+pub mod values;
 pub mod watching;
 pub mod writing;

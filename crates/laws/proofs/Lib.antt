@@ -12,3 +12,4 @@ pub mod Stores
 pub mod Bytes
 pub mod Searching
 pub mod Comparing
+pub mod Passing

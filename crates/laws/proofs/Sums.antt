@@ -2,9 +2,9 @@
 -- Assumes nothing.
 use mathlib.Core.Path.{_≡_, refl, ap, _∙_}
 use mathlib.Core.List.{List, [], _∷_, _++_, append-assoc}
-use Prim.Native.Nat.{ℕ, _+_}
+use Prim.Native.Nat.{ℕ, zero, suc, _+_, _≤_}
 use native.Mathlib.Omega.{arith}
-use lib.ListN.{length, length-append}
+use lib.ListN.{length, take, getD, length-append}
 use Rattle.laws.specs.Lists.{concat}
 use Rattle.laws.specs.inner.Sums.{sumOf}
 
@@ -31,3 +31,11 @@ module _ {ℓ} {A : Type ℓ} where
   unfolding concat sumOf
   length-concat [] = refl
   length-concat (s ∷ ss) = omega (arith, length-append s (concat ss), length-concat ss)
+
+  -- what stands before one of some lists, and the list itself, is no more than all of them
+  pub part-within : (ss : List (List A)) (i : ℕ) → length (concat (take i ss)) + length (getD ss i []) ≤ length (concat ss)
+  unfolding concat
+  part-within [] zero = omega arith
+  part-within [] (suc i) = omega arith
+  part-within (s ∷ ss) zero = omega (arith, length-append s (concat ss))
+  part-within (s ∷ ss) (suc i) = omega (arith, length-append s (concat ss), length-append s (concat (take i ss)), part-within ss i)

@@ -39,11 +39,11 @@ lentWhole T = lent (T .card) (T .segmentRows) (T .leafRows) (T .text)
 
 module _ (t : Lent) where
   -- what a counted leaf row says
-  start-taken : (k : ℕ) → k < t .card .leaves → startIn (counted t .leafRows) k ≡ startIn (t .leafRows) k
+  pub start-taken : (k : ℕ) → k < t .card .leaves → startIn (counted t .leafRows) k ≡ startIn (t .leafRows) k
   unfolding counted
   start-taken k h = getD-take (t .card .leaves * leafRowSize) (t .leafRows) (k * leafRowSize + 5) 0 (omega arith)
 
-  length-taken : (k : ℕ) → k < t .card .leaves → lengthIn (counted t .leafRows) k ≡ lengthIn (t .leafRows) k
+  pub length-taken : (k : ℕ) → k < t .card .leaves → lengthIn (counted t .leafRows) k ≡ lengthIn (t .leafRows) k
   unfolding counted
   length-taken k h = getD-take (t .card .leaves * leafRowSize) (t .leafRows) (k * leafRowSize + 6) 0 (omega arith)
 

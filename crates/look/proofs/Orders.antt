@@ -1,15 +1,15 @@
 -- The same-order test: what makes a row an order, and that it compares where the text of leaf 9.4.2 of each order lies.
 -- Assumes nothing.
-use mathlib.Core.Bool.{true, false}
+use mathlib.Core.Bool.{true, false, _&&_}
 use mathlib.Core.List.{List}
 use mathlib.Core.Path.{_≡_, refl, sym, ap, ap₂, _∙_}
 use Prim.Native.Nat.{ℕ, _+_, _-_, _<_, _≤_}
 use native.Mathlib.Omega.{arith}
-use borrow.Author.Tests.{le-leb, lt-leb}
-use lib.Dec.{eqb}
+use borrow.Author.Tests.{leb-true, eqb-true, le-leb, lt-leb}
+use lib.Dec.{leb, eqb}
 use lib.ListN.{length, take, drop}
 use Rattle.laws.specs.Lists.{same}
-use Rattle.laws.proofs.Tests.{Tested, passed, failed, tested}
+use Rattle.laws.proofs.Tests.{Tested, passed, failed, tested, and-first, and-second}
 use Rattle.table.specs.Lent.{Lent}
 use Rattle.table.specs.Rows.{kindIn}
 use Rattle.look.specs.declared.leaf.Sought.{Sought}
@@ -113,3 +113,23 @@ module _ (t : Lent) (row : ℕ) (u : Lent) (other : ℕ) where
 
   pub second-not-there : orderText u other ≡ NotThere → false ≡ sameOrder t row u other
   second-not-there e = second-decides e (not-there-differs (t .text) (orderText t row) (u .text))
+
+-- an order, by its test: one of the counted rows, of kind 5
+pub record CountedOrder (t : Lent) (order : ℕ) : Type 0 where
+  pub first : 1 ≤ order
+  pub counts : order ≤ t .card .segments
+  pub kind : kindIn (t .segmentRows) (order - 1) ≡ 5
+
+pub order-is : (t : Lent) (order : ℕ) → orderAt t order ≡ true → CountedOrder t order
+unfolding isOrder
+order-is t order e =
+    let fits = segmentsFit (t .segmentRows) (t .card .segments) in
+    let least = leb 1 order in
+    let most = leb order (t .card .segments) in
+    let kind = eqb (kindIn (t .segmentRows) (order - 1)) 5 in
+    let counted-row = and-first (fits && least && most) kind e in
+    record {
+      first = leb-true 1 order (and-second fits least (and-first (fits && least) most counted-row));
+      counts = leb-true order (t .card .segments) (and-second (fits && least) most counted-row);
+      kind = eqb-true (kindIn (t .segmentRows) (order - 1)) 5 (and-second (fits && least && most) kind e);
+    }

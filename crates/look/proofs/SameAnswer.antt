@@ -48,7 +48,7 @@ module _ (t : Lent) (p : Place) (own : (i : ℕ) → i < t .card .leaves → lea
       by (failed e) = sought-uncounted (namedFits t p) t e ∙ sym (sought-uncounted (leafFits t p) t e)
 
 -- a row that its segment row names by the table's law is named by the lookup's test
-named-by : (T : Table) (s i : ℕ) → Named T s i → isNamed (lentWhole T) s i ≡ true
+pub named-by : (T : Table) (s i : ℕ) → Named T s i → isNamed (lentWhole T) s i ≡ true
 unfolding isNamed
 named-by T s i w =
     and-both (and-both (le-leb 1 s (omega (arith, w .number))) (le-leb s (T .card .segments) (omega (arith, w .number, w .counts))))

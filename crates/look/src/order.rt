@@ -80,7 +80,7 @@ fn order_text(
 }
 
 // Whether a row is one of so many counted rows and an OBR.
-fn is_order(segments: &[rows::Entry], count: usize, row: rows::Entry) -> bool
+pub fn is_order(segments: &[rows::Entry], count: usize, row: rows::Entry) -> bool
     ensures { λ r. ⌜ r ≡ isOrder (now (segments .entry)) count row ⌝ }
 {
     if !segments_fit(segments, count) {

@@ -16,6 +16,7 @@ pub mod Owner
 pub mod TopLevel
 pub mod OnlyOne
 pub mod NoC
+pub mod Together
 pub mod ShutOut
 pub mod Refusing
 pub mod Coming

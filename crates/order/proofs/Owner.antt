@@ -133,10 +133,13 @@ pub length-owners : (lv : ℕ → ℕ) (ks : List ℕ) → length (owners lv ks)
 unfolding owners
 length-owners lv ks = length-ownersAfter lv ks []
 
--- the turns of a loop over the kinds ks: the first i rows are known
+-- the kinds before the next row, the nearest first; and the turns of a loop over the kinds ks: the first i rows are known
+
+pub before-next : (ks : List ℕ) (i : ℕ) → i < length ks → reverse (take (suc i) ks) ≡ getD ks i 0 ∷ reverse (take i ks)
+before-next ks i h = ap reverse (take-suc ks i 0 h) ∙ reverse-append (take i ks) (getD ks i 0 ∷ [])
 
 kinds-before : (ks : List ℕ) (i : ℕ) → i < length ks → reverse (take (i + 1) ks) ≡ getD ks i 0 ∷ reverse (take i ks)
-kinds-before ks i h = ap reverse (ap (λ (n : ℕ). take n ks) (add-one i) ∙ take-suc ks i 0 h) ∙ reverse-append (take i ks) (getD ks i 0 ∷ [])
+kinds-before ks i h = ap (λ (n : ℕ). reverse (take n ks)) (add-one i) ∙ before-next ks i h
 
 pub record RowsKnown (lv : ℕ → ℕ) (ks : List ℕ) (i : ℕ) (near : List ℕ) : Type 0 where
   pub known : Known lv (reverse (take i ks)) near

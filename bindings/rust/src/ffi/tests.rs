@@ -104,6 +104,74 @@ impl Lent<'_> {
     }
 }
 
+/// Buffers that are lent for the values of an order, each of a length of its own.
+struct Places {
+    numbers: Vec<u8>,
+    wholes: Vec<i64>,
+    decimals: Vec<u8>,
+}
+
+impl Places {
+    /// So many places, with something in them that no call puts there.
+    fn new(numbers: usize, wholes: usize, decimals: usize) -> Places {
+        Places {
+            numbers: vec![9; numbers],
+            wholes: vec![-9; wholes],
+            decimals: vec![99; decimals],
+        }
+    }
+
+    fn fill(&mut self, lent: &Lent<'_>, order: u16, answer: &mut [usize]) -> u8 {
+        // SAFETY: as in `write`.
+        unsafe {
+            sargaceu_order_values(
+                lent.card.as_ptr(),
+                lent.card.len(),
+                lent.segments.as_ptr(),
+                lent.segments.len(),
+                lent.leaves.as_ptr(),
+                lent.leaves.len(),
+                lent.text.as_ptr(),
+                lent.text.len(),
+                order,
+                self.numbers.as_mut_ptr(),
+                self.numbers.len(),
+                self.wholes.as_mut_ptr(),
+                self.wholes.len(),
+                self.decimals.as_mut_ptr(),
+                self.decimals.len(),
+                answer.as_mut_ptr(),
+                answer.len(),
+            )
+        }
+    }
+
+    fn are_kept(&self) -> bool {
+        self.numbers.iter().all(|&number| number == 9)
+            && self.wholes.iter().all(|&whole| whole == -9)
+            && self.decimals.iter().all(|&decimals| decimals == 99)
+    }
+}
+
+fn read_value(text: &[u8], answer: &mut [i64]) -> u8 {
+    // SAFETY: as in `write`.
+    unsafe { sargaceu_read_value(text.as_ptr(), text.len(), answer.as_mut_ptr(), answer.len()) }
+}
+
+fn write_value(whole: i64, decimals: usize, output: &mut [u8], answer: &mut [usize]) -> u8 {
+    // SAFETY: as in `write`.
+    unsafe {
+        sargaceu_write_value(
+            whole,
+            decimals,
+            output.as_mut_ptr(),
+            output.len(),
+            answer.as_mut_ptr(),
+            answer.len(),
+        )
+    }
+}
+
 fn read(message: &[u8], answer: &mut [usize]) -> u8 {
     let (mut text, mut segments, mut leaves) = ([9; 16384], [9; 1024], [9; 14336]);
     // SAFETY: as in `write`.
@@ -370,6 +438,95 @@ fn both_lookups_answer_the_same_of_a_table_that_was_read() {
         }
     }
     assert!(told.iter().all(|&times| times > 0));
+}
+
+#[test]
+fn beside_a_text_that_says_no_number_stand_zeros() {
+    let mut answer = [7; 3];
+    assert_eq!(read_value(b"-.52", &mut answer), 0);
+    assert_eq!(answer, [-52, 2, 7]);
+    assert_eq!(read_value(b"1e5", &mut answer), 20);
+    assert_eq!(answer, [0, 0, 7]);
+    answer = [7; 3];
+    assert_eq!(read_value(b"1234567890123456", &mut answer), 21);
+    assert_eq!(answer, [0, 0, 7]);
+}
+
+#[test]
+fn a_text_is_not_looked_at_where_its_answer_is_short() {
+    for text in [&b"1"[..], b"x", b""] {
+        let mut answer = [7; 1];
+        assert_eq!(read_value(text, &mut answer), 1);
+        assert_eq!(answer, [7]);
+        assert_eq!(read_value(text, &mut []), 1);
+    }
+}
+
+#[test]
+fn a_value_is_judged_before_the_output_and_the_answer_before_both() {
+    let (mut output, mut answer) = ([9; 17], [7; 2]);
+    for decimals in [16, 256, 1 << 32, usize::MAX] {
+        assert_eq!(write_value(0, decimals, &mut output[..16], &mut answer), 22);
+        assert_eq!(answer, [0, 7]);
+    }
+    answer = [7; 2];
+    assert_eq!(write_value(0, 0, &mut output[..16], &mut answer), 23);
+    assert_eq!(answer, [0, 7]);
+    assert_eq!(write_value(i64::MIN, 16, &mut output[..16], &mut []), 1);
+    assert_eq!(write_value(0, 0, &mut output, &mut []), 1);
+    assert_eq!(output, [9; 17]);
+    assert_eq!(write_value(-1, 15, &mut output, &mut answer), 0);
+    assert_eq!(answer, [17, 7]);
+    assert_eq!(&output, b"-.000000000000001");
+}
+
+#[test]
+fn an_order_is_refused_for_its_table_then_for_its_row_then_for_the_room() {
+    let message =
+        b"H|~^\\&|||LAB||ORU\rP|1\rOBR|1\rOBX|1|NM|K||5.6\rOBX|2|NM|NA||x\rOBX|3|TX|NT||5\rL|1\r";
+    let mut buffers = crate::Buffers::new();
+    let table = buffers.read(message).unwrap();
+    let card = table.card().numbers();
+    let lent = Lent {
+        card: &card,
+        segments: table.segment_rows(),
+        leaves: table.leaf_rows(),
+        text: table.text(),
+    };
+    let refused = |lent: &Lent<'_>, order, places: [usize; 3]| {
+        let [numbers, wholes, decimals] = places;
+        let mut places = Places::new(numbers, wholes, decimals);
+        let mut answer = [7; 3];
+        let number = places.fill(lent, order, &mut answer);
+        assert!(places.are_kept());
+        assert_eq!(answer, [0, 0, 7]);
+        number
+    };
+    let damaged = Lent {
+        text: &lent.text[1..],
+        ..lent
+    };
+    assert_eq!(refused(&damaged, 3, [2, 2, 2]), 13);
+    assert_eq!(refused(&damaged, 0, [0, 0, 0]), 13);
+    assert_eq!(refused(&NOTHING, 3, [2, 2, 2]), 13);
+    for order in [0, 1, 2, 4, 7, 8, 65535] {
+        assert_eq!(refused(&lent, order, [2, 2, 2]), 24);
+        assert_eq!(refused(&lent, order, [0, 0, 0]), 24);
+    }
+    for places in [[1, 2, 2], [2, 1, 2], [2, 2, 1], [0, 0, 0], [0, 256, 256]] {
+        assert_eq!(refused(&lent, 3, places), 25);
+    }
+
+    let mut places = Places::new(2, 3, 4);
+    assert_eq!(places.fill(&lent, 3, &mut [7; 1]), 1);
+    assert_eq!(places.fill(&NOTHING, 3, &mut []), 1);
+    assert!(places.are_kept());
+    let mut answer = [7; 3];
+    assert_eq!(places.fill(&lent, 3, &mut answer), 0);
+    assert_eq!(answer, [0, 2, 7]);
+    assert_eq!(places.numbers, [0, 20]);
+    assert_eq!(places.wholes, [56, 0, -9]);
+    assert_eq!(places.decimals, [1, 0, 99, 99]);
 }
 
 #[test]

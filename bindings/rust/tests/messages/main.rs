@@ -6,6 +6,7 @@ mod names;
 mod orders;
 mod reading;
 mod rows;
+mod values;
 mod walking;
 mod watching;
 mod writing;

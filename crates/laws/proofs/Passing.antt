@@ -1,0 +1,136 @@
+-- The numbers that pass a test, `passing`: the first of them, how far a search for it has come, and which numbers they are.
+-- Assumes nothing.
+use mathlib.Core.Bool.{Bool, true, false}
+use mathlib.Core.List.{List, [], _∷_}
+use mathlib.Core.Path.{_≡_, refl, sym, ap, ap₂, _∙_}
+use Prim.Native.Nat.{ℕ, zero, suc, _+_, _-_, _≤_, _<_}
+use native.Mathlib.Numerals.{add-one}
+use native.Mathlib.Omega.{arith}
+use lib.ListN.{getD}
+use Rattle.laws.specs.Tables.{passing}
+use Rattle.laws.proofs.Tests.{Tested, passed, failed, tested}
+
+module _ (test : ℕ → Bool) where
+  pub passing-hit : (i n : ℕ) → test i ≡ true → passing test i (suc n) ≡ i ∷ passing test (suc i) n
+  unfolding passing
+  passing-hit i n e = rw (e, passing)
+
+  pub passing-miss : (i n : ℕ) → test i ≡ false → passing test i (suc n) ≡ passing test (suc i) n
+  unfolding passing
+  passing-miss i n e = rw (e, passing)
+
+  -- where none passes
+  pub passing-none : (i n : ℕ) → ((k : ℕ) → i ≤ k → k < i + n → test k ≡ false) → passing test i n ≡ []
+  unfolding passing
+  passing-none i zero fails = refl
+  passing-none i (suc n) fails =
+      passing-miss i n (fails i (omega arith) (omega arith)) ∙ passing-none (suc i) n (λ k g h. fails k (omega (arith, g)) (omega (arith, h)))
+
+  -- numbers in front that do not pass are passed over, and so are numbers behind
+  pub passing-behind : (m i n total : ℕ) → m + n ≡ total → ((k : ℕ) → i ≤ k → k < i + m → test k ≡ false) → passing test i total ≡ passing test (i + m) n
+  passing-behind zero i n total e fails =
+      ap₂ (λ (j k : ℕ). passing test j k) (let q : i ≡ i + 0 = omega arith in q) (let q : total ≡ n = omega (arith, e) in q)
+  passing-behind (suc m) i n zero e fails = absurd (omega (arith, e))
+  passing-behind (suc m) i n (suc total) e fails =
+      passing-miss i total (fails i (omega arith) (omega arith))
+      ∙ passing-behind m (suc i) n total (omega (arith, e)) (λ k g h. fails k (omega (arith, g)) (omega (arith, h)))
+      ∙ ap (λ (j : ℕ). passing test j n) (let q : suc i + m ≡ i + suc m = omega arith in q)
+
+  pub passing-before : (m i total : ℕ) → m ≤ total → ((k : ℕ) → i + m ≤ k → k < i + total → test k ≡ false) → passing test i total ≡ passing test i m
+  unfolding passing
+  passing-before zero i total h fails = passing-none i total (λ k g l. fails k (omega (arith, g)) (omega (arith, l)))
+  passing-before (suc m) i zero h fails = absurd (omega (arith, h))
+  passing-before (suc m) i (suc total) h fails =
+      by (tested (test i)) (passing-before m (suc i) total (omega (arith, h)) (λ k g l. fails k (omega (arith, g)) (omega (arith, l))))
+    where
+      by : Tested (test i) → passing test (suc i) total ≡ passing test (suc i) m → passing test i (suc total) ≡ passing test i (suc m)
+      by (passed e) later = passing-hit i total e ∙ ap (λ (s : List ℕ). i ∷ s) later ∙ sym (passing-hit i m e)
+      by (failed e) later = passing-miss i total e ∙ later ∙ sym (passing-miss i m e)
+
+  -- the first one, or none
+  pub data Passed (i n : ℕ) : Type 0 where
+    none : passing test i n ≡ [] → Passed i n
+    first : (k : ℕ) → i ≤ k → k < i + n → test k ≡ true → passing test i n ≡ k ∷ passing test (suc k) (i + n - suc k) → Passed i n
+
+  pub first-passed : (i n : ℕ) → Passed i n
+  unfolding passing
+  first-passed i zero = none refl
+  first-passed i (suc n) = by (tested (test i)) (first-passed (suc i) n)
+    where
+      by : Tested (test i) → Passed (suc i) n → Passed i (suc n)
+      by (passed e) later =
+          first i (omega arith) (omega arith) e
+          (passing-hit i n e ∙ ap (λ (m : ℕ). i ∷ passing test (suc i) m) (let q : n ≡ i + suc n - suc i = omega arith in q))
+      by (failed e) (none q) = none (passing-miss i n e ∙ q)
+      by (failed e) (first k g h p q) =
+          first k (omega (arith, g)) (omega (arith, h)) p
+          (passing-miss i n e ∙ q ∙ ap (λ (m : ℕ). k ∷ passing test (suc k) m) (let w : suc i + n - suc k ≡ i + suc n - suc k = omega arith in w))
+
+  -- that r is the first from `from` on and below `end` that passes
+  pub record FirstPassed (from end r : ℕ) : Type 0 where
+    pub later : from ≤ r
+    pub within : r < end
+    pub passes : test r ≡ true
+    pub rest : passing test from (end - from) ≡ r ∷ passing test (suc r) (end - suc r)
+
+  -- a search from `from` on that answers `end` where none passes
+  module _ (from end r : ℕ) (rising : from ≤ end) (found : r ≡ getD (passing test from (end - from)) 0 end) where
+    pub found-first : (r ≡ end → ⊥) → FirstPassed from end r
+    found-first here = by (first-passed from (end - from))
+      where
+        by : Passed from (end - from) → FirstPassed from end r
+        by (none q) = absurd (here (found ∙ ap (λ (s : List ℕ). getD s 0 end) q))
+        by (first k g h p q) =
+            let e : k ≡ r = sym (found ∙ ap (λ (s : List ℕ). getD s 0 end) q) in
+            record {
+              later = omega (arith, g, e);
+              within = omega (arith, h, e, rising);
+              passes = ap test (sym e) ∙ p;
+              rest = q
+                  ∙ ap (λ (m : ℕ). k ∷ passing test (suc k) m) (let w : from + (end - from) - suc k ≡ end - suc k = omega (arith, rising) in w)
+                  ∙ ap (λ (j : ℕ). j ∷ passing test (suc j) (end - suc j)) e;
+            }
+
+    pub found-none : r ≡ end → passing test from (end - from) ≡ []
+    found-none past = by (first-passed from (end - from))
+      where
+        by : Passed from (end - from) → passing test from (end - from) ≡ []
+        by (none q) = q
+        by (first k g h p q) =
+            let e : k ≡ r = sym (found ∙ ap (λ (s : List ℕ). getD s 0 end) q) in
+            absurd (omega (arith, h, e, past, rising))
+
+  -- a loop that searches, before its turn at i: what is left gives the whole
+  pub record Passing (from end i : ℕ) : Type 0 where
+    pub later : from ≤ i
+    pub within : i ≤ end
+    pub rest : getD (passing test i (end - i)) 0 end ≡ getD (passing test from (end - from)) 0 end
+
+  pub passing-begins : (from end : ℕ) → from ≤ end → Passing from end from
+  passing-begins from end h = record { later = omega arith; within = h; rest = refl }
+
+  module _ {from end i : ℕ} (s : Passing from end i) where
+    turn : i < end → getD (passing test i (suc (end - (i + 1)))) 0 end ≡ getD (passing test from (end - from)) 0 end
+    turn h = ap (λ (n : ℕ). getD (passing test i n) 0 end) (let e : suc (end - (i + 1)) ≡ end - i = omega arith in e) ∙ s .rest
+
+    pub passing-found : i < end → test i ≡ true → i ≡ getD (passing test from (end - from)) 0 end
+    passing-found h e = ap (λ (s : List ℕ). getD s 0 end) (sym (passing-hit i (end - (i + 1)) e)) ∙ turn h
+
+    pub passing-on : i < end → test i ≡ false → Passing from end (i + 1)
+    passing-on h e =
+        record {
+          later = omega (arith, s .later);
+          within = omega arith;
+          rest =
+              ap (λ (k : ℕ). getD (passing test k (end - (i + 1))) 0 end) (add-one i)
+              ∙ ap (λ (s : List ℕ). getD s 0 end) (sym (passing-miss i (end - (i + 1)) e))
+              ∙ turn h;
+        }
+
+    -- none is left: at the end, or where no number from here on passes
+    pub passing-ends : ((k : ℕ) → i ≤ k → k < end → test k ≡ false) → end ≡ getD (passing test from (end - from)) 0 end
+    passing-ends fails =
+        ap (λ (s : List ℕ). getD s 0 end) (sym (passing-none i (end - i) (λ k g h. fails k g (omega (arith, h, s .within))))) ∙ s .rest
+
+    pub passing-done : end ≤ i → end ≡ getD (passing test from (end - from)) 0 end
+    passing-done h = passing-ends (λ k g l. absurd (omega (arith, g, l)))

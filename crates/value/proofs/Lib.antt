@@ -1,0 +1,16 @@
+pub mod Runs
+pub mod DigitStores
+pub mod TestedTables
+pub mod FieldLeaves
+pub mod NumericRows
+pub mod Signs
+pub mod NumberParts
+pub mod DigitsBack
+pub mod NumberShape
+pub mod ShortestText
+pub mod TextsRead
+pub mod SignedValues
+pub mod TextsPut
+pub mod ValuesWritten
+pub mod ResultsPut
+pub mod ResultsRead

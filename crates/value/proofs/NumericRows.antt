@@ -1,0 +1,150 @@
+-- The numeric results of an order (D6): the tests of a row in their order, and where the rows that pass them lie.
+-- Assumes nothing.
+use mathlib.Core.Bool.{true, false, _&&_}
+use mathlib.Core.List.{List, [], _∷_}
+use mathlib.Core.Path.{_≡_, refl, sym, ap, _∙_}
+use Prim.Native.Nat.{ℕ, _+_, _*_, _-_, _≤_, _<_}
+use native.Mathlib.Omega.{arith}
+use native.Mathlib.Numerals.{add-one}
+use borrow.Author.Tests.{eqb-true, eq-eqb, ne-eqb}
+use lib.Dec.{eqb}
+use lib.ListN.{length, getD, take, drop}
+use Rattle.laws.specs.Lists.{same}
+use Rattle.laws.specs.Tables.{passing}
+use Rattle.laws.specs.Texts.{bytes}
+use Rattle.laws.proofs.Lists.{same-self, different-same}
+use Rattle.laws.proofs.Passing.{passing-behind}
+use Rattle.laws.proofs.Tests.{Tested, passed, failed, tested, and-first, and-second, and-both, and-passed, and-fails-first, and-fails-second}
+use Rattle.table.specs.Lent.{Lent}
+use Rattle.table.specs.Rows.{segmentRowSize, kindIn, ownerIn}
+use Rattle.table.proofs.Lent.{segments-within}
+use Rattle.look.specs.declared.leaf.Place.{Place}
+use Rattle.look.specs.declared.leaf.Sought.{Sought}
+use Rattle.look.specs.declared.leaf.Sought.the-variants.{At, Empty, NotThere}
+use Rattle.look.specs.Looking.{hasKindAndOwner}
+use Rattle.look.specs.inner.Searching.{soughtIn, soughtInSegment}
+use Rattle.look.proofs.Seeking.{found-within}
+use Rattle.value.specs.Results.{numericType, typePlace, saysText, isNumeric, numericRows}
+use Rattle.value.specs.inner.Seeking.{Searchable, OrderRows}
+
+-- the type NM, by its bytes
+module _ (text : List ℕ) where
+  pub other-length : (length text ≡ 2 → ⊥) → false ≡ same text numericType
+  unfolding numericType bytes
+  other-length n = sym (different-same (λ e. n (ap length e)))
+
+  pub other-first : (getD text 0 0 ≡ 78 → ⊥) → false ≡ same text numericType
+  unfolding numericType bytes
+  other-first n = sym (different-same (λ e. n (ap (λ (s : List ℕ). getD s 0 0) e)))
+
+  pub second-decides : length text ≡ 2 → getD text 0 0 ≡ 78 → eqb (getD text 1 0) 77 ≡ same text numericType
+  unfolding numericType bytes same
+  second-decides = by text
+    where
+      by : (s : List ℕ) → length s ≡ 2 → getD s 0 0 ≡ 78 → eqb (getD s 1 0) 77 ≡ same s numericType
+      by [] l e = absurd (omega (arith, l))
+      by (a ∷ []) l e = absurd (omega (arith, l))
+      by (a ∷ b ∷ []) l e = go (tested (eqb b 77))
+        where
+          go : Tested (eqb b 77) → eqb b 77 ≡ same (a ∷ b ∷ []) numericType
+          go (passed q) = q ∙ sym (and-both (eq-eqb a 78 e) (and-both q refl))
+          go (failed q) = q ∙ sym (and-fails-second (eqb a 78) (and-fails-first true q))
+      by (a ∷ b ∷ c ∷ s) l e = absurd (omega (arith, l))
+
+-- the tests of a row
+module _ (t : Lent) (order i : ℕ) where
+  abbrev typeSought : Sought
+  typeSought = soughtIn t (typePlace i)
+
+  pub other-kind : (kindIn (t .segmentRows) i ≡ 6 → ⊥) → false ≡ isNumeric t order i
+  unfolding isNumeric hasKindAndOwner
+  other-kind n =
+      sym
+      (and-fails-first (saysText (t .text) numericType typeSought)
+      (and-fails-first (eqb (ownerIn (t .segmentRows) i) order) (ne-eqb (kindIn (t .segmentRows) i) 6 n)))
+
+  pub other-owner : (ownerIn (t .segmentRows) i ≡ order → ⊥) → false ≡ isNumeric t order i
+  unfolding isNumeric hasKindAndOwner
+  other-owner n =
+      sym
+      (and-fails-first (saysText (t .text) numericType typeSought)
+      (and-fails-second (eqb (kindIn (t .segmentRows) i) 6) (ne-eqb (ownerIn (t .segmentRows) i) order n)))
+
+  -- an OBX of the order: its type decides
+  module _ (kind : kindIn (t .segmentRows) i ≡ 6) (owned : ownerIn (t .segmentRows) i ≡ order) where
+    by-type : (s : Sought) → s ≡ typeSought → saysText (t .text) numericType s ≡ isNumeric t order i
+    unfolding isNumeric hasKindAndOwner
+    by-type s e =
+        ap (saysText (t .text) numericType) e
+        ∙ sym
+        (and-passed (saysText (t .text) numericType typeSought)
+        (and-both (eq-eqb (kindIn (t .segmentRows) i) 6 kind) (eq-eqb (ownerIn (t .segmentRows) i) order owned)))
+
+    pub type-there : (start n : ℕ) → At start n ≡ typeSought → same (take n (drop start (t .text))) numericType ≡ isNumeric t order i
+    unfolding saysText
+    type-there start n e = by-type (At start n) e
+
+    pub type-empty : Empty ≡ typeSought → false ≡ isNumeric t order i
+    unfolding saysText
+    type-empty e = by-type Empty e
+
+    pub type-missing : NotThere ≡ typeSought → false ≡ isNumeric t order i
+    unfolding saysText
+    type-missing e = by-type NotThere e
+
+  -- what passes is an OBX of the order
+  pub numeric-kind : isNumeric t order i ≡ true → kindIn (t .segmentRows) i ≡ 6
+  unfolding isNumeric hasKindAndOwner
+  numeric-kind e =
+      eqb-true (kindIn (t .segmentRows) i) 6
+      (and-first (eqb (kindIn (t .segmentRows) i) 6) (eqb (ownerIn (t .segmentRows) i) order)
+      (and-first (eqb (kindIn (t .segmentRows) i) 6 && eqb (ownerIn (t .segmentRows) i) order) (saysText (t .text) numericType typeSought) e))
+
+  pub numeric-owner : isNumeric t order i ≡ true → ownerIn (t .segmentRows) i ≡ order
+  unfolding isNumeric hasKindAndOwner
+  numeric-owner e =
+      eqb-true (ownerIn (t .segmentRows) i) order
+      (and-second (eqb (kindIn (t .segmentRows) i) 6) (eqb (ownerIn (t .segmentRows) i) order)
+      (and-first (eqb (kindIn (t .segmentRows) i) 6 && eqb (ownerIn (t .segmentRows) i) order) (saysText (t .text) numericType typeSought) e))
+
+-- the place of a type, with its segment as the code counts it
+pub type-place : (i : ℕ) → record { segment = i + 1; field = 3; repetition = 1; subfield = 1; subsubfield = 1 } ≡ typePlace i
+unfolding typePlace
+type-place i = ap {B = Place} (λ (n : ℕ). record { segment = n; field = 3; repetition = 1; subfield = 1; subsubfield = 1 }) (add-one i)
+
+-- the type that is found within the segment is the one that is sought
+pub type-sought : (t : Lent) (table : Searchable t) (i : ℕ) {s : Sought}
+    → s ≡ soughtInSegment t (record { segment = i + 1; field = 3; repetition = 1; subfield = 1; subsubfield = 1 }) → s ≡ soughtIn t (typePlace i)
+type-sought t table i e = e ∙ ap (soughtInSegment t) (type-place i) ∙ table .same (typePlace i)
+
+-- a counted row lies within its buffer, and a type that is found within the text
+pub row-inside : (t : Lent) → Searchable t → (i : ℕ) → i < t .card .segments → i * segmentRowSize + segmentRowSize ≤ length (t .segmentRows)
+row-inside t table i h =
+    omega (arith, h, segments-within (t .card) (length (t .segmentRows)) (length (t .leafRows)) (length (t .text)) (table .within))
+
+pub type-inside : (t : Lent) (i start n : ℕ) → At start n ≡ soughtIn t (typePlace i) → start + n ≤ length (t .text)
+type-inside t i start n e = found-within t (typePlace i) start n (sym e)
+
+-- the results of an order
+module _ (t : Lent) (order : ℕ) (rows : OrderRows t order) where
+  -- none stands before it
+  none-before : (k : ℕ) → k < order → isNumeric t order k ≡ false
+  none-before k h = by (tested (isNumeric t order k))
+    where
+      by : Tested (isNumeric t order k) → isNumeric t order k ≡ false
+      by (failed e) = e
+      by (passed e) = absurd (omega (arith, h, numeric-owner t order k e, rows .together .earlier k (omega (arith, h, rows .counts))))
+
+  pub from-the-order : numericRows t order ≡ passing (isNumeric t order) order (t .card .segments - order)
+  from-the-order =
+      passing-behind (isNumeric t order) order 0 (t .card .segments - order) (t .card .segments) (omega (arith, rows .counts))
+      (λ k g h. none-before k (omega (arith, h)))
+      ∙ ap (λ (n : ℕ). passing (isNumeric t order) n (t .card .segments - order)) (let e : 0 + order ≡ order = omega arith in e)
+
+  -- none stands behind a row that belongs to an earlier one
+  pub none-behind : (j : ℕ) → order ≤ j → ownerIn (t .segmentRows) j < order → (k : ℕ) → j ≤ k → k < t .card .segments → isNumeric t order k ≡ false
+  none-behind j g l k h w = by (tested (isNumeric t order k))
+    where
+      by : Tested (isNumeric t order k) → isNumeric t order k ≡ false
+      by (failed e) = e
+      by (passed e) = absurd (rows .together .ends j k g h w l (numeric-kind t order k e) (numeric-owner t order k e))

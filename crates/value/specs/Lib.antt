@@ -1,0 +1,6 @@
+pub mod Refusals
+pub mod Numerals
+pub mod Values
+pub mod Writing
+pub mod Results
+pub mod inner

@@ -1,0 +1,76 @@
+-- What the search for an order's numeric results asks of a table, and what it puts.
+-- Assumes nothing.
+use mathlib.Core.Bool.{true}
+use mathlib.Core.List.{List, map}
+use mathlib.Core.Path.{_≡_}
+use Prim.Native.Nat.{ℕ, suc, _+_, _*_, _-_, _≤_, _<_}
+use lib.IntN.{ℤ}
+use lib.ListN.{length, getD}
+use lib.Seq.{sets}
+use Rattle.table.specs.Lent.{Lent, withinBuffers}
+use Rattle.table.specs.Rows.{width, leafRowSize, kindIn, ownerIn, firstIn, countIn, placeIn, startIn, lengthIn}
+use Rattle.look.specs.declared.leaf.Place.{Place}
+use Rattle.look.specs.Looking.{orderAt, isNamed}
+use Rattle.look.specs.inner.Searching.{soughtIn, soughtInSegment}
+use Rattle.value.specs.declared.reading.Value.{Value}
+use Rattle.value.specs.Results.{numericRows, valuesOf}
+
+-- what is known of a table that some message reads to: counts within the buffers and the rows' width; the leaves of each segment row among those
+-- counted; texts within the counted text; and the lookup within a segment answers what the lookup does
+pub record Searchable (t : Lent) : Type 0 where
+  pub within : withinBuffers t ≡ true
+  pub few : t .card .segments < width
+  pub first : (i : ℕ) → i < t .card .segments → 1 ≤ firstIn (t .segmentRows) i
+  pub last : (i : ℕ) → i < t .card .segments → firstIn (t .segmentRows) i - 1 + countIn (t .segmentRows) i ≤ t .card .leaves
+  pub texts : (i : ℕ) → i < t .card .leaves → startIn (t .leafRows) i + lengthIn (t .leafRows) i ≤ t .card .text
+  pub named : (i : ℕ) → i < t .card .leaves → isNamed t (getD (placeIn (t .leafRows) i) 0 0) i ≡ true
+  pub same : (p : Place) → soughtInSegment t p ≡ soughtIn t p
+
+-- segment row i, counted from 0, of such a table
+pub record ResultRow (t : Lent) (i : ℕ) : Type 0 where
+  pub table : Searchable t
+  pub counts : i < t .card .segments
+
+-- leaf rows from one on and before another, all within the buffer
+pub record FieldRows (leaves : List ℕ) (from to : ℕ) : Type 0 where
+  pub rising : from ≤ to
+  pub within : to * leafRowSize ≤ length leaves
+
+-- leaf row i lies within the buffer, and its text within the text
+pub record LeafRow (leaves text : List ℕ) (i : ℕ) : Type 0 where
+  pub row-within : suc i * leafRowSize ≤ length leaves
+  pub text-within : startIn leaves i + lengthIn leaves i ≤ length text
+
+-- what is owned by an order lies behind it and together: a row's owner stands before it; and once a row behind the order belongs to an earlier one,
+-- no row is the order's any more
+pub record Together (t : Lent) (order : ℕ) : Type 0 where
+  pub earlier : (i : ℕ) → i < t .card .segments → ownerIn (t .segmentRows) i ≤ i
+  pub ends : (j k : ℕ) → order ≤ j → j ≤ k → k < t .card .segments → ownerIn (t .segmentRows) j < order
+      → kindIn (t .segmentRows) k ≡ 6 → ownerIn (t .segmentRows) k ≡ order → ⊥
+
+-- an order of such a table
+pub record OrderRows (t : Lent) (order : ℕ) : Type 0 where
+  pub table : Searchable t
+  pub together : Together t order
+  pub first : 1 ≤ order
+  pub counts : order ≤ t .card .segments
+
+-- the rows of an order from one behind it on
+pub record InOrder (t : Lent) (order from : ℕ) : Type 0 where
+  pub rows : OrderRows t order
+  pub behind : order ≤ from
+  pub within : from ≤ t .card .segments
+
+-- an order with room for all its answers
+pub record Roomy (t : Lent) (order : ℕ) (numbers : List ℕ) (wholes : List ℤ) (decimals : List ℕ) : Type 0 where
+  pub rows : OrderRows t order
+  pub numbers-hold : length (numericRows t order) ≤ length numbers
+  pub wholes-hold : length (numericRows t order) ≤ length wholes
+  pub decimals-hold : length (numericRows t order) ≤ length decimals
+
+-- the answers of an order's results at the front of three buffers
+pub record PutValues (most : ℕ) (t : Lent) (order : ℕ) (numbers : List ℕ) (wholes : List ℤ) (decimals : List ℕ)
+    (numbers′ : List ℕ) (wholes′ : List ℤ) (decimals′ : List ℕ) : Type 0 where
+  pub numbers-put : numbers′ ≡ sets numbers 0 (map (λ (v : Value). v .number) (valuesOf most t order))
+  pub wholes-put : wholes′ ≡ sets wholes 0 (map (λ (v : Value). v .whole) (valuesOf most t order))
+  pub decimals-put : decimals′ ≡ sets decimals 0 (map (λ (v : Value). v .decimals) (valuesOf most t order))
