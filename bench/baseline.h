@@ -1,11 +1,12 @@
 /*
- * The baseline: reader, writer and leaf lookup by the rules of docs/RULES.md in plain C, written for speed and with every refusal. The library
- * is measured against it. Same parameters, same answers and same buffers as sargaceu_read, sargaceu_write and sargaceu_find_leaf of
- * include/sargaceu.h, on every input.
+ * The baseline: reader, writer, leaf lookup and values by the rules of docs/RULES.md in plain C, written for speed and with every refusal. The
+ * library is measured against it. Same parameters, same answers and same buffers as the functions of include/sargaceu.h that begin with sargaceu_
+ * in place of base_, on every input.
  */
 #ifndef BASELINE_H
 #define BASELINE_H
 
+#include <stdbool.h>
 #include <stddef.h>
 #include <stdint.h>
 
@@ -28,5 +29,24 @@ uint8_t base_find_leaf(const size_t *card, size_t card_numbers,
                        const uint8_t *text, size_t text_bytes,
                        uint16_t segment, uint16_t field, uint16_t repetition, uint16_t subfield, uint16_t subsubfield,
                        size_t *answer, size_t answer_numbers);
+
+bool base_is_table(const size_t *card, size_t card_numbers,
+                   const uint16_t *segments, size_t segments_numbers,
+                   const uint16_t *leaves, size_t leaves_numbers,
+                   const uint8_t *text, size_t text_bytes);
+
+uint8_t base_read_value(const uint8_t *text, size_t text_bytes, int64_t *answer, size_t answer_numbers);
+
+uint8_t base_write_value(int64_t whole, size_t decimals, uint8_t *output, size_t output_bytes, size_t *answer, size_t answer_numbers);
+
+uint8_t base_order_values(const size_t *card, size_t card_numbers,
+                          const uint16_t *segments, size_t segments_numbers,
+                          const uint16_t *leaves, size_t leaves_numbers,
+                          const uint8_t *text, size_t text_bytes,
+                          uint16_t order,
+                          uint8_t *numbers, size_t numbers_bytes,
+                          int64_t *wholes, size_t wholes_numbers,
+                          uint8_t *decimals, size_t decimals_bytes,
+                          size_t *answer, size_t answer_numbers);
 
 #endif

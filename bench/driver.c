@@ -4,18 +4,17 @@
  *   driver compare FILE...                        both give the same on these messages, and on damaged and invented ones
  *   driver read|write library|baseline FILE N     N readings of a message, or writings of its table
  *   driver find library|segment|baseline FILE N   N lookups of the last result's value, the library's over all leaves or within the segment
+ *   driver read-value|write-value library|baseline SAMPLE N
+ *                                                 N readings of a text, or writings of a value; SAMPLE is short, long or (reading) digits
+ *   driver order-values|is-table library|baseline FILE N
+ *                                                 N times the values of a message's middle order, or tests of its table
  *   driver time FILE...                           times of both, interleaved, the least of nine, on x86-64
  *
  * Both are called by pointers that the compiler cannot see through, so no call is folded away.
  */
 #define _POSIX_C_SOURCE 200809L
-#include "../include/sargaceu.h"
-#include "baseline.h"
+#include "driver.h"
 
-#include <stdbool.h>
-#include <stdio.h>
-#include <stdlib.h>
-#include <string.h>
 #include <time.h>
 
 /* ---- both implementations ---- */
@@ -26,7 +25,7 @@ typedef uint8_t writer(const size_t *, size_t, const uint16_t *, size_t, const u
 typedef uint8_t finder(const size_t *, size_t, const uint16_t *, size_t, const uint16_t *, size_t, const uint8_t *, size_t,
                        uint16_t, uint16_t, uint16_t, uint16_t, uint16_t, size_t *, size_t);
 
-static const char *const names[2] = { "library", "baseline" };
+const char *const names[2] = { "library", "baseline" };
 static reader *volatile readers[2] = { sargaceu_read, base_read };
 static writer *volatile writers[2] = { sargaceu_write, base_write };
 
@@ -35,36 +34,12 @@ enum { BY_LIBRARY, IN_SEGMENT, BY_BASELINE, FINDERS };
 static const char *const finder_names[FINDERS] = { "library", "segment", "baseline" };
 static finder *volatile finders[FINDERS] = { sargaceu_find_leaf, sargaceu_find_leaf_in_segment, base_find_leaf };
 
-/* Some room past each limit, to see that longer buffers are used at their front alone. */
-enum {
-    TEXT = SARGACEU_TEXT + 64,
-    SEGMENTS = SARGACEU_SEGMENTS + 32,
-    LEAVES = SARGACEU_LEAVES + 56,
-    OUTPUT = SARGACEU_OUTPUT + 64,
-    MESSAGE = 3 * SARGACEU_MESSAGE
-};
-
-struct table {
-    uint8_t text[TEXT];
-    uint16_t segments[SEGMENTS];
-    uint16_t leaves[LEAVES];
-    size_t answer[SARGACEU_READ_ANSWER];
-};
-
-struct message {
-    uint8_t bytes[MESSAGE];
-    size_t length;
-};
-
 /* A leaf's place is the first five numbers of its row. */
 enum { PLACE = 5 };
 
-/* How much of each buffer is lent. */
-struct lent { size_t text, segments, leaves, answer, card, output; };
+const struct lent whole = { TEXT, SEGMENTS, LEAVES, SARGACEU_READ_ANSWER, SARGACEU_CARD, OUTPUT };
 
-static const struct lent whole = { TEXT, SEGMENTS, LEAVES, SARGACEU_READ_ANSWER, SARGACEU_CARD, OUTPUT };
-
-static uint8_t read_by(int which, const struct message *m, struct table *t, struct lent lent)
+uint8_t read_by(int which, const struct message *m, struct table *t, struct lent lent)
 {
     return readers[which](m->bytes, m->length, t->text, lent.text, t->segments, lent.segments, t->leaves, lent.leaves,
                           t->answer, lent.answer);
@@ -84,7 +59,8 @@ static uint8_t find_by(int which, const struct table *t, const uint16_t *place, 
 
 /* ---- comparing ---- */
 
-static struct table tables[2], held;
+struct table held;
+static struct table tables[2];
 static uint8_t outputs[2][OUTPUT];
 static size_t answers[2][SARGACEU_WRITE_ANSWER];
 static size_t cases, accepted, numbers[14], table_cases, table_accepted;
@@ -92,8 +68,7 @@ static size_t lookups, segment_lookups, sought[3];
 
 static uint64_t state = 0x9e3779b97f4a7c15u;
 
-/* Numbers that look random and are the same every time. */
-static size_t below(size_t limit)
+size_t below(size_t limit)
 {
     state ^= state << 13;
     state ^= state >> 7;
@@ -101,9 +76,9 @@ static size_t below(size_t limit)
     return limit ? (state >> 20) % limit : 0;
 }
 
-static void show(const char *what, const struct message *m)
+void show(const char *what, const struct message *m)
 {
-    fprintf(stderr, "driver: library and baseline differ: %s; the message is in differs.msg\n", what);
+    fprintf(stderr, "driver: library and baseline differ: %s%s\n", what, m ? "; the message is in differs.msg" : "");
     FILE *file = m ? fopen("differs.msg", "wb") : NULL;
     if (file) {
         fwrite(m->bytes, 1, m->length, file);
@@ -337,7 +312,7 @@ static const char *const after[8][13] = {
     [7] = { [1] = "P", [2] = "VF", [3] = "WF", [4] = "WF", [7] = "PFGTL", [8] = "PFGTL", [9] = "PFTL" },
 };
 
-static void add(struct message *m, const char *text)
+void add(struct message *m, const char *text)
 {
     replace(m, m->length, 0, text, strlen(text));
 }
@@ -575,6 +550,7 @@ static void compare_tables(const struct message *m, size_t damaged, bool all)
     if (read_by(0, &back, &tables[0], whole) != 0 || memcmp(&tables[0], &held, sizeof held) != 0)
         show("what was written reads to another table", m);
     compare_lookups(&held, all, m);
+    compare_orders(&held, whole, all, m);
     for (size_t i = 0; i < damaged; i++) {
         struct lent lent = some_lent();
         tables[0] = held;
@@ -582,6 +558,7 @@ static void compare_tables(const struct message *m, size_t damaged, bool all)
             damage_table(&tables[0]);
         same_writing(&tables[0], lent, m);
         compare_damaged_lookups(&held, &tables[0], lent, m);
+        compare_orders(&tables[0], lent, false, m);
     }
 }
 
@@ -591,7 +568,7 @@ static void compare_one(const struct message *m, size_t damaged)
         compare_tables(m, damaged, false);
 }
 
-static void load(struct message *m, const char *path)
+void load(struct message *m, const char *path)
 {
     FILE *file = fopen(path, "rb");
     if (!file) {
@@ -625,6 +602,11 @@ static int compare(int files, char **file)
             damage(&m);
         compare_one(&m, 4);
     }
+    for (size_t n = 0; n < 4000; n++) {
+        invent_orders(&m);
+        compare_one(&m, 4);
+    }
+    compare_values();
     printf("library and baseline agree on %zu messages, %zu of them accepted, on %zu tables, %zu of them written, "
            "and on %zu lookups, %zu of them within the segment too\n",
            cases, accepted, table_cases, table_accepted, lookups, segment_lookups);
@@ -632,6 +614,7 @@ static int compare(int files, char **file)
         printf("%s%d: %zu", i ? ", " : "answers by number: ", i, numbers[i]);
     printf("\nlookups: %zu found, %zu found empty, %zu not there\n", sought[SARGACEU_FOUND], sought[SARGACEU_FOUND_EMPTY],
            sought[SARGACEU_NOT_THERE]);
+    report_values();
     return 0;
 }
 
@@ -662,8 +645,7 @@ static int run(bool writing, const char *who, const char *path, size_t times)
 
 /* ---- measured lookups ---- */
 
-/* The name of a message's file, without its folder. */
-static const char *name_in(const char *path)
+const char *name_in(const char *path)
 {
     const char *slash = strrchr(path, '/');
     return slash ? slash + 1 : path;
@@ -725,7 +707,7 @@ static int run_lookups(const char *who, const char *path, size_t times)
 
 /* ---- times ---- */
 
-static double seconds(void)
+double seconds(void)
 {
     struct timespec t;
     clock_gettime(CLOCK_MONOTONIC, &t);
@@ -774,7 +756,7 @@ static int time_all(int files, char **file)
     static struct message m;
     printf("%-10s %26s %26s\n", "ns a byte", "reading: library, baseline", "writing: library, baseline");
     for (int i = 0; i < files; i++) {
-        if (is_for_lookups(file[i]))
+        if (is_for_lookups(file[i]) || is_for_orders(file[i]))
             continue;
         load(&m, file[i]);
         if (read_by(1, &m, &held, whole) != 0)
@@ -788,6 +770,11 @@ static int time_all(int files, char **file)
     for (int i = 0; i < files; i++)
         if (is_for_lookups(file[i]))
             time_lookups(file[i]);
+    time_values();
+    printf("\n%-14s %8s %8s %8s %8s %6s\n", "ns an order", "library", "its test", "baseline", "its test", "ratio");
+    for (int i = 0; i < files; i++)
+        if (is_for_orders(file[i]))
+            time_orders(file[i]);
     return 0;
 }
 
@@ -801,7 +788,10 @@ int main(int words, char **word)
         return run(word[1][0] == 'w', word[2], word[3], strtoul(word[4], NULL, 10));
     if (words == 5 && strcmp(word[1], "find") == 0)
         return run_lookups(word[2], word[3], strtoul(word[4], NULL, 10));
+    if (words == 5 && run_values(word[1], word[2], word[3], strtoul(word[4], NULL, 10)) == 0)
+        return 0;
     fprintf(stderr, "usage: driver compare FILE... | driver read|write library|baseline FILE N | driver find library|segment|baseline FILE N"
+                    " | driver read-value|write-value library|baseline SAMPLE N | driver order-values|is-table library|baseline FILE N"
                     " | driver time FILE...\n");
     return 2;
 }

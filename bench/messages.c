@@ -160,6 +160,45 @@ static void of_leaves(size_t count)
     add("L|1\r");
 }
 
+/* A comment of so many leaves, one at least. */
+static void comment(size_t count)
+{
+    add("C");
+    for (size_t i = 1; i < count; i++)
+        add("|valide");
+    add("\r");
+}
+
+/* An order of so many results, the same ten again and again. */
+static void order_of(size_t results)
+{
+    order(1);
+    for (size_t i = 0; i < results; i++)
+        result((int)(i % 10 + 1));
+}
+
+/* As many such orders as go into so many leaves, but an odd number, so that one is the middle one; comments before them have what is left over. */
+static void of_orders(size_t results, size_t count)
+{
+    enum { COMMENT = 12, END = 2 };
+    begin();
+    header("ORU");
+    patient(1);
+    size_t head = leaf_count();
+    order_of(results);
+    size_t each = leaf_count() - head, orders = (count - head - END) / each;
+    orders -= orders % 2 == 0;
+    size_t over = count - head - END - orders * each;
+    begin();
+    header("ORU");
+    patient(1);
+    for (; over > 0; over -= over < COMMENT ? over : COMMENT)
+        comment(over < COMMENT ? over : COMMENT);
+    for (; orders > 0; orders--)
+        order_of(results);
+    add("L|1\r");
+}
+
 /* One shape at a size: orders of seven results, the last result's text as long as is needed. */
 static void of_size(size_t size)
 {
@@ -210,6 +249,12 @@ int main(int words, char **word)
     save(word[1], "leaves-300");
     of_leaves(2048);
     save(word[1], "leaves-2048");
+    of_orders(10, 300);
+    save(word[1], "order-10-300");
+    of_orders(20, 300);
+    save(word[1], "order-20-300");
+    of_orders(20, 2048);
+    save(word[1], "order-20-2048");
     for (size_t size = 1; size <= 16; size *= 2) {
         char name[16];
         snprintf(name, sizeof name, "grow-%02zu", size);

@@ -11,3 +11,4 @@ pub mod ShutOut
 pub mod CardBack
 pub mod WalkEnd
 pub mod ValueAnswers
+pub mod ValuesKept

@@ -4,6 +4,7 @@ use mathlib.Core.Bool.{Bool}
 use mathlib.Core.List.{List}
 use mathlib.Core.Path.{_≡_}
 use Prim.Native.Nat.{ℕ}
+use lib.IntN.{ℤ}
 use Rattle.laws.proofs.Equality.{only-one}
 use Rattle.form.specs.Limits.{form}
 use Rattle.line.specs.declared.finder.Found.{Found}
@@ -17,6 +18,7 @@ use Rattle.abi.specs.Writing.{WroteInto}
 use Rattle.abi.specs.Looking.{FoundLeaf, FoundLeafInSegment}
 use Rattle.abi.specs.Lines.{FoundLine}
 use Rattle.abi.specs.Watching.{Watched}
+use Rattle.abi.specs.Values.{ReadValueInto, WroteValueInto, ReadValuesInto}
 
 pub read : (message text segments leaves answer : List ℕ) {r s : ℕ} {text₁ segments₁ leaves₁ answer₁ text₂ segments₂ leaves₂ answer₂ : List ℕ}
     → ReadInto message text segments leaves answer r text₁ segments₁ leaves₁ answer₁
@@ -65,3 +67,29 @@ line found at answer g h = (only-one (g .number) (h .number), only-one (g .place
 pub watch : (bytes : List ℕ) (kind : ℕ) {r s : Bool} {bytes₁ bytes₂ : List ℕ}
     → Watched bytes kind r bytes₁ → Watched bytes kind s bytes₂ → (r ≡ s) × (bytes₁ ≡ bytes₂)
 watch bytes kind g h = (only-one (g .verdict) (h .verdict), only-one (g .watcher) (h .watcher))
+
+pub read-value : (text : List ℕ) (answer : List ℤ) {r s : ℕ} {answer₁ answer₂ : List ℤ} → ReadValueInto text answer r answer₁ → ReadValueInto text answer s answer₂
+    → (r ≡ s) × (answer₁ ≡ answer₂)
+read-value text answer g h = (only-one (g .number) (h .number), only-one (g .answers) (h .answers))
+
+pub write-value : (whole : ℤ) (decimals : ℕ) (output answer : List ℕ) {r s : ℕ} {output₁ answer₁ output₂ answer₂ : List ℕ}
+    → WroteValueInto whole decimals output answer r output₁ answer₁ → WroteValueInto whole decimals output answer s output₂ answer₂
+    → (r ≡ s) × (output₁ ≡ output₂) × (answer₁ ≡ answer₂)
+write-value whole decimals output answer g h = (
+  only-one (g .number) (h .number),
+  only-one (g .text) (h .text),
+  only-one (g .answers) (h .answers),
+)
+
+pub order-values : (t : Lent) (order : ℕ) (numbers : List ℕ) (wholes : List ℤ) (decimals answer : List ℕ) {r s : ℕ}
+    {numbers₁ numbers₂ : List ℕ} {wholes₁ wholes₂ : List ℤ} {decimals₁ decimals₂ answer₁ answer₂ : List ℕ}
+    → ReadValuesInto t order numbers wholes decimals answer r numbers₁ wholes₁ decimals₁ answer₁
+    → ReadValuesInto t order numbers wholes decimals answer s numbers₂ wholes₂ decimals₂ answer₂
+    → (r ≡ s) × (numbers₁ ≡ numbers₂) × (wholes₁ ≡ wholes₂) × (decimals₁ ≡ decimals₂) × (answer₁ ≡ answer₂)
+order-values t order numbers wholes decimals answer g h = (
+  only-one (g .number) (h .number),
+  only-one (g .numbers-put) (h .numbers-put),
+  only-one (g .wholes-put) (h .wholes-put),
+  only-one (g .decimals-put) (h .decimals-put),
+  only-one (g .answers) (h .answers),
+)

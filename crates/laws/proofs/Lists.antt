@@ -19,6 +19,12 @@ module _ {ℓ ℓ′} {A : Type ℓ} {B : Type ℓ′} (f : A → B) where
   map-append [] t = refl
   map-append (a ∷ s) t = ap {B = List B} (λ r. f a ∷ r) (map-append s t)
 
+  -- what f makes of the element at a place; past the end each list has its own substitute
+  pub getD-map : (s : List A) (i : ℕ) (d : A) (e : B) → i < length s → getD (map f s) i e ≡ f (getD s i d)
+  getD-map [] i d e h = absurd (not-suc-le-zero h)
+  getD-map (a ∷ s) zero d e h = refl
+  getD-map (a ∷ s) (suc i) d e h = getD-map s i d e (le-of-suc-le-suc h)
+
 -- `same s t` holds exactly where s and t are equal
 pub same-self : (s : List ℕ) → same s s ≡ true
 unfolding same

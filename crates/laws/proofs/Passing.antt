@@ -2,13 +2,15 @@
 -- Assumes nothing.
 use mathlib.Core.Bool.{Bool, true, false}
 use mathlib.Core.List.{List, [], _∷_}
-use mathlib.Core.Path.{_≡_, refl, sym, ap, ap₂, _∙_}
+use mathlib.Core.Logic.{_⊎_, inl, inr}
+use mathlib.Core.Path.{_≡_, refl, sym, ap, ap₂, _∙_, subst⁻¹}
 use Prim.Native.Nat.{ℕ, zero, suc, _+_, _-_, _≤_, _<_}
 use native.Mathlib.Numerals.{add-one}
 use native.Mathlib.Omega.{arith}
-use lib.ListN.{getD}
+use lib.ListN.{length, getD}
 use Rattle.laws.specs.Tables.{passing}
-use Rattle.laws.proofs.Tests.{Tested, passed, failed, tested}
+use Rattle.laws.proofs.Cases.{less-or-not}
+use Rattle.laws.proofs.Tests.{Tested, passed, failed, tested, never-both}
 
 module _ (test : ℕ → Bool) where
   pub passing-hit : (i n : ℕ) → test i ≡ true → passing test i (suc n) ≡ i ∷ passing test (suc i) n
@@ -46,6 +48,92 @@ module _ (test : ℕ → Bool) where
       by : Tested (test i) → passing test (suc i) total ≡ passing test (suc i) m → passing test i (suc total) ≡ passing test i (suc m)
       by (passed e) later = passing-hit i total e ∙ ap (λ (s : List ℕ). i ∷ s) later ∙ sym (passing-hit i m e)
       by (failed e) later = passing-miss i total e ∙ later ∙ sym (passing-miss i m e)
+
+  -- no more than there are numbers
+  pub length-passing : (i n : ℕ) → length (passing test i n) ≤ n
+  unfolding passing
+  length-passing i zero = omega arith
+  length-passing i (suc n) = by (tested (test i)) (length-passing (suc i) n)
+    where
+      by : Tested (test i) → length (passing test (suc i) n) ≤ n → length (passing test i (suc n)) ≤ suc n
+      by (passed e) later = omega (arith, later, ap length (passing-hit i n e))
+      by (failed e) later = omega (arith, later, ap length (passing-miss i n e))
+
+  -- which numbers they are: each lies within and passes
+  pub record Passes (i n j : ℕ) : Type 0 where
+    pub from : i ≤ j
+    pub to : j < i + n
+    pub passes : test j ≡ true
+
+  pub passing-passes : (i n k : ℕ) → k < length (passing test i n) → Passes i n (getD (passing test i n) k 0)
+  unfolding passing
+  passing-passes i zero k h = absurd (omega (arith, h))
+  passing-passes i (suc n) k h = by (tested (test i)) (passing-passes (suc i) n) k h
+    where
+      wider : (j : ℕ) → Passes (suc i) n j → Passes i (suc n) j
+      wider j w = record { from = omega (arith, w .from); to = omega (arith, w .to); passes = w .passes }
+
+      by : Tested (test i) → ((l : ℕ) → l < length (passing test (suc i) n) → Passes (suc i) n (getD (passing test (suc i) n) l 0))
+          → (l : ℕ) → l < length (passing test i (suc n)) → Passes i (suc n) (getD (passing test i (suc n)) l 0)
+      by (failed e) later l =
+          subst⁻¹ (λ (s : List ℕ). l < length s → Passes i (suc n) (getD s l 0)) (passing-miss i n e) (λ w. wider (getD (passing test (suc i) n) l 0) (later l w))
+      by (passed e) later zero =
+          subst⁻¹ (λ (s : List ℕ). 0 < length s → Passes i (suc n) (getD s 0 0)) (passing-hit i n e)
+          (λ w. record { from = omega arith; to = omega arith; passes = e })
+      by (passed e) later (suc l) =
+          subst⁻¹ (λ (s : List ℕ). suc l < length s → Passes i (suc n) (getD s (suc l) 0)) (passing-hit i n e)
+          (λ w. wider (getD (passing test (suc i) n) l 0) (later l (omega (arith, w))))
+
+  -- they rise
+  pub passing-rises : (i n k : ℕ) → suc k < length (passing test i n) → getD (passing test i n) k 0 < getD (passing test i n) (suc k) 0
+  unfolding passing
+  passing-rises i zero k h = absurd (omega (arith, h))
+  passing-rises i (suc n) k h = by (tested (test i)) (passing-rises (suc i) n) k h
+    where
+      by : Tested (test i)
+          → ((l : ℕ) → suc l < length (passing test (suc i) n) → getD (passing test (suc i) n) l 0 < getD (passing test (suc i) n) (suc l) 0)
+          → (l : ℕ) → suc l < length (passing test i (suc n)) → getD (passing test i (suc n)) l 0 < getD (passing test i (suc n)) (suc l) 0
+      by (failed e) later l = subst⁻¹ (λ (s : List ℕ). suc l < length s → getD s l 0 < getD s (suc l) 0) (passing-miss i n e) (later l)
+      by (passed e) later zero =
+          subst⁻¹ (λ (s : List ℕ). 1 < length s → getD s 0 0 < getD s 1 0) (passing-hit i n e)
+          (λ w. omega (arith, passing-passes (suc i) n 0 (omega (arith, w)) .from))
+      by (passed e) later (suc l) =
+          subst⁻¹ (λ (s : List ℕ). suc (suc l) < length s → getD s (suc l) 0 < getD s (suc (suc l)) 0) (passing-hit i n e) (λ w. later l (omega (arith, w)))
+
+  -- and none that passes is left out: it is the k-th, counted from 0
+  pub record Listed (i n j : ℕ) : Type 0 where
+    pub which : ℕ
+    pub within : which < length (passing test i n)
+    pub there : getD (passing test i n) which 0 ≡ j
+
+  pub passing-lists : (i n j : ℕ) → Passes i n j → Listed i n j
+  unfolding passing
+  passing-lists i zero j w = absurd (omega (arith, w .from, w .to))
+  passing-lists i (suc n) j w = by (tested (test i)) (less-or-not i j) (passing-lists (suc i) n j)
+    where
+      by : Tested (test i) → (i < j) ⊎ (j ≤ i) → (Passes (suc i) n j → Listed (suc i) n j) → Listed i (suc n) j
+      by (passed e) (inl h) later =
+          let l = later (record { from = omega (arith, h); to = omega (arith, w .to); passes = w .passes }) in
+          record {
+            which = suc (l .which);
+            within = omega (arith, l .within, ap length (passing-hit i n e));
+            there = ap (λ (s : List ℕ). getD s (suc (l .which)) 0) (passing-hit i n e) ∙ l .there;
+          }
+      by (failed e) (inl h) later =
+          let l = later (record { from = omega (arith, h); to = omega (arith, w .to); passes = w .passes }) in
+          record {
+            which = l .which;
+            within = omega (arith, l .within, ap length (passing-miss i n e));
+            there = ap (λ (s : List ℕ). getD s (l .which) 0) (passing-miss i n e) ∙ l .there;
+          }
+      by (passed e) (inr h) later =
+          record {
+            which = 0;
+            within = omega (arith, ap length (passing-hit i n e));
+            there = ap (λ (s : List ℕ). getD s 0 0) (passing-hit i n e) ∙ omega (arith, h, w .from);
+          }
+      by (failed e) (inr h) later =
+          absurd (never-both (w .passes) (ap test (let q : j ≡ i = omega (arith, h, w .from) in q) ∙ e))
 
   -- the first one, or none
   pub data Passed (i n : ℕ) : Type 0 where

@@ -61,6 +61,9 @@ pub or-second : (s : Bool) {t : Bool} → t ≡ true → (s || t) ≡ true
 or-second true h = refl
 or-second false h = h
 
+pub or-fails : {s t : Bool} → s ≡ false → t ≡ false → (s || t) ≡ false
+or-fails h k = rw (h, k)
+
 pub or-cases : (s t : Bool) → (s || t) ≡ true → (s ≡ true) ⊎ (t ≡ true)
 or-cases true t h = inl refl
 or-cases false t h = inr h

@@ -11,7 +11,7 @@ use Rattle.table.specs.declared.Card.{Card}
 use Rattle.table.specs.Lent.{Lent}
 use Rattle.look.specs.declared.leaf.Sought.{Sought}
 use Rattle.look.specs.declared.leaf.Place.{Place}
-use Rattle.look.specs.Looking.{soughtNumber}
+use Rattle.look.specs.Looking.{soughtNumber, isOrder}
 use Rattle.look.specs.Matches.{lookedUp}
 use Rattle.look.specs.inner.Searching.{soughtIn, soughtInSegment, rowAfter, sameOrder}
 
@@ -36,3 +36,6 @@ next-row rows count after kind owner r s h k = only-one h k
 
 pub same-order : (t : Lent) (row : ℕ) (u : Lent) (other : ℕ) (r s : Bool) → r ≡ sameOrder t row u other → s ≡ sameOrder t row u other → r ≡ s
 same-order t row u other r s h k = only-one h k
+
+pub is-order : (rows : List ℕ) (count row : ℕ) (r s : Bool) → r ≡ isOrder rows count row → s ≡ isOrder rows count row → r ≡ s
+is-order rows count row r s h k = only-one h k

@@ -79,7 +79,7 @@ fn order_text(
     Sought::NotThere
 }
 
-// Whether a row is one of so many counted rows and an OBR.
+// Whether a row is one of so many counted rows and an OBR. Row 0, a row past the count, and a count past the segment rows are no.
 pub fn is_order(segments: &[rows::Entry], count: usize, row: rows::Entry) -> bool
     ensures { λ r. ⌜ r ≡ isOrder (now (segments .entry)) count row ⌝ }
 {

@@ -10,12 +10,12 @@ pub const ROWS: usize = 14400;
 // Bytes are filled in modulo the one; row numbers are filled in, and sums are taken, modulo the other.
 const SMALL: usize = 251;
 
-const LARGE: usize = 65521;
+pub const LARGE: usize = 65521;
 
 // How much more each next element of a filled buffer is, of bytes and of row numbers.
 const BYTE_STEP: usize = 7;
 
-const NUMBER_STEP: usize = 13;
+pub const NUMBER_STEP: usize = 13;
 
 // As many elements of a buffer as a case asks for, and all where it asks for more.
 pub fn least(asked: usize, all: usize) -> usize
@@ -47,11 +47,12 @@ pub fn sum_numbers(numbers: &[Entry]) -> usize {
 }
 
 // The sum with one element more. A sum stays below its modulus; that it is taken once more spares a proof of it.
-fn summed(sum: usize, element: Entry) -> usize {
+pub fn summed(sum: usize, element: Entry) -> usize {
     (31 * (sum % LARGE) + element as usize + 1) % LARGE
 }
 
-fn wide(b: u8) -> Entry {
+// A byte as an element.
+pub fn wide(b: u8) -> Entry {
     b as Entry
 }
 

@@ -16,10 +16,16 @@ const FIRST: Entry = 17;
 
 const BASE: usize = 16;
 
-// The digits for a row of numbers and for bytes, whose counts come first. A smaller digit is for so many numbers.
+// The digits for a row of numbers and for bytes, whose counts come first, and for the bytes of a whole number with its sign. A smaller digit
+// is for so many numbers.
 const ROW: usize = 0xA;
 
 const BYTES: usize = 0xB;
+
+const WHOLE: usize = 0xC;
+
+// How many bytes a whole number with its sign has.
+pub const WHOLE_BYTES: u8 = 8;
 
 // Takes in the pieces that the digits of a number say, the lowest first. False where the input ends before they do, one is past the
 // format's sizes, or there are none.
@@ -45,6 +51,7 @@ fn piece(kind: usize, from: usize, numbers: &mut [Entry; ROOM], bytes: &mut [u8;
     match kind {
         BYTES => bytes_in(bytes, from, number()),
         ROW => numbers_in(numbers, from, number()),
+        WHOLE => bytes_in(bytes, from, WHOLE_BYTES as usize),
         _ => numbers_in(numbers, from, kind),
     }
 }
@@ -52,6 +59,11 @@ fn piece(kind: usize, from: usize, numbers: &mut [Entry; ROOM], bytes: &mut [u8;
 // Number i of piece k.
 pub fn number_at(numbers: &[Entry; ROOM], k: u8, i: u8) -> Entry {
     numbers[wide(numbers[k as usize]) + i as usize]
+}
+
+// Byte i of piece k.
+pub fn byte_at(numbers: &[Entry; ROOM], bytes: &[u8; ROOM], k: u8, i: u8) -> u8 {
+    bytes[wide(numbers[k as usize]) + i as usize]
 }
 
 // The row of numbers that piece k is.

@@ -1,7 +1,7 @@
 -- The columns of the segment rows (T2): each row of a table has its segment's kind, its owner (O2, O3), the number of its first leaf and its
 -- leaf count.
 -- Assumes nothing.
-use mathlib.Core.List.{List, [], _∷_, _++_, map, reverse}
+use mathlib.Core.List.{List, [], _∷_, _++_, reverse}
 use mathlib.Core.Path.{_≡_, refl, sym, ap, _∙_}
 use Prim.Native.Nat.{ℕ, zero, suc, _+_, _*_, _≤_, _<_}
 use native.Mathlib.Nat.{le-of-suc-le-suc, not-suc-le-zero}
@@ -9,6 +9,7 @@ use native.Mathlib.Omega.{arith}
 use lib.ListN.{length, take, getD, length-append}
 use lib.Seq.{sets, getD-append-add}
 use Rattle.laws.specs.Lists.{concat}
+use Rattle.laws.proofs.Lists.{getD-map}
 use Rattle.form.specs.declared.separators.Separators.{Separators}
 use Rattle.order.specs.Owners.{owner, owners}
 use Rattle.order.proofs.Owner.{owners-at, length-owners}
@@ -16,12 +17,6 @@ use Rattle.table.specs.Leaves.{Leaf, kindOfSegment, messageLeaves}
 use Rattle.table.specs.Rows.{segmentRowSize, Next, noneBefore, nextAfter, rowNext, segmentRowsFrom, RowIs, kindsOf, contextIn, tableOf, RowOf}
 use Rattle.table.proofs.RowsGrowing.{length-kinds, length-messageLeaves, length-segmentRows}
 use Rattle.table.proofs.Room.{front-at}
-
--- what f makes of the element at a place
-getD-map : {A : Type 0} (f : A → ℕ) (s : List A) (i : ℕ) (d : A) → i < length s → getD (map f s) i 0 ≡ f (getD s i d)
-getD-map f [] i d h = absurd (not-suc-le-zero h)
-getD-map f (a ∷ s) zero d h = refl
-getD-map f (a ∷ s) (suc i) d h = getD-map f s i d (le-of-suc-le-suc h)
 
 -- past one row
 past-row : (row rows : List ℕ) → length row ≡ segmentRowSize → (m n : ℕ) → m ≡ segmentRowSize + n → getD (row ++ rows) m 0 ≡ getD rows n 0
@@ -57,7 +52,7 @@ module _ (levels : ℕ → ℕ → ℕ) (ps : Separators) (segs : List (List ℕ
 
   kind-at : (i : ℕ) → i < length segs → getD (kindsOf ps segs) i 0 ≡ kindOfSegment ps (getD segs i [])
   unfolding kindsOf
-  kind-at i h = getD-map (kindOfSegment ps) segs i [] h
+  kind-at i h = getD-map (kindOfSegment ps) segs i [] 0 h
 
   pub table-rows : (i : ℕ) → i < length segs → RowOf levels ps segs (tableOf levels ps segs .segmentRows) i
   unfolding tableOf

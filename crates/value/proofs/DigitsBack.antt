@@ -14,7 +14,7 @@ use borrow.Author.Tests.{eqb-true}
 use Rattle.laws.proofs.Tests.{Tested, passed, failed, tested}
 use Rattle.value.specs.Numerals.{allDigits, madeBy}
 use Rattle.value.specs.inner.Digits.{tenths, lastDigits, digitCount}
-use Rattle.value.proofs.NumberParts.{digit-from, digit-to, digit-within, digits-none, digits-also, digits-first, digits-others, digits-append, made-append}
+use Rattle.value.proofs.DigitTexts.{digit-from, digit-to, digit-within, digits-none, digits-also, digits-first, digits-others, digits-append, made-append}
 
 -- digits are left out one by one, from either end of the count, or some and then others
 pub tenths-none : (n : ℕ) → tenths 0 n ≡ n

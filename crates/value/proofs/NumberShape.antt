@@ -13,33 +13,25 @@ use borrow.Author.Tests.{ltb-true, lt-ltb, eqb-true, ne-eqb}
 use Rattle.laws.specs.Lists.{concat}
 use Rattle.laws.proofs.Cases.{equal-or-not}
 use Rattle.laws.proofs.Parts.{left-cons}
-use Rattle.laws.proofs.Tests.{Tested, passed, failed, tested, never-both, or-first, or-second}
+use Rattle.laws.proofs.Tests.{Tested, passed, failed, tested, never-both, or-first, or-second, or-fails}
 use Rattle.table.specs.Leaves.{split}
 use Rattle.table.proofs.Splitting.{firstPart, otherParts}
 use Rattle.value.specs.Numerals.{plus, minus, point, allDigits, unsigned, isNegative, areNumber, NumberText}
 use Rattle.value.specs.inner.Runs.{digitRun}
-use Rattle.value.proofs.NumberParts.{
+use Rattle.value.proofs.DigitTexts.{
   digit-no-plus,
   digit-no-minus,
   digits-first,
   digits-none,
   digits-broken,
-  split-digits,
-  split-pointed,
-  split-broken,
-  one-part,
-  two-parts,
-  first-part-broken,
   run-digits,
   run-then-rest,
   run-within,
   run-whole,
   run-ended,
-  behind-stopped,
-  unsigned-sign,
-  unsigned-none,
-  or-fails,
 }
+use Rattle.value.proofs.NumberParts.{split-digits, split-pointed, split-broken, one-part, two-parts, first-part-broken, behind-stopped}
+use Rattle.value.proofs.TextsSaid.{unsigned-sign, unsigned-none}
 
 -- what follows the whole digits: nothing, or a point and the decimals
 unfoldable pub behindPoint : List ℕ → List ℕ

@@ -10,7 +10,7 @@ use lib.ListN.{length, set, length-set}
 use lib.Seq.{sets}
 use Rattle.laws.proofs.Stores.{sets-first}
 use Rattle.laws.specs.Tables.{passing}
-use Rattle.laws.proofs.Passing.{FirstPassed}
+use Rattle.laws.proofs.Passing.{FirstPassed, length-passing}
 use Rattle.table.specs.Lent.{Lent}
 use Rattle.value.specs.declared.numeral.Numeral.{Numeral}
 use Rattle.value.specs.declared.reading.Value.{Value}
@@ -37,17 +37,17 @@ module _ (t : Lent) (order : ℕ) where
   resultsLeft from = passing (isNumeric t order) from (t .card .segments - from)
 
   -- a loop over them, before its turn from a row on, that has counted so many
-  pub record Counted (from count : ℕ) : Type 0 where
+  pub record ResultsSeen (from count : ℕ) : Type 0 where
     pub behind : order ≤ from
     pub within : from ≤ t .card .segments
     pub few : count ≤ from
     pub rest : count + length (resultsLeft from) ≡ length (numericRows t order)
 
-  pub counted-begins : OrderRows t order → Counted order 0
-  counted-begins rows =
+  pub seen-begins : OrderRows t order → ResultsSeen order 0
+  seen-begins rows =
       record { behind = omega arith; within = rows .counts; few = omega arith; rest = omega (arith, ap length (from-the-order t order rows)) }
 
-  module _ {from count : ℕ} (s : Counted from count) where
+  module _ {from count : ℕ} (s : ResultsSeen from count) where
     module _ {row : ℕ} (first : FirstPassed (isNumeric t order) from (t .card .segments) row) where
       left-is : resultsLeft from ≡ row ∷ resultsLeft (row + 1)
       left-is = first .rest ∙ ap (λ (n : ℕ). row ∷ passing (isNumeric t order) n (t .card .segments - n)) (sym (add-one row))
@@ -55,8 +55,8 @@ module _ (t : Lent) (order : ℕ) where
       pub one-left : suc count ≤ length (numericRows t order)
       one-left = omega (arith, s .rest, ap length left-is)
 
-      pub counted-on : Counted (row + 1) (count + 1)
-      counted-on =
+      pub seen-on : ResultsSeen (row + 1) (count + 1)
+      seen-on =
           record {
             behind = omega (arith, s .behind, first .later);
             within = omega (arith, first .within);
@@ -64,8 +64,13 @@ module _ (t : Lent) (order : ℕ) where
             rest = omega (arith, s .rest, ap length left-is);
           }
 
-    pub counted-done : resultsLeft from ≡ [] → count ≡ length (numericRows t order)
-    counted-done e = omega (arith, s .rest, ap length e)
+    pub seen-done : resultsLeft from ≡ [] → count ≡ length (numericRows t order)
+    seen-done e = omega (arith, s .rest, ap length e)
+
+-- an order has at most as many results as rows stand behind it
+pub results-few : (t : Lent) (order : ℕ) → OrderRows t order → length (numericRows t order) ≤ t .card .segments - order
+results-few t order rows =
+    omega (arith, ap length (from-the-order t order rows), length-passing (isNumeric t order) order (t .card .segments - order))
 
 -- the answer for a row
 abbrev pub answerAt : (most : ℕ) → Lent → ℕ → Value
@@ -98,7 +103,7 @@ module _ {A : Type 0} (part : Value → A) (answer : ℕ → Value) (all : List 
 -- all three parts of the answers of an order, before a turn from a row on that has put so many
 module _ (most : ℕ) (t : Lent) (order : ℕ) (numbers₀ : List ℕ) (wholes₀ : List ℤ) (decimals₀ : List ℕ) where
   pub record Answering (numbers : List ℕ) (wholes : List ℤ) (decimals : List ℕ) (count from : ℕ) : Type 0 where
-    pub counted : Counted t order from count
+    pub seen : ResultsSeen t order from count
     pub numbers-put : Putting (λ (v : Value). v .number) (answerAt most t) (numericRows t order) numbers₀ (resultsLeft t order from) numbers count
     pub wholes-put : Putting (λ (v : Value). v .whole) (answerAt most t) (numericRows t order) wholes₀ (resultsLeft t order from) wholes count
     pub decimals-put : Putting (λ (v : Value). v .decimals) (answerAt most t) (numericRows t order) decimals₀ (resultsLeft t order from) decimals count
@@ -107,7 +112,7 @@ module _ (most : ℕ) (t : Lent) (order : ℕ) (numbers₀ : List ℕ) (wholes�
   answering-begins rows =
       let all = from-the-order t order rows in
       record {
-        counted = counted-begins t order rows;
+        seen = seen-begins t order rows;
         numbers-put = putting-begins (λ (v : Value). v .number) (answerAt most t) (numericRows t order) numbers₀ (resultsLeft t order order) all;
         wholes-put = putting-begins (λ (v : Value). v .whole) (answerAt most t) (numericRows t order) wholes₀ (resultsLeft t order order) all;
         decimals-put = putting-begins (λ (v : Value). v .decimals) (answerAt most t) (numericRows t order) decimals₀ (resultsLeft t order order) all;
@@ -119,10 +124,10 @@ module _ (most : ℕ) (t : Lent) (order : ℕ) (numbers₀ : List ℕ) (wholes�
         → {whole : ℤ} → whole ≡ signedOf (n .negative) (n .magnitude)
         → Answering (set numbers count (n .number)) (set wholes count whole) (set decimals count (n .decimals)) (count + 1) (row + 1)
     answering-on {row} first {n} said signed =
-        let left = left-is t order (s .counted) first in
+        let left = left-is t order (s .seen) first in
         let is = ap withSign said in
         record {
-          counted = counted-on t order (s .counted) first;
+          seen = seen-on t order (s .seen) first;
           numbers-put =
               putting-on (λ (v : Value). v .number) (answerAt most t) (numericRows t order) numbers₀ (s .numbers-put) row (resultsLeft t order (row + 1)) left
               (ap (λ (v : Value). v .number) is);
@@ -134,9 +139,10 @@ module _ (most : ℕ) (t : Lent) (order : ℕ) (numbers₀ : List ℕ) (wholes�
               (ap (λ (v : Value). v .decimals) is);
         }
 
-    pub answering-done : resultsLeft t order from ≡ [] → PutValues most t order numbers₀ wholes₀ decimals₀ numbers wholes decimals
+    pub answering-done : resultsLeft t order from ≡ [] → PutValues most t order numbers₀ wholes₀ decimals₀ count numbers wholes decimals
     answering-done e =
         record {
+          counted = seen-done t order (s .seen) e;
           numbers-put = putting-done (λ (v : Value). v .number) (answerAt most t) (numericRows t order) numbers₀ (s .numbers-put) e;
           wholes-put = putting-done (λ (v : Value). v .whole) (answerAt most t) (numericRows t order) wholes₀ (s .wholes-put) e;
           decimals-put = putting-done (λ (v : Value). v .decimals) (answerAt most t) (numericRows t order) decimals₀ (s .decimals-put) e;

@@ -1,14 +1,12 @@
 -- The values of an order, by the tests in their order: no table, no order, room for fewer answers, and the answers.
 -- Assumes nothing.
-use mathlib.Core.Bool.{true, false, _&&_}
+use mathlib.Core.Bool.{true, false}
 use mathlib.Core.List.{List}
 use mathlib.Core.Path.{_≡_, refl, sym, ap, _∙_, subst⁻¹}
-use Prim.Native.Nat.{ℕ, _≤_, _<_}
-use borrow.Author.Tests.{le-leb, lt-leb}
+use Prim.Native.Nat.{ℕ}
 use lib.Dec.{leb}
 use lib.IntN.{ℤ}
 use lib.ListN.{length, length-map}
-use Rattle.laws.proofs.Tests.{and-both, and-fails-first, and-fails-second}
 use Rattle.form.specs.declared.limits.Limits.{Limits}
 use Rattle.form.specs.Numbers.{noTable}
 use Rattle.table.specs.Lent.{Lent}
@@ -21,7 +19,7 @@ use Rattle.value.specs.Results.{
   numericRows,
   resultOf,
   valuesOf,
-  hold,
+  places,
   Results,
   refusesValues,
   gives,
@@ -39,24 +37,6 @@ use Rattle.value.specs.inner.Seeking.{PutValues}
 pub length-values : (most : ℕ) (t : Lent) (order : ℕ) → length (valuesOf most t order) ≡ length (numericRows t order)
 length-values most t order = length-map (numericRows t order) (λ i. withSign (resultOf most t i))
 
--- room in each of the three buffers
-module _ (numbers wholes decimals count : ℕ) where
-  pub hold-all : count ≤ numbers → count ≤ wholes → count ≤ decimals → hold numbers wholes decimals count ≡ true
-  unfolding hold
-  hold-all h k l = and-both (and-both (le-leb count numbers h) (le-leb count wholes k)) (le-leb count decimals l)
-
-  pub few-numbers : numbers < count → hold numbers wholes decimals count ≡ false
-  unfolding hold
-  few-numbers h = and-fails-first (leb count decimals) (and-fails-first (leb count wholes) (lt-leb count numbers h))
-
-  pub few-wholes : wholes < count → hold numbers wholes decimals count ≡ false
-  unfolding hold
-  few-wholes h = and-fails-first (leb count decimals) (and-fails-second (leb count numbers) (lt-leb count wholes h))
-
-  pub few-decimals : decimals < count → hold numbers wholes decimals count ≡ false
-  unfolding hold
-  few-decimals h = and-fails-second (leb count numbers && leb count wholes) (lt-leb count decimals h)
-
 module _ (L : Limits) (levels : ℕ → ℕ → ℕ) (most : ℕ) (t : Lent) (order : ℕ) where
   module _ (numbers wholes decimals : ℕ) where
     abbrev outcome : Results
@@ -72,11 +52,11 @@ module _ (L : Limits) (levels : ℕ → ℕ → ℕ) (most : ℕ) (t : Lent) (or
       no-order e = rw (table, e, results)
 
       module _ (is-order : orderAt t order ≡ true) where
-        pub few-places : hold numbers wholes decimals (length (numericRows t order)) ≡ false → outcome ≡ refusesValues fewPlaces
+        pub few-places : leb (length (numericRows t order)) (places numbers wholes decimals) ≡ false → outcome ≡ refusesValues fewPlaces
         unfolding results
         few-places e = rw (table, is-order, e, results)
 
-        pub all-given : hold numbers wholes decimals (length (numericRows t order)) ≡ true → outcome ≡ gives (valuesOf most t order)
+        pub all-given : leb (length (numericRows t order)) (places numbers wholes decimals) ≡ true → outcome ≡ gives (valuesOf most t order)
         unfolding results
         all-given e = rw (table, is-order, e, results)
 
@@ -89,24 +69,22 @@ module _ (L : Limits) (levels : ℕ → ℕ → ℕ) (most : ℕ) (t : Lent) (or
         subst⁻¹ (λ (w : Results). GivesResults w numbers wholes decimals r numbers wholes decimals) e
         (record { answers = told; numbers-put = refl; wholes-put = refl; decimals-put = refl })
 
-    module _ (table : isTable L levels t ≡ true) (is-order : orderAt t order ≡ true) {count : ℕ} (counted : count ≡ length (numericRows t order)) where
-      pub values-few : hold (length numbers) (length wholes) (length decimals) count ≡ false → {r : ValuesRead}
+    module _ (table : isTable L levels t ≡ true) (is-order : orderAt t order ≡ true) where
+      pub values-few : leb (length (numericRows t order)) (places (length numbers) (length wholes) (length decimals)) ≡ false → {r : ValuesRead}
           → r ≡ resultsTold (refusesValues fewPlaces) → ReadValues L levels most t order numbers wholes decimals r numbers wholes decimals
-      values-few e = values-refused fewPlaces (few-places (length numbers) (length wholes) (length decimals) table is-order
-          (ap (hold (length numbers) (length wholes) (length decimals)) (sym counted) ∙ e))
+      values-few e = values-refused fewPlaces (few-places (length numbers) (length wholes) (length decimals) table is-order e)
 
-      pub values-put : count ≤ length numbers → count ≤ length wholes → count ≤ length decimals
-          → {numbers′ : List ℕ} {wholes′ : List ℤ} {decimals′ : List ℕ}
-          → PutValues most t order numbers wholes decimals numbers′ wholes′ decimals′
+      pub values-put : leb (length (numericRows t order)) (places (length numbers) (length wholes) (length decimals)) ≡ true
+          → {count : ℕ} {numbers′ : List ℕ} {wholes′ : List ℤ} {decimals′ : List ℕ}
+          → PutValues most t order numbers wholes decimals count numbers′ wholes′ decimals′
           → ReadValues L levels most t order numbers wholes decimals (record { number = 0; place = 0; count = count }) numbers′ wholes′ decimals′
       unfolding resultsTold numbersAfter wholesAfter decimalsAfter
-      values-put h k l {numbers′} {wholes′} {decimals′} put =
+      values-put e {count} {numbers′} {wholes′} {decimals′} put =
           subst⁻¹ (λ (w : Results). GivesResults w numbers wholes decimals (record { number = 0; place = 0; count = count }) numbers′ wholes′ decimals′)
-          (all-given (length numbers) (length wholes) (length decimals) table is-order
-          (ap (hold (length numbers) (length wholes) (length decimals)) (sym counted) ∙ hold-all (length numbers) (length wholes) (length decimals) count h k l))
+          (all-given (length numbers) (length wholes) (length decimals) table is-order e)
           (record {
             answers =
-                ap {B = ValuesRead} (λ (n : ℕ). record { number = 0; place = 0; count = n }) (counted ∙ sym (length-values most t order));
+                ap {B = ValuesRead} (λ (n : ℕ). record { number = 0; place = 0; count = n }) (put .counted ∙ sym (length-values most t order));
             numbers-put = put .numbers-put;
             wholes-put = put .wholes-put;
             decimals-put = put .decimals-put;

@@ -13,7 +13,8 @@ use Rattle.laws.proofs.Parts.{left-cons}
 use Rattle.value.specs.declared.numeral.Run.{Run}
 use Rattle.value.specs.Numerals.{mostDigits, plus, minus, isDigit}
 use Rattle.value.specs.inner.Runs.{signOf, digitRun, withDigit, withDigits, runFrom}
-use Rattle.value.proofs.NumberParts.{sign-minus, sign-plus, sign-none, run-none, run-more, run-stop}
+use Rattle.value.proofs.TextsSaid.{sign-minus, sign-plus, sign-none}
+use Rattle.value.proofs.DigitTexts.{run-none, run-more, run-stop}
 
 -- a byte below 0, and one from 0 on
 module _ (b : ℕ) where

@@ -1,240 +1,36 @@
 -- The shortest text of a value (rules D4 and D5): it reads to the value, no text that does is shorter, and no other of its length does. A value
--- has a text exactly if it is in range, the text has room, and 0 has no minus.
+-- has a text exactly if it is in range, and the text has room.
 -- Assumes nothing.
 use mathlib.Core.Bool.{Bool, true, false}
 use mathlib.Core.List.{List, [], _∷_, _++_, append-nil}
-use mathlib.Core.Logic.{_⊎_, inl, inr, _↔_}
+use mathlib.Core.Logic.{_↔_}
 use mathlib.Core.Path.{_≡_, refl, sym, ap, ap₂, _∙_}
 use Prim.Native.Nat.{ℕ, zero, suc, _+_, _-_, _^_, _≤_, _<_}
 use native.Mathlib.Nat.{le-trans}
 use native.Mathlib.Omega.{arith}
 use lib.Dec.{ltb, leb}
-use lib.IntN.{ℤ, pos, negsuc, natAbs}
-use lib.ListN.{length, getD, length-append}
+use lib.IntN.{ℤ, pos, natAbs}
+use lib.ListN.{length, length-append}
 use lib.Signed.{ltZ}
-use borrow.Author.Tests.{ltb-true, lt-ltb, le-ltb, leb-true, le-leb, eqb-false}
-use Rattle.laws.specs.Lists.{concat}
-use Rattle.laws.proofs.Cases.{less-or-not}
-use Rattle.laws.proofs.Tests.{Tested, passed, failed, tested, and-first, and-second, and-both}
-use Rattle.table.specs.Leaves.{split}
-use Rattle.value.specs.declared.numeral.Numeral.{Numeral}
-use Rattle.value.specs.declared.reading.Value.{Value}
-use Rattle.value.specs.Refusals.{notANumber, manyDigits}
-use Rattle.value.specs.Numerals.{plus, minus, point, allDigits, unsigned, isNegative, areNumber, madeBy, saysNone, saidBy, numeralOf}
-use Rattle.value.specs.Values.{signedOf, withSign, valueOf, ReadsTo, Shortest}
+use borrow.Author.Tests.{ltb-true, lt-ltb, le-ltb, leb-true, le-leb}
+use Rattle.laws.proofs.Tests.{and-first, and-second, and-both}
+use Rattle.value.specs.Numerals.{minus, point, allDigits, madeBy}
+use Rattle.value.specs.Values.{signedOf, ReadsTo, Shortest}
 use Rattle.value.specs.Writing.{inRange, longestText}
-use Rattle.value.specs.inner.Digits.{tenths, lastDigits, digitCount}
-use Rattle.value.specs.inner.Shortening.{greaterOf, digitsFor, signText, pointed, digitText, textFor, shortestText}
+use Rattle.value.specs.inner.Digits.{tenths, lastDigits}
+use Rattle.value.specs.inner.Shortening.{digitsFor, signText, pointed, digitText, textFor, shortestText}
 use Rattle.value.specs.inner.Signs.{apart}
-use Rattle.value.proofs.NumberParts.{digits-append, made-append, made-below, power-within, said-none, said-many, said-number}
-use Rattle.value.proofs.DigitsBack.{
-  last-length,
-  last-digits,
-  last-first,
-  last-add,
-  made-last,
-  tenths-made,
-  last-made,
-  below-tenths,
-  tenths-below,
-  count-most,
-  count-enough,
-  count-least,
-}
-use Rattle.value.proofs.NumberShape.{
-  behindPoint,
-  BareNumber,
-  bare-parts,
-  number-bare,
-  bare-unsigned,
-  bare-apart,
-  SignIs,
-  no-sign,
-  a-plus,
-  a-minus,
-  parted,
-}
-
--- a sign put on leaves the magnitude, and what is taken apart is put together again
-pub signed-magnitude : (negative : Bool) (m : ℕ) → natAbs (signedOf negative m) ≡ m
-unfolding signedOf
-signed-magnitude false m = refl
-signed-magnitude true zero = refl
-signed-magnitude true (suc m) = refl
-
-pub apart-signed : (z : ℤ) → signedOf (apart z .negative) (natAbs z) ≡ z
-unfolding signedOf apart
-apart-signed (pos n) = rw (le-ltb n 0 (omega arith))
-apart-signed (negsuc n) = refl
-
--- the greater of two numbers, and how many digits are written
-module _ (a b : ℕ) where
-  greater-second-is : a < b → greaterOf a b ≡ b
-  unfolding greaterOf
-  greater-second-is h = rw (lt-ltb a b h, greaterOf)
-
-  greater-first-is : b ≤ a → greaterOf a b ≡ a
-  unfolding greaterOf
-  greater-first-is h = rw (le-ltb a b h, greaterOf)
-
-  greater-both : (a ≤ greaterOf a b) × (b ≤ greaterOf a b)
-  greater-both = go (less-or-not a b)
-    where
-      go : (a < b) ⊎ (b ≤ a) → (a ≤ greaterOf a b) × (b ≤ greaterOf a b)
-      go (inl h) = (omega (arith, greater-second-is h), omega (arith, greater-second-is h))
-      go (inr h) = (omega (arith, greater-first-is h), omega (arith, greater-first-is h))
-
-  greater-least : (c : ℕ) → a ≤ c → b ≤ c → greaterOf a b ≤ c
-  greater-least c h k = go (less-or-not a b)
-    where
-      go : (a < b) ⊎ (b ≤ a) → greaterOf a b ≤ c
-      go (inl l) = omega (arith, greater-second-is l)
-      go (inr l) = omega (arith, greater-first-is l)
-
-module _ (most n d : ℕ) where
-  pub written-count : digitCount most n ≤ digitsFor most n d
-  unfolding digitsFor
-  written-count =
-      le-trans (greater-both (digitCount most n) d .0) (greater-both (greaterOf (digitCount most n) d) 1 .0)
-
-  pub written-decimals : d ≤ digitsFor most n d
-  unfolding digitsFor
-  written-decimals =
-      le-trans (greater-both (digitCount most n) d .1) (greater-both (greaterOf (digitCount most n) d) 1 .0)
-
-  pub written-one : 1 ≤ digitsFor most n d
-  unfolding digitsFor
-  written-one = greater-both (greaterOf (digitCount most n) d) 1 .1
-
-  pub written-least : (k : ℕ) → digitCount most n ≤ k → d ≤ k → 1 ≤ k → digitsFor most n d ≤ k
-  unfolding digitsFor
-  written-least k h i j = greater-least (greaterOf (digitCount most n) d) 1 k (greater-least (digitCount most n) d k h i) j
-
-  -- they bring the number to 0
-  pub written-enough : n < 10 ^ most → tenths (digitsFor most n d) n ≡ 0
-  written-enough h =
-      below-tenths (digitsFor most n d) n
-      (le-trans (tenths-below (digitCount most n) n (count-enough most n h)) (power-within (digitCount most n) (digitsFor most n d) written-count))
-
--- how a text is spelt that reads to a value: a sign, digits, and as many decimals as the value has, which make the value's magnitude
-pub record Spelt (most : ℕ) (z : ℤ) (d : ℕ) (text : List ℕ) : Type 0 where
-  pub sign : List ℕ
-  pub negative : Bool
-  pub sign-is : SignIs sign negative
-  pub whole : List ℕ
-  pub decimals : List ℕ
-  pub whole-digits : allDigits whole ≡ true
-  pub decimal-digits : allDigits decimals ≡ true
-  pub some-digit : 1 ≤ length whole + length decimals
-  pub few : length whole + length decimals ≤ most
-  pub shape : text ≡ sign ++ (whole ++ behindPoint decimals)
-  pub value : signedOf negative (madeBy 0 (whole ++ decimals)) ≡ z
-  pub count : length decimals ≡ d
-
--- what a text's value is by what its parts say
-module _ (most : ℕ) (text : List ℕ) where
-  value-of : (n : Numeral) → saidBy most (isNegative text) (split point (unsigned text)) ≡ n → valueOf most text ≡ withSign n
-  unfolding valueOf numeralOf
-  value-of n e = ap withSign e
-
-  no-value : (number : ℕ) (z : ℤ) (d : ℕ) → valueOf most text ≡ withSign (saysNone (suc number)) → ReadsTo most z d text → ⊥
-  no-value number z d e h =
-      let clash : suc number ≡ 0 = sym (ap (λ (v : Value). v .number) e) ∙ ap (λ (v : Value). v .number) h in
-      let never : ⊥ = omega arith in
-      never
-
-  -- a text that reads to a value is spelt so, and what is spelt so reads to it
-  pub reads-spelt : (z : ℤ) (d : ℕ) → ReadsTo most z d text → Spelt most z d text
-  reads-spelt z d h = go (tested (areNumber parts)) (less-or-not most (length (concat parts)))
-    where
-      parts : List (List ℕ)
-      parts = split point (unsigned text)
-
-      spelt : areNumber parts ≡ true → length (concat parts) ≤ most → Spelt most z d text
-      spelt k few =
-          let n = number-bare (unsigned text) k in
-          let p = parted text in
-          let b = bare-parts (n .whole) (n .decimals) (n .whole-digits) (n .decimal-digits) (n .some-digit) in
-          let joined : concat parts ≡ n .whole ++ n .decimals = ap (λ (u : List ℕ). concat (split point u)) (n .shape) ∙ b .joined in
-          let second : getD parts 1 [] ≡ n .decimals = ap (λ (u : List ℕ). getD (split point u) 1 []) (n .shape) ∙ b .second in
-          let told = value-of _ (said-number most (isNegative text) parts k few) in
-          record {
-            sign = p .sign;
-            negative = isNegative text;
-            sign-is = p .is;
-            whole = n .whole;
-            decimals = n .decimals;
-            whole-digits = n .whole-digits;
-            decimal-digits = n .decimal-digits;
-            some-digit = n .some-digit;
-            few = omega (arith, few, ap length joined, length-append (n .whole) (n .decimals));
-            shape = p .text-is ∙ ap (λ (t : List ℕ). p .sign ++ t) (n .shape);
-            value =
-                ap (λ (s : List ℕ). signedOf (isNegative text) (madeBy 0 s)) (sym joined)
-                ∙ sym (ap (λ (v : Value). v .whole) told)
-                ∙ ap (λ (v : Value). v .whole) h;
-            count = ap length (sym second) ∙ sym (ap (λ (v : Value). v .decimals) told) ∙ ap (λ (v : Value). v .decimals) h;
-          }
-
-      go : Tested (areNumber parts) → (most < length (concat parts)) ⊎ (length (concat parts) ≤ most) → Spelt most z d text
-      go (failed k) few = absurd (no-value 19 z d (value-of (saysNone notANumber) (said-none most (isNegative text) parts k)) h)
-      go (passed k) (inl many) = absurd (no-value 20 z d (value-of (saysNone manyDigits) (said-many most (isNegative text) parts k many)) h)
-      go (passed k) (inr few) = spelt k few
-
-  pub spelt-reads : (z : ℤ) (d : ℕ) → Spelt most z d text → ReadsTo most z d text
-  spelt-reads z d s =
-      let u = s .whole ++ behindPoint s.decimals in
-      let b = bare-parts (s .whole) (s .decimals) (s .whole-digits) (s .decimal-digits) (s .some-digit) in
-      let bare : BareNumber u =
-      record {
-        whole = s .whole;
-        decimals = s .decimals;
-        whole-digits = s .whole-digits;
-        decimal-digits = s .decimal-digits;
-        some-digit = s .some-digit;
-        shape = refl;
-      } in
-      let off = bare-apart (s .sign-is) bare in
-      let parts : split point (unsigned text) ≡ split point u = ap (split point) (ap unsigned (s .shape) ∙ off .0) in
-      let negative : isNegative text ≡ s .negative = ap isNegative (s .shape) ∙ off .1 in
-      value-of _
-      (ap₂ (λ (n : Bool) (ps : List (List ℕ)). saidBy most n ps) negative parts
-      ∙ said-number most (s .negative) (split point u) (b .number)
-      (omega (arith, s .few, ap length (b .joined), length-append (s .whole) (s .decimals))))
-      ∙ ap₂ {C = Value} (λ (w : ℤ) (k : ℕ). record { number = 0; whole = w; decimals = k })
-      (ap (λ (t : List ℕ). signedOf (s .negative) (madeBy 0 t)) (b .joined) ∙ s .value)
-      (ap length (b .second) ∙ s .count)
-
--- the bytes of a point, where there are decimals
-unfoldable pointBytes : ℕ → ℕ
-pointBytes zero = 0
-pointBytes (suc d) = 1
-
-point-one : (d : ℕ) → pointBytes d ≤ 1
-unfolding pointBytes
-point-one zero = omega arith
-point-one (suc d) = omega arith
-
-ending-length : (s : List ℕ) → length (behindPoint s) ≡ pointBytes (length s) + length s
-unfolding behindPoint pointBytes
-ending-length [] = refl
-ending-length (b ∷ s) = omega arith
-
-spelt-length : (sign whole decimals : List ℕ)
-    → length (sign ++ (whole ++ behindPoint decimals)) ≡ length sign + (length whole + (pointBytes (length decimals) + length decimals))
-spelt-length sign whole decimals =
-    omega (
-      arith,
-      length-append sign (whole ++ behindPoint decimals),
-      length-append whole (behindPoint decimals),
-      ending-length decimals,
-    )
+use Rattle.value.proofs.DigitTexts.{digits-append, made-append, made-below, power-within}
+use Rattle.value.proofs.DigitsBack.{last-length, last-digits, last-first, last-add, made-last, tenths-made, last-made, count-most, count-least}
+use Rattle.value.proofs.NumberShape.{behindPoint, SignIs, no-sign, a-plus, a-minus}
+use Rattle.value.proofs.WrittenDigits.{apart-signed, signed-magnitude, written-decimals, written-enough, written-least, written-one}
+use Rattle.value.proofs.SpeltTexts.{Spelt, point-one, pointBytes, spelt-length, spelt-reads, reads-spelt}
 
 -- the shortest text, spelt: its sign, its digits before the point and its decimals
-abbrev wholeWritten : ℕ → ℤ → ℕ → List ℕ
+abbrev pub wholeWritten : ℕ → ℤ → ℕ → List ℕ
 wholeWritten most z d = lastDigits (digitsFor most (natAbs z) d - d) (tenths d (natAbs z))
 
-abbrev decimalsWritten : ℤ → ℕ → List ℕ
+abbrev pub decimalsWritten : ℤ → ℕ → List ℕ
 decimalsWritten z d = lastDigits d (natAbs z)
 
 point-behind : (d n : ℕ) → point ∷ lastDigits (suc d) n ≡ behindPoint (lastDigits (suc d) n)
@@ -258,7 +54,7 @@ sign-one-byte true = omega arith
 sign-one-byte false = omega arith
 
 module _ (most : ℕ) (z : ℤ) (d : ℕ) where
-  shortest-shape : shortestText most z d ≡ signText (apart z .negative) ++ (wholeWritten most z d ++ behindPoint (decimalsWritten z d))
+  pub shortest-shape : shortestText most z d ≡ signText (apart z .negative) ++ (wholeWritten most z d ++ behindPoint (decimalsWritten z d))
   unfolding shortestText textFor apart
   shortest-shape =
       ap (λ (t : List ℕ). signText (ltZ z (pos 0)) ++ t) (digits-shaped (digitsFor most (natAbs z) d) d (natAbs z))
@@ -280,7 +76,7 @@ module _ (most : ℕ) (z : ℤ) (d : ℕ) where
         written-decimals most (natAbs z) d,
       )
 
-  some-written : 1 ≤ length (wholeWritten most z d) + length (decimalsWritten z d)
+  pub some-written : 1 ≤ length (wholeWritten most z d) + length (decimalsWritten z d)
   some-written =
       omega (
         arith,
@@ -344,7 +140,7 @@ only-sign m z a-minus e h = a-sign-minus (ltZ z (pos 0)) h
 
 -- what a text that reads to a value has at least, and what it is where it has no more
 module _ {most : ℕ} {z : ℤ} {d : ℕ} {text : List ℕ} (s : Spelt most z d text) where
-  spelt-magnitude : madeBy 0 (s .whole ++ s .decimals) ≡ natAbs z
+  pub spelt-magnitude : madeBy 0 (s .whole ++ s .decimals) ≡ natAbs z
   spelt-magnitude = sym (signed-magnitude (s .negative) (madeBy 0 (s .whole ++ s .decimals))) ∙ ap natAbs (s .value)
 
   joined-digits : allDigits (s .whole ++ s .decimals) ≡ true
@@ -453,41 +249,3 @@ module _ (most : ℕ) (one : 1 ≤ most) where
         point-one d,
         written-least most (natAbs z) d most (count-most most (natAbs z)) (range-decimals most z d h) one,
       )
-
--- a text without a sign, told by its first byte
-unsigned-text : {sign : List ℕ} {negative : Bool} (text u : List ℕ) → SignIs sign negative → text ≡ sign ++ u
-    → (getD text 0 0 ≡ plus → ⊥) → (getD text 0 0 ≡ minus → ⊥) → text ≡ u
-unsigned-text text u no-sign e p m = e
-unsigned-text text u a-plus e p m = absurd (p (ap (λ (t : List ℕ). getD t 0 0) e))
-unsigned-text text u a-minus e p m = absurd (m (ap (λ (t : List ℕ). getD t 0 0) e))
-
--- a minus before 0 gives 0, and the shortest text of 0 has none
-pub minus-zero : (most d : ℕ) (s : List ℕ) → (getD s 0 0 ≡ plus → ⊥) → (getD s 0 0 ≡ minus → ⊥) → ReadsTo most (pos 0) d s
-    → ReadsTo most (pos 0) d (minus ∷ s)
-unfolding signedOf
-minus-zero most d s p m h =
-    let t = reads-spelt most s (pos 0) d h in
-    spelt-reads most (minus ∷ s) (pos 0) d (
-    record {
-      sign = minus ∷ [];
-      negative = true;
-      sign-is = a-minus;
-      whole = t .whole;
-      decimals = t .decimals;
-      whole-digits = t .whole-digits;
-      decimal-digits = t .decimal-digits;
-      some-digit = t .some-digit;
-      few = t .few;
-      shape = ap {B = List ℕ} (λ (r : List ℕ). minus ∷ r) (unsigned-text s (t .whole ++ behindPoint (t .decimals)) (t .sign-is) (t .shape) p m);
-      value = ap (signedOf true) (spelt-magnitude t);
-      count = t .count;
-    }
-    )
-
-pub zero-no-minus : (most d : ℕ) → getD (shortestText most (pos 0) d) 0 0 ≡ minus → ⊥
-unfolding signText apart
-zero-no-minus most d e =
-    eqb-false (getD (wholeWritten most (pos 0) d ++ behindPoint (decimalsWritten (pos 0) d)) 0 0) minus
-    (bare-unsigned (wholeWritten most (pos 0) d) (decimalsWritten (pos 0) d)
-    (last-digits (digitsFor most (natAbs (pos 0)) d - d) (tenths d (natAbs (pos 0)))) (some-written most (pos 0) d) .1)
-    (sym (ap (λ (t : List ℕ). getD t 0 0) (shortest-shape most (pos 0) d)) ∙ e)

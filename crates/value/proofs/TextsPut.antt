@@ -10,9 +10,10 @@ use lib.Seq.{sets, length-sets}
 use Rattle.laws.proofs.Stores.{sets-behind, sets-in-front}
 use Rattle.value.specs.Numerals.{point}
 use Rattle.value.specs.inner.Digits.{tenths, lastDigits}
-use Rattle.value.specs.inner.Shortening.{digitsFor, signText, pointed, digitText, textFor, Writable, PutText}
+use Rattle.value.specs.inner.Shortening.{digitsFor, signText, pointed, digitText, textFor, Spellable, PutText}
 use Rattle.value.proofs.DigitsBack.{last-length, count-most}
-use Rattle.value.proofs.ShortestText.{sign-one-byte, written-decimals, written-least}
+use Rattle.value.proofs.ShortestText.{sign-one-byte}
+use Rattle.value.proofs.WrittenDigits.{written-decimals, written-least}
 
 -- the decimals, the point in front of them, and in front of that the digits of what is left
 pub pointed-stored : (digits decimals magnitude at : ℕ) (output : List ℕ) {one rest two three : _}
@@ -55,7 +56,7 @@ unfolding digitText
 digit-text-pointed digits zero magnitude n = absurd (n refl)
 digit-text-pointed digits (suc d) magnitude n = refl
 
-module _ (most : ℕ) (one : 1 ≤ most) (negative : Bool) (magnitude decimals : ℕ) (output : List ℕ) (w : Writable most magnitude decimals output)
+module _ (most : ℕ) (one : 1 ≤ most) (negative : Bool) (magnitude decimals : ℕ) (output : List ℕ) (w : Spellable most magnitude decimals output)
     {digits : ℕ} (counted : digits ≡ digitsFor most magnitude decimals) where
   pub digits-fit : digits ≤ most
   digits-fit = omega (arith, counted, written-least most magnitude decimals most (count-most most magnitude) (w .decimals-few) one)

@@ -12,18 +12,8 @@ use Rattle.value.specs.declared.numeral.Sign.{Sign}
 use Rattle.value.specs.Refusals.{notANumber}
 use Rattle.value.specs.Numerals.{mostDigits, point, saysNone, numeralOf}
 use Rattle.value.specs.inner.Runs.{signOf, withDigits, runFrom, judgedDigits}
-use Rattle.value.proofs.NumberParts.{
-  sign-within,
-  run-within,
-  wholeRun,
-  wholeEnd,
-  behindRun,
-  whole-within,
-  read-whole,
-  read-stopped,
-  read-pointed,
-  read-pointed-stopped,
-}
+use Rattle.value.proofs.TextsSaid.{sign-within, wholeRun, wholeEnd, behindRun, whole-within, read-whole, read-stopped, read-pointed, read-pointed-stopped}
+use Rattle.value.proofs.DigitTexts.{run-within}
 
 -- the sign and the digits behind it
 pub record WholeRead (text : List ℕ) (sign : Sign) (whole : Run) : Type 0 where

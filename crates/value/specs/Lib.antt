@@ -4,3 +4,5 @@ pub mod Values
 pub mod Writing
 pub mod Results
 pub mod inner
+pub mod Promises
+pub mod Examples

@@ -3,7 +3,7 @@
 use mathlib.Core.Bool.{Bool, true, false, _&&_}
 use mathlib.Core.List.{List, [], _∷_, map}
 use mathlib.Core.Path.{_≡_}
-use Prim.Native.Nat.{ℕ, suc}
+use Prim.Native.Nat.{ℕ, suc, min}
 use lib.Dec.{leb, eqb}
 use lib.IntN.{ℤ}
 use lib.ListN.{length, getD, take, drop}
@@ -78,9 +78,9 @@ pub data Results : Type 0 where
   refusesValues : (number : ℕ) → Results
   gives : (values : List Value) → Results
 
--- how many answers three buffers of these lengths hold: as many as each of them does
-unfoldable pub hold : (numbers wholes decimals : ℕ) → ℕ → Bool
-hold numbers wholes decimals count = leb count numbers && leb count wholes && leb count decimals
+-- how many answers three buffers of these lengths hold: as many as the shortest
+abbrev pub places : (numbers wholes decimals : ℕ) → ℕ
+places numbers wholes decimals = min (min numbers wholes) decimals
 
 -- the table is tested first, for 13, then the row, for 24, then the room, for 25 (D6)
 unfoldable pub results : Limits → (ℕ → ℕ → ℕ) → (most : ℕ) → Lent → (order : ℕ) → (numbers wholes decimals : ℕ) → Results
@@ -89,7 +89,7 @@ results L levels most t order numbers wholes decimals =
       | true ↦
           elim (orderAt t order) [
             | true ↦
-                elim (hold numbers wholes decimals (length (numericRows t order))) [
+                elim (leb (length (numericRows t order)) (places numbers wholes decimals)) [
                   | true ↦ gives (valuesOf most t order)
                   | false ↦ refusesValues fewPlaces
                 ]

@@ -8,7 +8,8 @@ use look::order::is_order;
 use table::Card;
 use table::rows;
 ghost use mathlib.Core.Path.{_≡_};
-ghost use Prim.Native.Nat.{_-_};
+ghost use Prim.Native.Nat.{_-_, min};
+ghost use lib.Dec.{leb};
 ghost use lib.ListN.{length, getD};
 ghost use Rattle.laws.specs.Tables.{passing};
 ghost use Rattle.form.specs.Limits.{form};
@@ -47,17 +48,11 @@ pub fn order_values(
     if !is_order(segments, card.segments, order) {
         return refusal(Refusal::NOT_AN_ORDER);
     }
-    let count = count_results(card, segments, leaves, text, order);
-    if numbers.len() < count {
+    let room = lesser(lesser(numbers.len(), wholes.len()), decimals.len());
+    if !has_room(card, segments, leaves, text, order, room) {
         return refusal(Refusal::FEW_PLACES);
     }
-    if wholes.len() < count {
-        return refusal(Refusal::FEW_PLACES);
-    }
-    if decimals.len() < count {
-        return refusal(Refusal::FEW_PLACES);
-    }
-    put_values(
+    let count = put_values(
         card,
         segments,
         leaves,
@@ -85,6 +80,35 @@ fn refusal(number: u8) -> ValuesRead
     }
 }
 
+// The lesser of two numbers.
+fn lesser(one: usize, other: usize) -> usize
+    ensures { λ r. ⌜ r ≡ min one other ⌝ }
+{
+    if one < other {
+        return one;
+    }
+    other
+}
+
+// Whether so many places do for all numeric results of an order. As many as there are rows behind it always do; only where there are fewer
+// are the results counted, so that whoever lends enough pays for no second pass.
+fn has_room(
+    card: Card,
+    segments: &[rows::Entry],
+    leaves: &[rows::Entry],
+    text: &[u8],
+    order: rows::Entry,
+    room: usize,
+) -> bool
+    requires { ⌜ OrderRows (lent card (now segments) (now leaves) (now text)) order ⌝ }
+    ensures { λ r. ⌜ r ≡ leb (length (numericRows (lent card (now (segments .entry)) (now (leaves .entry)) (now (text .entry))) order)) room ⌝ }
+{
+    if card.segments - rows::wide(order) <= room {
+        return true;
+    }
+    count_results(card, segments, leaves, text, order) <= room
+}
+
 // How many numeric results an order has.
 fn count_results(
     card: Card,
@@ -108,7 +132,7 @@ fn count_results(
     }
 }
 
-// Puts the answers of an order's numeric results at the front of the three buffers.
+// Puts the answers of an order's numeric results at the front of the three buffers, and answers how many there are.
 fn put_values(
     card: Card,
     segments: &[rows::Entry],
@@ -118,17 +142,17 @@ fn put_values(
     numbers: &mut [u8],
     wholes: &mut [i64],
     decimals: &mut [u8],
-)
+) -> usize
     requires { ⌜ Roomy (lent card (now segments) (now leaves) (now text)) order (now numbers) (now wholes) (now decimals) ⌝ }
-    ensures { λ _. ⌜ PutValues mostDigits (lent card (now (segments .entry)) (now (leaves .entry)) (now (text .entry))) order
-        (now (numbers .entry)) (now (wholes .entry)) (now (decimals .entry)) (now (numbers .exit)) (now (wholes .exit)) (now (decimals .exit)) ⌝ }
+    ensures { λ r. ⌜ PutValues mostDigits (lent card (now (segments .entry)) (now (leaves .entry)) (now (text .entry))) order
+        (now (numbers .entry)) (now (wholes .entry)) (now (decimals .entry)) r (now (numbers .exit)) (now (wholes .exit)) (now (decimals .exit)) ⌝ }
 {
     let mut count = 0;
     let mut from = rows::wide(order);
     loop {
         let row = next_result(card, segments, leaves, text, order, from);
         if row == card.segments {
-            return;
+            return count;
         }
         let said = result_of(card, segments, leaves, text, row);
         let whole = signed(said.negative, said.magnitude);

@@ -2,13 +2,14 @@
 -- Assumes nothing.
 use mathlib.Core.Bool.{true, _&&_}
 use mathlib.Core.List.{List}
-use mathlib.Core.Path.{_≡_, refl, ap, _∙_, subst⁻¹}
+use mathlib.Core.Path.{_≡_, refl, subst⁻¹}
 use Prim.Native.Nat.{ℕ, _+_, _*_, _≤_}
 use native.Mathlib.Omega.{arith}
-use lib.ListN.{length, take, drop}
-use lib.Seq.{sets, sets-eq, length-sets, take-at}
+use lib.ListN.{length}
+use lib.Seq.{sets, length-sets}
 use lib.Dec.{leb}
 use borrow.Author.Tests.{leb-true}
+use Rattle.laws.proofs.Stores.{front-taken}
 use Rattle.laws.proofs.Tests.{and-second}
 use Rattle.form.specs.declared.limits.Limits.{Limits}
 use Rattle.form.specs.Limits.{Lawful}
@@ -25,10 +26,6 @@ use Rattle.write.proofs.RoundTrip.{reads-back}
 use Rattle.write.proofs.RowByRow.{row-by-row}
 use Rattle.write.proofs.LocalTables.{stated-roomy, accepted-local}
 use Rattle.write.proofs.LentTables.{Within, within-buffers, local-within, is-table}
-
--- what is stored at the front is taken from there
-front-taken : (buffer front : List ℕ) (n : ℕ) → length front ≡ n → length front ≤ length buffer → take n (sets buffer 0 front) ≡ front
-front-taken buffer front n e fits = ap (take n) (sets-eq front buffer 0 (omega arith)) ∙ take-at front (drop (0 + length front) buffer) n e
 
 module _ (L : Limits) (lawful : Lawful L) (levels : ℕ → ℕ → ℕ) (message text segments leaves : List ℕ) (t : Table)
     (read : reading L levels (roomOf text segments leaves) message ≡ accepted t) where

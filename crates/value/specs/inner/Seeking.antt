@@ -68,9 +68,10 @@ pub record Roomy (t : Lent) (order : ℕ) (numbers : List ℕ) (wholes : List �
   pub wholes-hold : length (numericRows t order) ≤ length wholes
   pub decimals-hold : length (numericRows t order) ≤ length decimals
 
--- the answers of an order's results at the front of three buffers
-pub record PutValues (most : ℕ) (t : Lent) (order : ℕ) (numbers : List ℕ) (wholes : List ℤ) (decimals : List ℕ)
+-- the answers of an order's results at the front of three buffers, and how many they are
+pub record PutValues (most : ℕ) (t : Lent) (order : ℕ) (numbers : List ℕ) (wholes : List ℤ) (decimals : List ℕ) (r : ℕ)
     (numbers′ : List ℕ) (wholes′ : List ℤ) (decimals′ : List ℕ) : Type 0 where
+  pub counted : r ≡ length (numericRows t order)
   pub numbers-put : numbers′ ≡ sets numbers 0 (map (λ (v : Value). v .number) (valuesOf most t order))
   pub wholes-put : wholes′ ≡ sets wholes 0 (map (λ (v : Value). v .whole) (valuesOf most t order))
   pub decimals-put : decimals′ ≡ sets decimals 0 (map (λ (v : Value). v .decimals) (valuesOf most t order))

@@ -41,7 +41,7 @@ unfoldable pub shortestText : (most : ℕ) → ℤ → ℕ → List ℕ
 shortestText most whole decimals = textFor most (apart whole .negative) (apart whole .magnitude) decimals
 
 -- what the writing of a text asks: a number of so many digits, with so many decimals, and room for the longest
-pub record Writable (most magnitude decimals : ℕ) (output : List ℕ) : Type 0 where
+pub record Spellable (most magnitude decimals : ℕ) (output : List ℕ) : Type 0 where
   pub few : magnitude < 10 ^ most
   pub decimals-few : decimals ≤ most
   pub room : most + 2 ≤ length output

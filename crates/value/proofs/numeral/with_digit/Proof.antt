@@ -2,7 +2,7 @@
 -- Assumes nothing.
 use mathlib.Core.Path.{sym}
 use borrow.Author.Needs.{needs}
-use Rattle.value.proofs.NumberParts.{digit-from, with-digit-small}
+use Rattle.value.proofs.DigitTexts.{digit-from, with-digit-small}
 use Rattle.value.proofs.Runs.{digit-dropped}
 use Rattle.value.proofs.numeral.with_digit.Statement.{statement}
 use Rattle.value.proofs.numeral.with_digit.Tie as tie

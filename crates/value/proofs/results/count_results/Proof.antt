@@ -8,12 +8,12 @@ use borrow.Author.Needs.{needs}
 use Rattle.laws.proofs.Passing.{FirstPassed, found-first, found-none}
 use Rattle.table.specs.Lent.{Lent, lent}
 use Rattle.value.specs.Results.{isNumeric}
-use Rattle.value.proofs.ResultsPut.{Counted, counted-begins, counted-on, counted-done}
+use Rattle.value.proofs.ResultsPut.{ResultsSeen, seen-begins, seen-on, seen-done}
 use Rattle.value.proofs.results.count_results.Statement.{statement}
 use Rattle.value.proofs.results.count_results.Tie as tie
 
 abbrev Inv-loop : tie.InvT-loop
-Inv-loop card segments leaves text order count₀ from₀ count from = Counted (lent card segments leaves text) order from count
+Inv-loop card segments leaves text order count₀ from₀ count from = ResultsSeen (lent card segments leaves text) order from count
 
 abbrev μ-loop : tie.MeasureT-loop
 μ-loop card segments leaves text order count₀ from₀ count from = card .segments - from
@@ -42,7 +42,7 @@ wide-requires c κs = search needs
 loop-holds : tie.Need-loop-holds Inv-loop μ-loop
 loop-holds c =
     let start = c .before .before .before .before in
-    subst⁻¹ (λ (n : ℕ). Counted (lent-here start) (start .args .order) n 0) (c .wide .ensures .0) (counted-begins (lent-here start) (start .args .order) (start .pre))
+    subst⁻¹ (λ (n : ℕ). ResultsSeen (lent-here start) (start .args .order) n 0) (c .wide .ensures .0) (seen-begins (lent-here start) (start .args .order) (start .pre))
 
 next-result-requires : tie.Need-next-result-requires Inv-loop μ-loop
 next-result-requires c κs = record { rows = start-of c .pre; behind = c .loop .inv .behind; within = c .loop .inv .within }
@@ -52,7 +52,7 @@ returns c =
     let asked = c .before .before in
     let turn = asked .before in
     let start = start-of turn in
-    counted-done (lent-here start) (start .args .order) (turn .loop .inv)
+    seen-done (lent-here start) (start .args .order) (turn .loop .inv)
     (found-none (isNumeric (lent-here start) (start .args .order)) (turn .loop .from) (start .args .card .segments) (asked .next-result .result)
     (turn .loop .inv .within) (asked .next-result .ensures) (c .if1 .taken))
 
@@ -70,7 +70,7 @@ loop-less c = omega (arith, first-here c .within, first-here c .later)
 loop-again : tie.Need-loop-again Inv-loop μ-loop
 loop-again c =
     let turn = c .before .before .before in
-    counted-on (lent-here (start-of turn)) (start-of turn .args .order) (turn .loop .inv) (first-here c)
+    seen-on (lent-here (start-of turn)) (start-of turn .args .order) (turn .loop .inv) (first-here c)
 
 pub count-results-spec : {M : Type 1} → statement M
 count-results-spec =

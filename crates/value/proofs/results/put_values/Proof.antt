@@ -40,7 +40,7 @@ first-here c =
     let turn = asked .before in
     let start = start-of turn in
     found-first (isNumeric (lent-here start) (start .args .order)) (turn .loop .from) (start .args .card .segments) (asked .next-result .result)
-    (turn .loop .inv .counted .within) (asked .next-result .ensures) (c .if1 .left)
+    (turn .loop .inv .seen .within) (asked .next-result .ensures) (c .if1 .left)
 
 -- so there is one answer more to put
 more-here : (c : tie.Else1 Inv-loop μ-loop)
@@ -48,7 +48,7 @@ more-here : (c : tie.Else1 Inv-loop μ-loop)
     ≤ length (numericRows (lent-here (start-of (c .before .before .before))) (start-of (c .before .before .before) .args .order))
 more-here c =
     let turn = c .before .before .before in
-    one-left (lent-here (start-of turn)) (start-of turn .args .order) (turn .loop .inv .counted) (first-here c)
+    one-left (lent-here (start-of turn)) (start-of turn .args .order) (turn .loop .inv .seen) (first-here c)
 
 -- what the result says is small
 small-here : (c : tie.After-result-of Inv-loop μ-loop) → Small mostDigits (c .result-of .result)
@@ -70,7 +70,7 @@ loop-holds c =
 
 next-result-requires : tie.Need-next-result-requires Inv-loop μ-loop
 next-result-requires c κs =
-    record { rows = start-of c .pre .rows; behind = c .loop .inv .counted .behind; within = c .loop .inv .counted .within }
+    record { rows = start-of c .pre .rows; behind = c .loop .inv .seen .behind; within = c .loop .inv .seen .within }
 
 same-length : tie.Need-same-length Inv-loop μ-loop
 same-length c = c .before .before .before .loop .inv .numbers-put .kept
@@ -89,7 +89,7 @@ returns c =
     let a = start .args in
     answering-done mostDigits (lent-here start) (a .order) (a .numbers .now) (a .wholes .now) (a .decimals .now) (turn .loop .inv)
     (found-none (isNumeric (lent-here start) (a .order)) (turn .loop .from) (a .card .segments) (asked .next-result .result)
-    (turn .loop .inv .counted .within) (asked .next-result .ensures) (c .if1 .taken))
+    (turn .loop .inv .seen .within) (asked .next-result .ensures) (c .if1 .taken))
 
 result-of-requires : tie.Need-result-of-requires Inv-loop μ-loop
 result-of-requires c κs = record { table = start-of (c .before .before .before) .pre .rows .table; counts = first-here c .within }
@@ -107,7 +107,7 @@ mul-whole : tie.Need-mul-whole Inv-loop μ-loop
 mul-whole c =
     let here = c .before .before in
     let turn = here .before .before .before in
-    omega (arith, turn .loop .inv .counted .few, first-here here .later, first-here here .within, start-of turn .pre .rows .table .few)
+    omega (arith, turn .loop .inv .seen .few, first-here here .later, first-here here .within, start-of turn .pre .rows .table .few)
 
 slice-set-from-whole : tie.Need-slice-set-from-whole Inv-loop μ-loop
 slice-set-from-whole c =
@@ -127,7 +127,7 @@ slice-write-decimals c =
 add-count : tie.Need-add-count Inv-loop μ-loop
 add-count c =
     let here = c .before .before .before in
-    omega (arith, here .before .before .before .loop .inv .counted .few, first-here here .later, first-here here .within)
+    omega (arith, here .before .before .before .loop .inv .seen .few, first-here here .later, first-here here .within)
 
 add-from : tie.Need-add-from Inv-loop μ-loop
 add-from c = omega (arith, first-here (c .before .before .before) .within)
