@@ -10,8 +10,7 @@ use lib.Seq.{sets}
 use Rattle.form.specs.Limits.{form}
 use Rattle.form.specs.Numbers.{shortBuffer}
 use Rattle.order.specs.Owners.{level}
-use Rattle.table.specs.declared.Card.{Card}
-use Rattle.table.specs.Lent.{Lent, lent}
+use Rattle.table.specs.Lent.{Lent}
 use Rattle.value.specs.declared.reading.Value.{Value}
 use Rattle.value.specs.declared.results.ValuesRead.{ValuesRead}
 use Rattle.value.specs.declared.writing.ValueWritten.{ValueWritten}

@@ -8,7 +8,6 @@ use native.Mathlib.Omega.{arith}
 use lib.IntN.{ℤ, pos, negsuc}
 use lib.ListN.{length, getD}
 use Rattle.table.specs.Lent.{Lent}
-use Rattle.value.specs.declared.reading.Value.{Value}
 use Rattle.value.specs.Writing.{Spelling, refusesValue, spells, spellingTold, outputWith}
 use Rattle.value.specs.Results.{Results, refusesValues, gives, resultsTold, numbersAfter, wholesAfter, decimalsAfter}
 use Rattle.abi.specs.Putting.{putAll}

@@ -12,7 +12,7 @@ use lib.ListN.{length, getD, take, drop}
 use Rattle.laws.specs.Lists.{same}
 use Rattle.laws.specs.Tables.{passing}
 use Rattle.laws.specs.Texts.{bytes}
-use Rattle.laws.proofs.Lists.{same-self, different-same}
+use Rattle.laws.proofs.Lists.{different-same}
 use Rattle.laws.proofs.Passing.{passing-behind}
 use Rattle.laws.proofs.Tests.{Tested, passed, failed, tested, and-first, and-second, and-both, and-passed, and-fails-first, and-fails-second}
 use Rattle.table.specs.Lent.{Lent}

@@ -1,7 +1,7 @@
 -- The promises of numeric results hold: of one value for any count of digits from 1 on, of an order's numbers for any limits and levels.
 -- Assumes nothing.
-use mathlib.Core.Bool.{true, false, _&&_}
-use mathlib.Core.List.{List, _∷_, map}
+use mathlib.Core.Bool.{true, false}
+use mathlib.Core.List.{List, map}
 use mathlib.Core.Path.{_≡_, refl, sym, ap, _∙_, subst, subst⁻¹}
 use Prim.Native.Nat.{ℕ, _+_, _≤_, _<_}
 use native.Mathlib.Omega.{arith}
@@ -12,7 +12,7 @@ use lib.ListN.{length, getD, take, drop, length-map}
 use lib.Seq.{sets}
 use Rattle.laws.proofs.Passing.{passing-passes, passing-rises, passing-lists}
 use Rattle.laws.proofs.Stores.{front-taken, front-dropped, getD-sets-within, getD-sets-behind}
-use Rattle.laws.proofs.Tests.{Tested, passed, failed, tested, never-both, and-first, and-second}
+use Rattle.laws.proofs.Tests.{Tested, passed, failed, tested, never-both}
 use Rattle.form.specs.declared.limits.Limits.{Limits}
 use Rattle.laws.specs.Lists.{concat}
 use Rattle.laws.proofs.Lists.{getD-map}
@@ -43,7 +43,7 @@ use Rattle.value.specs.Results.{
   decimalsAfter,
   ReadValues,
 }
-use Rattle.value.specs.Promises.{OneValue, OrderNumbers, kthRow, kthAnswer}
+use Rattle.value.specs.Promises.{OneValue, OrderNumbers, kthAnswer}
 use Rattle.value.specs.inner.Shortening.{shortestText}
 use Rattle.value.proofs.NumberParts.{said-none, said-many, said-number}
 use Rattle.value.proofs.NumberShape.{number-exactly}

@@ -2,22 +2,16 @@
 -- minus before zeros; a writer that puts 0 before the point, leaves a zero out of the decimals, or takes the least of all numbers for a small one;
 -- an order's values that skip a result that fails, or take the value of a field that is several leaves.
 -- Assumes nothing.
-use mathlib.Core.Bool.{Bool, true, false, not, _&&_, _||_}
-use mathlib.Core.List.{List, [], _∷_, map}
-use mathlib.Core.Path.{_≡_, refl, sym, ap, _∙_}
+use mathlib.Core.List.{List}
+use mathlib.Core.Path.{_≡_, sym, ap, _∙_}
 use Prim.Native.Nat.{ℕ}
 use native.Mathlib.Omega.{arith}
 use lib.IntN.{ℤ, pos, negsuc}
-use lib.ListN.{length, getD, replicate}
-use Rattle.laws.specs.Lists.{same, concat}
-use Rattle.laws.specs.Tables.{passing}
+use lib.ListN.{replicate}
+use Rattle.laws.specs.Lists.{concat}
 use Rattle.laws.specs.Texts.{bytes}
-use Rattle.form.specs.Limits.{form}
-use Rattle.order.specs.Owners.{level}
-use Rattle.table.specs.Lent.{Lent}
 use Rattle.table.specs.Leaves.{onto, split}
 use Rattle.value.specs.declared.reading.Value.{Value}
-use Rattle.value.specs.declared.results.ValuesRead.{ValuesRead}
 use Rattle.value.specs.declared.writing.ValueWritten.{ValueWritten}
 use Rattle.value.specs.Numerals.{mostDigits, isDigit, allDigits, unsigned, isNegative, areNumber, madeBy, saidBy, numeralOf}
 use Rattle.value.specs.Values.{signedOf, valueOf}

@@ -1,19 +1,16 @@
 -- What the search for an order's results may count on, of every lent table that passes the table test (W4): each of its rows is that of a segment
 -- of some message (T2), its leaf texts lie within the counted text (T4), and what an order owns lies behind it and together (O2, O3).
 -- Assumes nothing.
-use mathlib.Core.Bool.{true, false, _&&_}
-use mathlib.Core.List.{List, [], _∷_}
+use mathlib.Core.Bool.{true, false}
+use mathlib.Core.List.{List, []}
 use mathlib.Core.Path.{_≡_, refl, sym, ap, _∙_, subst, subst⁻¹}
-use Prim.Native.Nat.{ℕ, zero, suc, _+_, _*_, _-_, _≤_, _<_}
+use Prim.Native.Nat.{ℕ, _+_, _*_, _-_, _≤_, _<_}
 use native.Mathlib.Omega.{arith}
-use borrow.Author.Tests.{leb-true, le-leb, lt-ltb, eqb-true}
-use lib.Dec.{leb, eqb}
-use lib.ListN.{length, take, getD, length-append}
+use lib.ListN.{length, take, getD}
 use lib.Seq.{getD-take}
 use Rattle.laws.specs.Lists.{concat}
 use Rattle.laws.proofs.Parts.{part-taken}
 use Rattle.laws.proofs.Sums.{part-within}
-use Rattle.laws.proofs.Tests.{and-first, and-second, and-both}
 use Rattle.form.specs.declared.limits.Limits.{Limits}
 use Rattle.form.specs.declared.separators.Separators.{Separators}
 use Rattle.form.specs.Limits.{Lawful}
@@ -50,9 +47,9 @@ use Rattle.table.proofs.RowsGrowing.{length-kinds}
 use Rattle.table.proofs.SegmentColumns.{rows-at}
 use Rattle.write.specs.inner.ReadsBack.{isTable}
 use Rattle.write.proofs.LentTables.{table-within, is-table, is-table-rows}
-use Rattle.look.specs.Looking.{inRun, isNamed, segmentsFit, isOrder, orderAt}
-use Rattle.look.proofs.Orders.{CountedOrder, order-is}
-use Rattle.look.proofs.Entries.{lentWhole, start-taken, length-taken, named-taken}
+use Rattle.look.specs.Looking.{isNamed, orderAt}
+use Rattle.look.proofs.Orders.{order-is}
+use Rattle.look.proofs.Entries.{start-taken, length-taken, named-taken}
 use Rattle.look.proofs.SameAnswer.{named-by, table-answer}
 use Rattle.value.specs.inner.Seeking.{Searchable, Together, OrderRows}
 

@@ -7,9 +7,8 @@ use Rattle.laws.specs.Texts.{bytes}
 use Rattle.form.specs.Limits.{form}
 use Rattle.form.specs.Numbers.{noTable}
 use Rattle.order.specs.Owners.{level}
-use Rattle.table.specs.Rows.{Table}
 use Rattle.table.specs.Reading.{Outcome, refused, accepted, stated, reading}
-use Rattle.table.specs.Lent.{Lent, lent}
+use Rattle.table.specs.Lent.{lent}
 use Rattle.value.specs.declared.reading.Value.{Value}
 use Rattle.value.specs.Numerals.{mostDigits}
 use Rattle.value.specs.Results.{Results, refusesValues, results}

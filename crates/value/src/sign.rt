@@ -1,7 +1,6 @@
 // Whole numbers with a sign, as a caller gives and gets them, and without: everything else in this crate carries sign and magnitude apart.
 ghost use mathlib.Core.Path.{_≡_};
 ghost use Prim.Native.Nat.{_<_};
-ghost use lib.IntN.{natAbs};
 ghost use Rattle.value.specs.Values.{signedOf};
 ghost use Rattle.value.specs.inner.Signs.{halfRange, apart};
 

@@ -9,7 +9,7 @@ use Rattle.value.specs.declared.numeral.Numeral.{Numeral}
 use Rattle.value.specs.declared.numeral.Run.{Run}
 use Rattle.value.specs.declared.numeral.Sign.{Sign}
 use Rattle.value.specs.Refusals.{notANumber, manyDigits}
-use Rattle.value.specs.Numerals.{mostDigits, plus, minus, isDigit, isNegative, saysNone}
+use Rattle.value.specs.Numerals.{mostDigits, plus, minus, isDigit, saysNone}
 
 -- the sign that a text begins with
 unfoldable pub signOf : List ℕ → Sign

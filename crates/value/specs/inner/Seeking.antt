@@ -10,7 +10,7 @@ use lib.Seq.{sets}
 use Rattle.table.specs.Lent.{Lent, withinBuffers}
 use Rattle.table.specs.Rows.{width, leafRowSize, kindIn, ownerIn, firstIn, countIn, placeIn, startIn, lengthIn}
 use Rattle.look.specs.declared.leaf.Place.{Place}
-use Rattle.look.specs.Looking.{orderAt, isNamed}
+use Rattle.look.specs.Looking.{isNamed}
 use Rattle.look.specs.inner.Searching.{soughtIn, soughtInSegment}
 use Rattle.value.specs.declared.reading.Value.{Value}
 use Rattle.value.specs.Results.{numericRows, valuesOf}

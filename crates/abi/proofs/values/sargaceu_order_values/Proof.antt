@@ -1,6 +1,6 @@
 -- `abi::values::sargaceu_order_values` meets its contract: the values of the order, with place and count put into the answer where that has room.
 -- Assumes nothing.
-use mathlib.Core.Path.{_≡_, subst}
+use mathlib.Core.Path.{subst}
 use Rattle.form.specs.Limits.{form}
 use Rattle.order.specs.Owners.{level}
 use Rattle.table.specs.declared.Card.{Card}

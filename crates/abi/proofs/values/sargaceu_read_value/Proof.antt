@@ -1,7 +1,6 @@
 -- `abi::values::sargaceu_read_value` meets its contract: what the text says, put into the answer where that has room.
 -- Assumes nothing.
 use mathlib.Core.List.{[], _∷_}
-use mathlib.Core.Path.{_∙_}
 use native.Mathlib.Omega.{arith}
 use lib.Seq.{sets}
 use mir.Syntax.{w64}

@@ -1,7 +1,6 @@
 -- `abi::values::sargaceu_write_value` meets its contract: what the value writer gives, put into the answer where that has room.
 -- Assumes nothing.
-use mathlib.Core.List.{List}
-use mathlib.Core.Path.{_≡_, subst}
+use mathlib.Core.Path.{subst}
 use lib.IntN.{ℤ}
 use mir.Syntax.{w64}
 use mir.ValLaws.{toZ-ofZ}

@@ -4,19 +4,7 @@ use denote.Ref.{now}
 use mathlib.Core.List.{List}
 use native.Mathlib.Omega.{arith}
 use borrow.Author.Needs.{needs}
-use Rattle.value.proofs.TextsRead.{
-  WholeRead,
-  sign-inside,
-  end-inside,
-  end-behind-sign,
-  byte-inside,
-  all-inside,
-  all-behind,
-  said-whole,
-  said-stopped,
-  said-pointed,
-  said-pointed-stopped,
-}
+use Rattle.value.proofs.TextsRead.{WholeRead, sign-inside, end-behind-sign, byte-inside, all-behind, said-whole, said-stopped, said-pointed, said-pointed-stopped}
 use Rattle.value.proofs.numeral.read_numeral.Statement.{statement}
 use Rattle.value.proofs.numeral.read_numeral.Tie as tie
 use Prim.Native.Nat.{ℕ}

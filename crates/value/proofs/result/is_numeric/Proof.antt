@@ -9,8 +9,8 @@ use borrow.Author.Needs.{needs}
 use lib.ListN.{length}
 use Rattle.laws.specs.Lists.{same}
 use Rattle.table.specs.Lent.{Lent, lent}
-use Rattle.table.specs.Rows.{segmentRowSize, kindIn, ownerIn}
-use Rattle.look.specs.declared.leaf.Sought.the-variants.{At, Empty, NotThere}
+use Rattle.table.specs.Rows.{segmentRowSize}
+use Rattle.look.specs.declared.leaf.Sought.the-variants.{At}
 use Rattle.look.specs.inner.Searching.{soughtIn}
 use Rattle.look.proofs.TextParts.{part-long}
 use Rattle.value.specs.Results.{numericType, typePlace}

@@ -1,7 +1,7 @@
 -- `value::result::result_of` meets its contract: by the first leaf of the field, and whether another stands behind it.
 -- Assumes nothing.
 use denote.Ref.{now}
-use mathlib.Core.Path.{_≡_, sym, _∙_}
+use mathlib.Core.Path.{_∙_}
 use Prim.Native.Nat.{_+_, _*_, _≤_}
 use native.Mathlib.Omega.{arith}
 use borrow.Author.Needs.{needs}
@@ -10,7 +10,7 @@ use Rattle.table.specs.Lent.{Lent, lent}
 use Rattle.table.specs.Rows.{segmentRowSize}
 use Rattle.value.specs.Numerals.{mostDigits}
 use Rattle.value.proofs.NumericRows.{row-inside}
-use Rattle.value.proofs.FieldLeaves.{first-there, rows-searched, none-found, one-before, rows-behind, leaf-inside, more-found, one-found}
+use Rattle.value.proofs.FieldLeaves.{rows-searched, none-found, one-before, rows-behind, leaf-inside, more-found, one-found}
 use Rattle.value.proofs.result.result_of.Statement.{statement}
 use Rattle.value.proofs.result.result_of.Tie as tie
 

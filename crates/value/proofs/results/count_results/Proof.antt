@@ -1,7 +1,7 @@
 -- `value::results::count_results` meets its contract. The loop's invariant: what is left gives the whole count.
 -- The measure is the rows that are left. Assumes nothing.
 use denote.Ref.{now}
-use mathlib.Core.Path.{sym, subst⁻¹}
+use mathlib.Core.Path.{subst⁻¹}
 use Prim.Native.Nat.{ℕ, _-_}
 use native.Mathlib.Omega.{arith}
 use borrow.Author.Needs.{needs}

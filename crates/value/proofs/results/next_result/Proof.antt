@@ -2,10 +2,9 @@
 -- an earlier one ends the order. The measure is the rows that are left. Assumes nothing.
 use denote.Ref.{now}
 use mathlib.Core.Bool.{Bool}
-use mathlib.Core.Path.{_≡_, sym, _∙_}
+use mathlib.Core.Path.{sym, _∙_}
 use Prim.Native.Nat.{ℕ, _-_, _+_, _*_, _≤_, _<_}
 use native.Mathlib.Omega.{arith}
-use borrow.Author.Needs.{needs}
 use lib.ListN.{length}
 use Rattle.laws.proofs.Passing.{Passing, passing-begins, passing-found, passing-on, passing-ends, passing-done}
 use Rattle.table.specs.Lent.{Lent, lent}

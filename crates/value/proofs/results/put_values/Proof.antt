@@ -1,7 +1,7 @@
 -- `value::results::put_values` meets its contract. The loop's invariant: what is left to put gives the whole, in each of the three buffers.
 -- The measure is the rows that are left. Assumes nothing.
 use denote.Ref.{now}
-use mathlib.Core.Path.{_≡_, sym, subst⁻¹}
+use mathlib.Core.Path.{subst⁻¹}
 use Prim.Native.Nat.{ℕ, suc, _-_, _≤_}
 use native.Mathlib.Omega.{arith}
 use borrow.Author.Needs.{needs}
