@@ -5,7 +5,7 @@
 #include "baseline.h"
 #include "baseline_table.h"
 
-enum { NO_TABLE = 13, NOT_A_NUMBER = 20, MANY_DIGITS, OUT_OF_RANGE, NARROW_OUTPUT, NOT_AN_ORDER, FEW_PLACES };
+enum { NO_TABLE = 13, NOT_A_NUMBER = 20, MANY_DIGITS, OUT_OF_RANGE, NARROW_OUTPUT, NOT_AN_ORDER, LITTLE_ROOM };
 enum { DIGITS = 15, TEXT_ROOM = 17 };
 
 /* ---- reading a value ---- */
@@ -195,7 +195,7 @@ uint8_t base_order_values(const size_t *card, size_t card_numbers,
         return refuse(NOT_AN_ORDER, answer);
     size_t count = seek_results(order, segments, card[2], leaves, text, results);
     if (numbers_bytes < count || wholes_numbers < count || decimals_bytes < count)
-        return refuse(FEW_PLACES, answer);
+        return refuse(LITTLE_ROOM, answer);
     for (size_t i = 0; i < count; i++) {
         struct value v = result_value(results[i], text);
         numbers[i] = v.number;

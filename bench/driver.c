@@ -6,8 +6,9 @@
  *   driver find library|segment|baseline FILE N   N lookups of the last result's value, the library's over all leaves or within the segment
  *   driver read-value|write-value library|baseline SAMPLE N
  *                                                 N readings of a text, or writings of a value; SAMPLE is short, long or (reading) digits
- *   driver order-values|is-table library|baseline FILE N
- *                                                 N times the values of a message's middle order, or tests of its table
+ *   driver order-values|order-values-just|is-table library|baseline FILE N
+ *                                                 N times the values of a message's middle order, in places that do for any order or in
+ *                                                 just enough, or tests of its table
  *   driver time FILE...                           times of both, interleaved, the least of nine, on x86-64
  *
  * Both are called by pointers that the compiler cannot see through, so no call is folded away.
@@ -771,7 +772,7 @@ static int time_all(int files, char **file)
         if (is_for_lookups(file[i]))
             time_lookups(file[i]);
     time_values();
-    printf("\n%-14s %8s %8s %8s %8s %6s\n", "ns an order", "library", "its test", "baseline", "its test", "ratio");
+    printf("\n%-14s %8s %8s %8s %8s %8s %8s %6s %6s\n", "ns an order", "library", "just", "its test", "baseline", "just", "its test", "ratio", "just");
     for (int i = 0; i < files; i++)
         if (is_for_orders(file[i]))
             time_orders(file[i]);
@@ -791,7 +792,8 @@ int main(int words, char **word)
     if (words == 5 && run_values(word[1], word[2], word[3], strtoul(word[4], NULL, 10)) == 0)
         return 0;
     fprintf(stderr, "usage: driver compare FILE... | driver read|write library|baseline FILE N | driver find library|segment|baseline FILE N"
-                    " | driver read-value|write-value library|baseline SAMPLE N | driver order-values|is-table library|baseline FILE N"
+                    " | driver read-value|write-value library|baseline SAMPLE N | driver order-values|order-values-just|is-table"
+                    " library|baseline FILE N"
                     " | driver time FILE...\n");
     return 2;
 }

@@ -319,7 +319,7 @@ void report_values(void)
     printf("and on the values of %zu texts, on the texts of %zu values, and on %zu times the values of an order, with %zu numeric results\n",
            texts, values, orders, results);
     printf("answers by number: 0: %zu, 1: %zu, 13: %zu", by_number[0], by_number[1], by_number[13]);
-    for (int i = SARGACEU_NOT_A_NUMBER; i <= SARGACEU_FEW_PLACES; i++)
+    for (int i = SARGACEU_NOT_A_NUMBER; i <= SARGACEU_LITTLE_ROOM; i++)
         printf(", %d: %zu", i, by_number[i]);
     printf("\n");
 }
@@ -379,8 +379,11 @@ bool is_for_orders(const char *path)
     return order_shape(path, &results_each, &leaves);
 }
 
-/* Reads a message for orders and answers the row of its middle order. Another shape would measure another thing. */
-static uint16_t middle_order(const char *path)
+/* The order that is measured: its row, and how many numeric results it has. */
+struct middle { uint16_t row; size_t results; };
+
+/* Reads a message for orders and answers its middle order. Another shape would measure another thing. */
+static struct middle middle_order(const char *path)
 {
     static struct message m;
     size_t results_each, leaves, many = 0, row = 0;
@@ -400,20 +403,37 @@ static uint16_t middle_order(const char *path)
                 places[1].answer[1]);
         exit(1);
     }
-    return (uint16_t)row;
+    return (struct middle){ (uint16_t)row, results_each };
 }
 
-static void repeat_order(int which, uint16_t row, size_t times)
+/* With so many places in each of the three buffers. */
+static void repeat_order(int which, uint16_t row, size_t many, size_t times)
 {
-    struct room any = { SARGACEU_VALUES, SARGACEU_VALUES, SARGACEU_VALUES };
+    struct room room = { many, many, many };
     for (size_t i = 0; i < times; i++)
-        order_by(which, &held, whole, row, &places[0], any, SARGACEU_ORDER_ANSWER);
+        order_by(which, &held, whole, row, &places[0], room, SARGACEU_ORDER_ANSWER);
 }
 
 static void repeat_test(int which, size_t times)
 {
     for (size_t i = 0; i < times; i++)
         test_by(which, &held, whole);
+}
+
+/* The values of a message's middle order, in places that do for any order or just enough; or the test of its table. */
+static int run_orders(const char *mode, int which, const char *path, size_t times)
+{
+    bool just = strcmp(mode, "order-values-just") == 0;
+    if (just || strcmp(mode, "order-values") == 0) {
+        struct middle order = middle_order(path);
+        repeat_order(which, order.row, just ? order.results : SARGACEU_VALUES, times);
+    } else if (strcmp(mode, "is-table") == 0) {
+        middle_order(path);
+        repeat_test(which, times);
+    } else {
+        return 2;
+    }
+    return 0;
 }
 
 int run_values(const char *mode, const char *who, const char *what, size_t times)
@@ -423,12 +443,8 @@ int run_values(const char *mode, const char *who, const char *what, size_t times
         repeat_reading(which, sample_named(what, SAMPLES), times);
     else if (strcmp(mode, "write-value") == 0)
         repeat_writing(which, sample_named(what, WRITTEN_SAMPLES), times);
-    else if (strcmp(mode, "order-values") == 0)
-        repeat_order(which, middle_order(what), times);
-    else if (strcmp(mode, "is-table") == 0 && middle_order(what))
-        repeat_test(which, times);
     else
-        return 2;
+        return run_orders(mode, which, what, times);
     return 0;
 }
 
@@ -465,21 +481,25 @@ void time_values(void)
         time_sample("writing", samples + i, repeat_writing);
 }
 
-/* Nanoseconds for the values of an order, and for the table test alone. */
+/* Nanoseconds for the values of an order, in places that do for any order and in just enough, and for the table test alone. */
 void time_orders(const char *path)
 {
     enum { TIMES = 2000 };
-    double all[2] = { 1e9, 1e9 }, test[2] = { 1e9, 1e9 };
-    uint16_t row = middle_order(path);
+    double all[2] = { 1e9, 1e9 }, just[2] = { 1e9, 1e9 }, test[2] = { 1e9, 1e9 };
+    struct middle order = middle_order(path);
     for (int round = 0; round < 9; round++) {
         for (int which = 0; which < 2; which++) {
             double began = seconds();
-            repeat_order(which, row, TIMES);
+            repeat_order(which, order.row, SARGACEU_VALUES, TIMES);
             keep_least(&all[which], began, TIMES);
+            began = seconds();
+            repeat_order(which, order.row, order.results, TIMES);
+            keep_least(&just[which], began, TIMES);
             began = seconds();
             repeat_test(which, TIMES);
             keep_least(&test[which], began, TIMES);
         }
     }
-    printf("%-14s %8.0f %8.0f %8.0f %8.0f %6.2f\n", name_in(path), 1e9 * all[0], 1e9 * test[0], 1e9 * all[1], 1e9 * test[1], all[0] / all[1]);
+    printf("%-14s %8.0f %8.0f %8.0f %8.0f %8.0f %8.0f %6.2f %6.2f\n", name_in(path), 1e9 * all[0], 1e9 * just[0], 1e9 * test[0], 1e9 * all[1],
+           1e9 * just[1], 1e9 * test[1], all[0] / all[1], just[0] / just[1]);
 }

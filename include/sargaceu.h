@@ -12,12 +12,15 @@
  * answer[1] on is one. Of more numbers the first five count; fewer than five, or a separator or context over 255, are taken as the card
  * that is all zero, which counts nothing.
  *
- * `answer` is where the numbers go that do not fit the return value. A refusal is answered there, too: reader and writer put its place into
- * answer[0], and zeros for the card or the counts behind it, while every other buffer stays as it was. So does sargaceu_order_values; the
+ * `answer` is where the numbers go that do not fit the return value: of size_t, and for sargaceu_read_value alone of int64_t, which has a
+ * sign. A refusal is answered there, too: reader and writer put its place into answer[0], and zeros for the card or the counts behind it, while every other buffer stays as it was. So does sargaceu_order_values; the
  * refusal of a single value has no place, and answer gets zeros. An answer that is shorter than stated gets no number at all: it stays as
  * it was, and the call has no place then.
  *
  * Elements of a buffer past those that a call fills stay as they were.
+ *
+ * Rows go in as uint16_t, and sargaceu_next_row gives size_t. C cuts a larger number and says nothing: 65539 would go in as 3. No row of a
+ * table is over 256, so one that sargaceu_next_row gave goes in as it is.
  *
  * L1, N3, W4, D2 and the like are rules of docs/RULES.md.
  */
@@ -51,13 +54,13 @@ enum {
     SARGACEU_LEAF_ANSWER = 2,
     SARGACEU_LINE_ANSWER = 2,
     SARGACEU_WATCHER = 2,
-    SARGACEU_VALUE_TEXT = 17,
-    SARGACEU_VALUE_ANSWER = 2,
-    SARGACEU_TEXT_ANSWER = 1,
-    SARGACEU_ORDER_ANSWER = 2
+    SARGACEU_VALUE_TEXT = 17,  /* the output of sargaceu_write_value */
+    SARGACEU_VALUE_ANSWER = 2, /* of sargaceu_read_value, in int64_t */
+    SARGACEU_TEXT_ANSWER = 1,  /* of sargaceu_write_value */
+    SARGACEU_ORDER_ANSWER = 2  /* of sargaceu_order_values */
 };
 
-/* So many places always do for the values of an order: three buffers of as many elements are never refused with 25. Fewer may do as well. */
+/* The elements that always do for the values of an order: three buffers of as many are never refused with 25. Fewer may do as well. */
 enum { SARGACEU_VALUES = 256 };
 
 /* The numbers that come back, each with its place (N1). Those from 20 on are of numeric results (D3, D5, D6). */
@@ -81,7 +84,7 @@ enum sargaceu_number {
     SARGACEU_OUT_OF_RANGE = 22,  /* no place */
     SARGACEU_NARROW_OUTPUT = 23, /* no place */
     SARGACEU_NOT_AN_ORDER = 24,  /* place 0 */
-    SARGACEU_FEW_PLACES = 25     /* place 0 */
+    SARGACEU_LITTLE_ROOM = 25    /* place 0 */
 };
 
 /* A segment row's first number (S1). */
@@ -248,7 +251,8 @@ uint8_t sargaceu_write_value(int64_t whole, size_t decimals,
  * The values of an order's numeric results (D6): of all OBX rows whose owner is the OBR in row `order` and whose leaf 10.3 is NM, in row order.
  * Returns 0; answer gets the place, which is 0, and how many there are; and the result that comes k-th among them, from 0 on, has its answer
  * in numbers[k], wholes[k] and decimals[k]: 0, 20 or 21, the whole number and the decimals, as sargaceu_read_value answers the text of field
- * 10.6. Where that field is not there or is several leaves, the answer is 20. Returns 13 where no message reads to the table (W4); 24 where the
+ * 10.6. So numbers[k] is how the result is answered and not its value: look at it first, since beside 20 and 21 stand 0 and 0. Where that
+ * field is not there or is several leaves, the answer is 20. Returns 13 where no message reads to the table (W4); 24 where the
  * row is no OBR that the card counts; 25 where one of the three buffers has fewer elements than there are such results. A refusal changes none
  * of the three; answer gets two zeros. An answer of under two numbers is refused with 1 before the table is looked at; it stays as it was.
  *

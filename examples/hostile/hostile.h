@@ -120,7 +120,7 @@ size_t plain_order_values(const struct table *t, uint16_t order, struct value va
 /* ---- the trials: each draws arguments, makes the call on both sides, and answers 0 where it was accepted ---- */
 
 enum {
-    NO = SARGACEU_FEW_PLACES + 1, /* a plain no, which has no number */
+    NO = SARGACEU_LITTLE_ROOM + 1, /* a plain no, which has no number */
     EMPTY                         /* accepted, and what was found is empty */
 };
 

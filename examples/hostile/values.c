@@ -139,7 +139,7 @@ static uint8_t expected_number(bool is_table, uint16_t order, struct places plac
         return SARGACEU_NO_TABLE;
     if (!plain_is_order(&drawn, order))
         return SARGACEU_NOT_AN_ORDER;
-    return places.numbers < count || places.wholes < count || places.decimals < count ? SARGACEU_FEW_PLACES : SARGACEU_ACCEPTED;
+    return places.numbers < count || places.wholes < count || places.decimals < count ? SARGACEU_LITTLE_ROOM : SARGACEU_ACCEPTED;
 }
 
 /* The values' parts, as they stand in three buffers. */

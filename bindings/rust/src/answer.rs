@@ -24,5 +24,5 @@ pub const TEXT_ANSWER: usize = 1;
 /// The numbers that the values of an order are counted by: the place and the count.
 pub const ORDER_ANSWER: usize = 2;
 
-/// The places that the values of every order have room in, one for each segment of the longest table.
+/// The elements that do for the values of every order, one for each segment of the longest table.
 pub const VALUES: usize = 256;

@@ -42,7 +42,7 @@ pub enum Number {
     ShortOutput = 12,
     /// The numbers and the text are no table.
     NoTable = 13,
-    /// A text says no number.
+    /// A text says no number; of a result also: its field 6 is not there, or is several leaves.
     NotANumber = 20,
     /// The text of a number has too many digits.
     ManyDigits = 21,
@@ -52,8 +52,8 @@ pub enum Number {
     NarrowOutput = 23,
     /// The row is no order of the table.
     NotAnOrder = 24,
-    /// Fewer places are lent than the order has numeric results.
-    FewPlaces = 25,
+    /// A buffer lent for the values has fewer elements than the order has numeric results.
+    LittleRoom = 25,
 }
 
 impl Number {
@@ -76,7 +76,7 @@ impl Number {
         Number::OutOfRange,
         Number::NarrowOutput,
         Number::NotAnOrder,
-        Number::FewPlaces,
+        Number::LittleRoom,
     ];
 
     /// What the place counts that comes with this number, or nothing where the place is always 0.
@@ -120,7 +120,7 @@ impl fmt::Display for Number {
             }
             Number::NarrowOutput => "the output lent for the text of a value is under 17 bytes",
             Number::NotAnOrder => "the row is no order of the table",
-            Number::FewPlaces => "fewer places are lent than the order has numeric results",
+            Number::LittleRoom => "a buffer lent for the values has fewer elements than the order has numeric results",
         })
     }
 }

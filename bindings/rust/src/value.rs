@@ -14,7 +14,7 @@ use std::str::FromStr;
 /// It is always one that some text says: it comes from reading ([`read_value`], [`Table::order_values`](crate::Table::order_values)), or
 /// [`Value::new`] has looked at it. Two values are equal where both parts are: `1.5` and `1.50` are not.
 ///
-/// It is shown as the shortest text that reads to it, and parsed from any that does:
+/// It is shown as the shortest text that reads to it, `.5` and not `0.5`, and parsed from any that does. For people, show the text that was sent.
 ///
 /// ```
 /// use sargaceu::Value;

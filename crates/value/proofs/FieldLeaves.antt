@@ -19,8 +19,8 @@ use Rattle.table.proofs.Lent.{leaves-within, text-within}
 use Rattle.look.specs.Looking.{inRun, isNamed}
 use Rattle.value.specs.Refusals.{notANumber}
 use Rattle.value.specs.Numerals.{saysNone, numeralOf}
-use Rattle.value.specs.Results.{ofField, leafTextIn, oneLeaf, resultOf}
-use Rattle.value.specs.inner.Seeking.{Searchable, FieldRows, LeafRow}
+use Rattle.value.specs.Results.{valueField, ofField, leafTextIn}
+use Rattle.value.specs.inner.Seeking.{leafSays, resultOf, Searchable, FieldRows, LeafRow}
 
 -- a leaf's segment and field stand in the first two columns of its row
 module _ (rows : List ℕ) (segment field i : ℕ) where
@@ -79,7 +79,7 @@ leavesTo t i = leavesFrom t i + countIn (t .segmentRows) i
 
 module _ (most : ℕ) (t : Lent) (table : Searchable t) (i : ℕ) (here : i < t .card .segments) where
   abbrev valueLeaf : ℕ → Bool
-  valueLeaf k = ofField (t .leafRows) (suc i) 6 k
+  valueLeaf k = ofField (t .leafRows) (suc i) valueField k
 
   abbrev inRow : List ℕ
   inRow = passing valueLeaf (leavesFrom t i) (leavesTo t i - leavesFrom t i)
@@ -91,7 +91,7 @@ module _ (most : ℕ) (t : Lent) (table : Searchable t) (i : ℕ) (here : i < t 
       by (failed e) = e
       by (passed e) =
           absurd (out (named-run t i k
-          (ap (λ (s : ℕ). isNamed t s k) (sym (of-its-segment (t .leafRows) (suc i) 6 k e)) ∙ table .named k h)))
+          (ap (λ (s : ℕ). isNamed t s k) (sym (of-its-segment (t .leafRows) (suc i) valueField k e)) ∙ table .named k h)))
 
   -- so only those rows need be looked at
   all-in-row : passing valueLeaf 0 (t .card .leaves) ≡ inRow
@@ -102,18 +102,18 @@ module _ (most : ℕ) (t : Lent) (table : Searchable t) (i : ℕ) (here : i < t 
       ∙ passing-before valueLeaf (leavesTo t i - leavesFrom t i) (leavesFrom t i) (t .card .leaves - leavesFrom t i) (omega (arith, table .last i here))
       (λ k g h. outside k (omega (arith, h, table .last i here)) (λ w. omega (arith, g, w .to, table .first i here)))
 
-  result-by : (rows : List ℕ) → inRow ≡ rows → oneLeaf most t rows ≡ resultOf most t i
+  result-by : (rows : List ℕ) → inRow ≡ rows → leafSays most t rows ≡ resultOf most t i
   unfolding resultOf
-  result-by rows e = ap (oneLeaf most t) (sym (all-in-row ∙ e))
+  result-by rows e = ap (leafSays most t) (sym (all-in-row ∙ e))
 
   -- no leaf, or one with others behind it: no number
   no-leaf : inRow ≡ [] → saysNone notANumber ≡ resultOf most t i
-  unfolding oneLeaf
+  unfolding leafSays
   no-leaf e = result-by [] e
 
   more-leaves : (k j : ℕ) → FirstPassed valueLeaf (leavesFrom t i) (leavesTo t i) k → FirstPassed valueLeaf (k + 1) (leavesTo t i) j
       → saysNone notANumber ≡ resultOf most t i
-  unfolding oneLeaf
+  unfolding leafSays
   more-leaves k j one other =
       result-by (k ∷ j ∷ passing valueLeaf (suc j) (leavesTo t i - suc j))
       (one .rest ∙ ap (λ (n : ℕ). k ∷ passing valueLeaf n (leavesTo t i - n)) (let e : suc k ≡ k + 1 = omega arith in e) ∙ ap (λ (s : List ℕ). k ∷ s) (other .rest))
@@ -121,7 +121,7 @@ module _ (most : ℕ) (t : Lent) (table : Searchable t) (i : ℕ) (here : i < t 
   -- one alone: what its text says
   only-leaf : (k : ℕ) → FirstPassed valueLeaf (leavesFrom t i) (leavesTo t i) k → passing valueLeaf (k + 1) (leavesTo t i - (k + 1)) ≡ []
       → numeralOf most (leafTextIn (t .leafRows) (t .text) k) ≡ resultOf most t i
-  unfolding oneLeaf
+  unfolding leafSays
   only-leaf k one none =
       result-by (k ∷ [])
       (one .rest ∙ ap (λ (n : ℕ). k ∷ passing valueLeaf n (leavesTo t i - n)) (let e : suc k ≡ k + 1 = omega arith in e) ∙ ap (λ (s : List ℕ). k ∷ s) none)
@@ -136,7 +136,7 @@ module _ (most : ℕ) (t : Lent) (table : Searchable t) (i : ℕ) (here : i < t 
 
     -- what a search from a row on finds
     abbrev searched : ℕ → ℕ
-    searched k = getD (passing (ofField (t .leafRows) (i + 1) 6) k (to - k)) 0 to
+    searched k = getD (passing (ofField (t .leafRows) (i + 1) valueField) k (to - k)) 0 to
 
     to-is : to ≡ leavesTo t i
     to-is = omega (arith, first-is, count-is)
@@ -154,7 +154,7 @@ module _ (most : ℕ) (t : Lent) (table : Searchable t) (i : ℕ) (here : i < t 
     rows-searched = record { rising = omega arith; within = omega (arith, few, inside) }
 
     same-search : (k : ℕ) → searched k ≡ getD (passing valueLeaf k (leavesTo t i - k)) 0 (leavesTo t i)
-    same-search k j = getD (passing (ofField (t .leafRows) (add-one i j) 6) k (to-is j - k)) 0 (to-is j)
+    same-search k j = getD (passing (ofField (t .leafRows) (add-one i j) valueField) k (to-is j - k)) 0 (to-is j)
 
     from-is : from ≡ leavesFrom t i
     from-is = omega (arith, first-is)

@@ -20,6 +20,9 @@ pub mod ValuesWritten
 pub mod ResultsPut
 pub mod ResultsRead
 pub mod OnlyOne
+pub mod ReadingPromises
+pub mod WritingPromises
+pub mod OrderPromises
 pub mod Promises
 pub mod ShutOut
 pub mod Examples

@@ -7,13 +7,13 @@ use Prim.Native.Nat.{ℕ, _-_}
 use lib.IntN.{pos, natAbs}
 use lib.ListN.{getD}
 use borrow.Author.Tests.{eqb-false}
-use Rattle.value.specs.Numerals.{plus, minus}
+use Rattle.value.specs.Numerals.{plus, minus, behindPoint, SignIs, no-sign, a-plus, a-minus}
 use Rattle.value.specs.Values.{signedOf, ReadsTo}
 use Rattle.value.specs.inner.Digits.{tenths}
 use Rattle.value.specs.inner.Shortening.{digitsFor, signText, shortestText}
 use Rattle.value.specs.inner.Signs.{apart}
 use Rattle.value.proofs.DigitsBack.{last-digits}
-use Rattle.value.proofs.NumberShape.{behindPoint, bare-unsigned, SignIs, no-sign, a-plus, a-minus}
+use Rattle.value.proofs.NumberShape.{bare-unsigned}
 use Rattle.value.proofs.SpeltTexts.{spelt-reads, reads-spelt}
 use Rattle.value.proofs.ShortestText.{decimalsWritten, shortest-shape, some-written, spelt-magnitude, wholeWritten}
 
@@ -30,18 +30,22 @@ pub minus-zero : (most d : ℕ) (s : List ℕ) → (getD s 0 0 ≡ plus → ⊥)
 unfolding signedOf
 minus-zero most d s p m h =
     let t = reads-spelt most s (pos 0) d h in
+    let n = t .number in
     spelt-reads most (minus ∷ s) (pos 0) d (
     record {
-      sign = minus ∷ [];
-      negative = true;
-      sign-is = a-minus;
-      whole = t .whole;
-      decimals = t .decimals;
-      whole-digits = t .whole-digits;
-      decimal-digits = t .decimal-digits;
-      some-digit = t .some-digit;
+      number =
+          record {
+            sign = minus ∷ [];
+            negative = true;
+            sign-is = a-minus;
+            whole = n .whole;
+            decimals = n .decimals;
+            whole-digits = n .whole-digits;
+            decimal-digits = n .decimal-digits;
+            some-digit = n .some-digit;
+            shape = ap {B = List ℕ} (λ (r : List ℕ). minus ∷ r) (unsigned-text s (n .whole ++ behindPoint (n .decimals)) (n .sign-is) (n .shape) p m);
+          };
       few = t .few;
-      shape = ap {B = List ℕ} (λ (r : List ℕ). minus ∷ r) (unsigned-text s (t .whole ++ behindPoint (t .decimals)) (t .sign-is) (t .shape) p m);
       value = ap (signedOf true) (spelt-magnitude t);
       count = t .count;
     }

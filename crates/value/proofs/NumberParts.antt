@@ -20,7 +20,7 @@ use Rattle.table.specs.inner.Flat.{Without}
 use Rattle.table.proofs.Splitting.{firstPart, otherParts, split-parts, split-without, split-joined, split-begun, first-more}
 use Rattle.value.specs.declared.numeral.Numeral.{Numeral}
 use Rattle.value.specs.Refusals.{notANumber, manyDigits}
-use Rattle.value.specs.Numerals.{point, allDigits, unsigned, isNegative, areNumber, madeBy, saysNone, saidBy, numeralOf}
+use Rattle.value.specs.Numerals.{point, allDigits, unsignedText, isNegative, areNumber, madeBy, saysNone, saidBy, numeralOf}
 use Rattle.value.specs.inner.Runs.{digitRun, judgedDigits}
 use Rattle.value.proofs.DigitTexts.{
   digit-no-point,
@@ -192,4 +192,4 @@ said-small most negative parts = go (tested (areNumber parts)) (less-or-not most
 
 pub numeral-small : (most : ℕ) (text : List ℕ) → Small most (numeralOf most text)
 unfolding numeralOf
-numeral-small most text = said-small most (isNegative text) (split point (unsigned text))
+numeral-small most text = said-small most (isNegative text) (split point (unsignedText text))

@@ -2,7 +2,7 @@
 -- parts are those of a number says exactly this.
 -- Assumes nothing.
 use mathlib.Core.Bool.{Bool, true, false}
-use mathlib.Core.List.{List, [], _∷_, _++_, append-nil, append-assoc}
+use mathlib.Core.List.{List, [], _∷_, _++_, append-nil}
 use mathlib.Core.Logic.{_⊎_, inl, inr, _↔_}
 use mathlib.Core.Path.{_≡_, refl, sym, ap, ap₂, _∙_}
 use Prim.Native.Nat.{ℕ, _+_, _≤_, _<_}
@@ -16,7 +16,7 @@ use Rattle.laws.proofs.Parts.{left-cons}
 use Rattle.laws.proofs.Tests.{Tested, passed, failed, tested, never-both, or-first, or-second, or-fails}
 use Rattle.table.specs.Leaves.{split}
 use Rattle.table.proofs.Splitting.{firstPart, otherParts}
-use Rattle.value.specs.Numerals.{plus, minus, point, allDigits, unsigned, isNegative, areNumber, NumberText}
+use Rattle.value.specs.Numerals.{plus, minus, point, allDigits, unsignedText, isNegative, areNumber, SignIs, no-sign, a-plus, a-minus, behindPoint, NumberText}
 use Rattle.value.specs.inner.Runs.{digitRun}
 use Rattle.value.proofs.DigitTexts.{
   digit-no-plus,
@@ -34,10 +34,6 @@ use Rattle.value.proofs.NumberParts.{split-digits, split-pointed, split
 use Rattle.value.proofs.TextsSaid.{unsigned-sign, unsigned-none}
 
 -- what follows the whole digits: nothing, or a point and the decimals
-unfoldable pub behindPoint : List ℕ → List ℕ
-behindPoint [] = []
-behindPoint (b ∷ s) = point ∷ b ∷ s
-
 pub behind-none : behindPoint [] ≡ []
 unfolding behindPoint
 behind-none = refl
@@ -147,20 +143,14 @@ bare-unsigned [] [] w some = absurd (omega arith)
 bare-unsigned [] (b ∷ s) w some = (refl, refl)
 bare-unsigned (b ∷ s) d w some = (digit-no-plus b (digits-first b s w), digit-no-minus b (digits-first b s w))
 
--- the signs, and whether they are a minus
-pub data SignIs : List ℕ → Bool → Type 0 where
-  no-sign : SignIs [] false
-  a-plus : SignIs (plus ∷ []) false
-  a-minus : SignIs (minus ∷ []) true
-
 -- a text is its sign and what stands behind it
 pub record Parted (text : List ℕ) : Type 0 where
   pub sign : List ℕ
   pub is : SignIs sign (isNegative text)
-  pub text-is : text ≡ sign ++ unsigned text
+  pub text-is : text ≡ sign ++ unsignedText text
 
 pub parted : (text : List ℕ) → Parted text
-unfolding unsigned isNegative
+unfolding unsignedText isNegative
 parted [] = record { sign = []; is = no-sign; text-is = refl }
 parted (b ∷ s) = go (tested (eqb b plus)) (tested (eqb b minus))
   where
@@ -182,88 +172,57 @@ parted (b ∷ s) = go (tested (eqb b plus)) (tested (eqb b minus))
     go (failed p) (failed m) = record { sign = []; is = rw m no-sign; text-is = sym (unsigned-none b s (or-fails p m)) }
 
 -- and a sign before a number without one comes off again
-unsigned-bare : (u : List ℕ) → eqb (getD u 0 0) plus ≡ false → eqb (getD u 0 0) minus ≡ false → (unsigned u ≡ u) × (isNegative u ≡ false)
-unfolding unsigned isNegative
+unsigned-bare : (u : List ℕ) → eqb (getD u 0 0) plus ≡ false → eqb (getD u 0 0) minus ≡ false → (unsignedText u ≡ u) × (isNegative u ≡ false)
+unfolding unsignedText isNegative
 unsigned-bare [] p m = (refl, m)
 unsigned-bare (b ∷ s) p m = (unsigned-none b s (or-fails p m), m)
 
 pub signed-apart : {sign : List ℕ} {negative : Bool} (u : List ℕ) → SignIs sign negative → eqb (getD u 0 0) plus ≡ false → eqb (getD u 0 0) minus ≡ false
-    → (unsigned (sign ++ u) ≡ u) × (isNegative (sign ++ u) ≡ negative)
-unfolding unsigned isNegative
+    → (unsignedText (sign ++ u) ≡ u) × (isNegative (sign ++ u) ≡ negative)
+unfolding unsignedText isNegative
 signed-apart u no-sign p m = unsigned-bare u p m
 signed-apart u a-plus p m = (refl, refl)
 signed-apart u a-minus p m = (refl, refl)
 
--- the three signs, told by the sign itself
-sign-one : {sign : List ℕ} {negative : Bool} → SignIs sign negative → (sign ≡ []) ⊎ ((sign ≡ plus ∷ []) ⊎ (sign ≡ minus ∷ []))
-sign-one no-sign = inl refl
-sign-one a-plus = inr (inl refl)
-sign-one a-minus = inr (inr refl)
-
-one-sign-is : (sign : List ℕ) → (sign ≡ []) ⊎ ((sign ≡ plus ∷ []) ⊎ (sign ≡ minus ∷ [])) → (negative : Bool) × SignIs sign negative
-one-sign-is sign (inl e) = (false, rw e no-sign)
-one-sign-is sign (inr (inl e)) = (false, rw e a-plus)
-one-sign-is sign (inr (inr e)) = (true, rw e a-minus)
-
--- the two endings, told by the decimals
-abbrev OneEnding : (whole ending : List ℕ) → Type 0
-OneEnding whole ending =
-    ((ending ≡ []) × (1 ≤ length whole)) ⊎ ((d : List ℕ) × (ending ≡ point ∷ d) × (allDigits d ≡ true) × (1 ≤ length d))
-
-ending-one : (whole decimals : List ℕ) → allDigits decimals ≡ true → 1 ≤ length whole + length decimals → OneEnding whole (behindPoint decimals)
-unfolding behindPoint
-ending-one whole [] digits some = inl (refl, omega arith)
-ending-one whole (b ∷ s) digits some = inr (b ∷ s, refl, digits, omega arith)
-
-one-ending-bare : (whole ending : List ℕ) → allDigits whole ≡ true → OneEnding whole ending → BareNumber (whole ++ ending)
-one-ending-bare whole ending digits (inl e) =
-    record {
-      whole = whole;
-      decimals = [];
-      whole-digits = digits;
-      decimal-digits = digits-none;
-      some-digit = omega (arith, e .1);
-      shape = ap (λ (t : List ℕ). whole ++ t) (e .0 ∙ sym behind-none);
-    }
-one-ending-bare whole ending digits (inr e) =
-    record {
-      whole = whole;
-      decimals = e .0;
-      whole-digits = digits;
-      decimal-digits = e .2;
-      some-digit = omega (arith, e .3);
-      shape = ap (λ (t : List ℕ). whole ++ t) (e .1 ∙ sym (behind-some (e .0) (e .3)));
-    }
-
 -- a sign before a number without one: what comes off, and whether it is a minus
 pub bare-apart : {sign : List ℕ} {negative : Bool} {u : List ℕ} → SignIs sign negative → BareNumber u
-    → (unsigned (sign ++ u) ≡ u) × (isNegative (sign ++ u) ≡ negative)
+    → (unsignedText (sign ++ u) ≡ u) × (isNegative (sign ++ u) ≡ negative)
 bare-apart {u = u} is n =
     let none = bare-unsigned (n .whole) (n .decimals) (n .whole-digits) (n .some-digit) in
     signed-apart u is (rw (n .shape) (none .0)) (rw (n .shape) (none .1))
 
 -- so that the parts of a text are those of a number says that it has the shape of one (D1)
-pub number-exactly : (text : List ℕ) → (areNumber (split point (unsigned text)) ≡ true) ↔ NumberText text
-number-exactly text = (shaped, split-so)
-  where
-    shaped : areNumber (split point (unsigned text)) ≡ true → NumberText text
-    shaped h =
-        let n = number-bare (unsigned text) h in
-        let p = parted text in
-        record {
-          sign = p .sign;
-          one-sign = sign-one (p .is);
-          whole = n .whole;
-          whole-digits = n .whole-digits;
-          ending = behindPoint (n .decimals);
-          one-ending = ending-one (n .whole) (n .decimals) (n .decimal-digits) (n .some-digit);
-          shape = p .text-is ∙ ap (λ (t : List ℕ). p .sign ++ t) (n .shape) ∙ sym (append-assoc (p .sign) (n .whole) (behindPoint (n .decimals)));
-        }
+pub bare-of : {text : List ℕ} (t : NumberText text) → BareNumber (t .whole ++ behindPoint (t .decimals))
+bare-of t =
+    record {
+      whole = t .whole;
+      decimals = t .decimals;
+      whole-digits = t .whole-digits;
+      decimal-digits = t .decimal-digits;
+      some-digit = t .some-digit;
+      shape = refl;
+    }
 
-    split-so : NumberText text → areNumber (split point (unsigned text)) ≡ true
+abbrev pub shaped : (text : List ℕ) → areNumber (split point (unsignedText text)) ≡ true → NumberText text
+shaped text h =
+    let n = number-bare (unsignedText text) h in
+    let p = parted text in
+    record {
+      sign = p .sign;
+      negative = isNegative text;
+      sign-is = p .is;
+      whole = n .whole;
+      decimals = n .decimals;
+      whole-digits = n .whole-digits;
+      decimal-digits = n .decimal-digits;
+      some-digit = n .some-digit;
+      shape = p .text-is ∙ ap (λ (t : List ℕ). p .sign ++ t) (n .shape);
+    }
+
+pub number-exactly : (text : List ℕ) → (areNumber (split point (unsignedText text)) ≡ true) ↔ NumberText text
+number-exactly text = (shaped text, split-so)
+  where
+    split-so : NumberText text → areNumber (split point (unsignedText text)) ≡ true
     split-so t =
-        let bare = one-ending-bare (t .whole) (t .ending) (t .whole-digits) (t .one-ending) in
-        let sign = one-sign-is (t .sign) (t .one-sign) in
-        ap (λ (s : List ℕ). areNumber (split point s))
-        (ap unsigned (t .shape ∙ append-assoc (t .sign) (t .whole) (t .ending)) ∙ bare-apart (sign .1) bare .0)
-        ∙ bare-number bare
+        let bare = bare-of t in
+        ap (λ (s : List ℕ). areNumber (split point s)) (ap unsignedText (t .shape) ∙ bare-apart (t .sign-is) bare .0) ∙ bare-number bare

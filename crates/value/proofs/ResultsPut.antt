@@ -14,22 +14,22 @@ use Rattle.laws.proofs.Passing.{FirstPassed, length-passing}
 use Rattle.table.specs.Lent.{Lent}
 use Rattle.value.specs.declared.numeral.Numeral.{Numeral}
 use Rattle.value.specs.declared.reading.Value.{Value}
-use Rattle.value.specs.Values.{signedOf, withSign}
-use Rattle.value.specs.Results.{isNumeric, numericRows, ofField, leafTextIn, oneLeaf, resultOf}
-use Rattle.value.specs.inner.Seeking.{OrderRows, PutValues}
+use Rattle.value.specs.Values.{signedOf, withSign, valueOf}
+use Rattle.value.specs.Results.{valueField, isNumeric, numericRows, ofField, leafTextIn, oneLeaf, valueAt}
+use Rattle.value.specs.inner.Seeking.{leafSays, resultOf, OrderRows, PutValues}
 use Rattle.value.proofs.NumberParts.{Small, none-small, numeral-small}
 use Rattle.value.proofs.NumericRows.{from-the-order}
 
 -- what a result says is small, as what any text says
-one-small : (most : ℕ) (t : Lent) (rows : List ℕ) → Small most (oneLeaf most t rows)
-unfolding oneLeaf
+one-small : (most : ℕ) (t : Lent) (rows : List ℕ) → Small most (leafSays most t rows)
+unfolding leafSays
 one-small most t [] = none-small most
 one-small most t (i ∷ []) = numeral-small most (leafTextIn (t .leafRows) (t .text) i)
 one-small most t (i ∷ j ∷ rows) = none-small most
 
 pub result-small : (most : ℕ) (t : Lent) (i : ℕ) {n : Numeral} → n ≡ resultOf most t i → Small most n
 unfolding resultOf
-result-small most t i e = subst⁻¹ (Small most) e (one-small most t (passing (ofField (t .leafRows) (suc i) 6) 0 (t .card .leaves)))
+result-small most t i e = subst⁻¹ (Small most) e (one-small most t (passing (ofField (t .leafRows) (suc i) valueField) 0 (t .card .leaves)))
 
 -- the results of an order that are left from a row on
 module _ (t : Lent) (order : ℕ) where
@@ -72,9 +72,16 @@ pub results-few : (t : Lent) (order : ℕ) → OrderRows t order → length (num
 results-few t order rows =
     omega (arith, ap length (from-the-order t order rows), length-passing (isNumeric t order) order (t .card .segments - order))
 
--- the answer for a row
-abbrev pub answerAt : (most : ℕ) → Lent → ℕ → Value
-answerAt most t i = withSign (resultOf most t i)
+-- the value of a row is what it says with the sign put on
+leaf-value : (most : ℕ) (t : Lent) (rows : List ℕ) → withSign (leafSays most t rows) ≡ oneLeaf most t rows
+unfolding leafSays oneLeaf valueOf
+leaf-value most t [] = refl
+leaf-value most t (i ∷ []) = refl
+leaf-value most t (i ∷ j ∷ rows) = refl
+
+result-value : (most : ℕ) (t : Lent) (i : ℕ) → withSign (resultOf most t i) ≡ valueAt most t i
+unfolding resultOf valueAt
+result-value most t i = leaf-value most t (passing (ofField (t .leafRows) (suc i) valueField) 0 (t .card .leaves))
 
 -- one part of the answers, in its buffer: what is left to put gives the whole
 module _ {A : Type 0} (part : Value → A) (answer : ℕ → Value) (all : List ℕ) (buffer₀ : List A) where
@@ -104,18 +111,18 @@ module _ {A : Type 0} (part : Value → A) (answer : ℕ → Value) (all : List 
 module _ (most : ℕ) (t : Lent) (order : ℕ) (numbers₀ : List ℕ) (wholes₀ : List ℤ) (decimals₀ : List ℕ) where
   pub record Answering (numbers : List ℕ) (wholes : List ℤ) (decimals : List ℕ) (count from : ℕ) : Type 0 where
     pub seen : ResultsSeen t order from count
-    pub numbers-put : Putting (λ (v : Value). v .number) (answerAt most t) (numericRows t order) numbers₀ (resultsLeft t order from) numbers count
-    pub wholes-put : Putting (λ (v : Value). v .whole) (answerAt most t) (numericRows t order) wholes₀ (resultsLeft t order from) wholes count
-    pub decimals-put : Putting (λ (v : Value). v .decimals) (answerAt most t) (numericRows t order) decimals₀ (resultsLeft t order from) decimals count
+    pub numbers-put : Putting (λ (v : Value). v .number) (valueAt most t) (numericRows t order) numbers₀ (resultsLeft t order from) numbers count
+    pub wholes-put : Putting (λ (v : Value). v .whole) (valueAt most t) (numericRows t order) wholes₀ (resultsLeft t order from) wholes count
+    pub decimals-put : Putting (λ (v : Value). v .decimals) (valueAt most t) (numericRows t order) decimals₀ (resultsLeft t order from) decimals count
 
   pub answering-begins : OrderRows t order → Answering numbers₀ wholes₀ decimals₀ 0 order
   answering-begins rows =
       let all = from-the-order t order rows in
       record {
         seen = seen-begins t order rows;
-        numbers-put = putting-begins (λ (v : Value). v .number) (answerAt most t) (numericRows t order) numbers₀ (resultsLeft t order order) all;
-        wholes-put = putting-begins (λ (v : Value). v .whole) (answerAt most t) (numericRows t order) wholes₀ (resultsLeft t order order) all;
-        decimals-put = putting-begins (λ (v : Value). v .decimals) (answerAt most t) (numericRows t order) decimals₀ (resultsLeft t order order) all;
+        numbers-put = putting-begins (λ (v : Value). v .number) (valueAt most t) (numericRows t order) numbers₀ (resultsLeft t order order) all;
+        wholes-put = putting-begins (λ (v : Value). v .whole) (valueAt most t) (numericRows t order) wholes₀ (resultsLeft t order order) all;
+        decimals-put = putting-begins (λ (v : Value). v .decimals) (valueAt most t) (numericRows t order) decimals₀ (resultsLeft t order order) all;
       }
 
   module _ {numbers : List ℕ} {wholes : List ℤ} {decimals : List ℕ} {count from : ℕ} (s : Answering numbers wholes decimals count from) where
@@ -125,17 +132,17 @@ module _ (most : ℕ) (t : Lent) (order : ℕ) (numbers₀ : List ℕ) (wholes�
         → Answering (set numbers count (n .number)) (set wholes count whole) (set decimals count (n .decimals)) (count + 1) (row + 1)
     answering-on {row} first {n} said signed =
         let left = left-is t order (s .seen) first in
-        let is = ap withSign said in
+        let is = ap withSign said ∙ result-value most t row in
         record {
           seen = seen-on t order (s .seen) first;
           numbers-put =
-              putting-on (λ (v : Value). v .number) (answerAt most t) (numericRows t order) numbers₀ (s .numbers-put) row (resultsLeft t order (row + 1)) left
+              putting-on (λ (v : Value). v .number) (valueAt most t) (numericRows t order) numbers₀ (s .numbers-put) row (resultsLeft t order (row + 1)) left
               (ap (λ (v : Value). v .number) is);
           wholes-put =
-              putting-on (λ (v : Value). v .whole) (answerAt most t) (numericRows t order) wholes₀ (s .wholes-put) row (resultsLeft t order (row + 1)) left
+              putting-on (λ (v : Value). v .whole) (valueAt most t) (numericRows t order) wholes₀ (s .wholes-put) row (resultsLeft t order (row + 1)) left
               (signed ∙ ap (λ (v : Value). v .whole) is);
           decimals-put =
-              putting-on (λ (v : Value). v .decimals) (answerAt most t) (numericRows t order) decimals₀ (s .decimals-put) row (resultsLeft t order (row + 1)) left
+              putting-on (λ (v : Value). v .decimals) (valueAt most t) (numericRows t order) decimals₀ (s .decimals-put) row (resultsLeft t order (row + 1)) left
               (ap (λ (v : Value). v .decimals) is);
         }
 
@@ -143,7 +150,7 @@ module _ (most : ℕ) (t : Lent) (order : ℕ) (numbers₀ : List ℕ) (wholes�
     answering-done e =
         record {
           counted = seen-done t order (s .seen) e;
-          numbers-put = putting-done (λ (v : Value). v .number) (answerAt most t) (numericRows t order) numbers₀ (s .numbers-put) e;
-          wholes-put = putting-done (λ (v : Value). v .whole) (answerAt most t) (numericRows t order) wholes₀ (s .wholes-put) e;
-          decimals-put = putting-done (λ (v : Value). v .decimals) (answerAt most t) (numericRows t order) decimals₀ (s .decimals-put) e;
+          numbers-put = putting-done (λ (v : Value). v .number) (valueAt most t) (numericRows t order) numbers₀ (s .numbers-put) e;
+          wholes-put = putting-done (λ (v : Value). v .whole) (valueAt most t) (numericRows t order) wholes₀ (s .wholes-put) e;
+          decimals-put = putting-done (λ (v : Value). v .decimals) (valueAt most t) (numericRows t order) decimals₀ (s .decimals-put) e;
         }

@@ -13,13 +13,12 @@ use Rattle.table.specs.Lent.{Lent}
 use Rattle.write.specs.inner.ReadsBack.{isTable}
 use Rattle.look.specs.Looking.{orderAt}
 use Rattle.value.specs.declared.results.ValuesRead.{ValuesRead}
-use Rattle.value.specs.Refusals.{notAnOrder, fewPlaces}
-use Rattle.value.specs.Values.{withSign}
+use Rattle.value.specs.Refusals.{notAnOrder, littleRoom}
 use Rattle.value.specs.Results.{
   numericRows,
-  resultOf,
+  valueAt,
   valuesOf,
-  places,
+  answersRoom,
   Results,
   refusesValues,
   gives,
@@ -35,7 +34,7 @@ use Rattle.value.specs.inner.Seeking.{PutValues}
 
 -- as many answers as numeric results
 pub length-values : (most : ℕ) (t : Lent) (order : ℕ) → length (valuesOf most t order) ≡ length (numericRows t order)
-length-values most t order = length-map (numericRows t order) (λ i. withSign (resultOf most t i))
+length-values most t order = length-map (numericRows t order) (valueAt most t)
 
 module _ (L : Limits) (levels : ℕ → ℕ → ℕ) (most : ℕ) (t : Lent) (order : ℕ) where
   module _ (numbers wholes decimals : ℕ) where
@@ -52,11 +51,11 @@ module _ (L : Limits) (levels : ℕ → ℕ → ℕ) (most : ℕ) (t : Lent) (or
       no-order e = rw (table, e, results)
 
       module _ (is-order : orderAt t order ≡ true) where
-        pub few-places : leb (length (numericRows t order)) (places numbers wholes decimals) ≡ false → outcome ≡ refusesValues fewPlaces
+        pub little-room : leb (length (numericRows t order)) (answersRoom numbers wholes decimals) ≡ false → outcome ≡ refusesValues littleRoom
         unfolding results
-        few-places e = rw (table, is-order, e, results)
+        little-room e = rw (table, is-order, e, results)
 
-        pub all-given : leb (length (numericRows t order)) (places numbers wholes decimals) ≡ true → outcome ≡ gives (valuesOf most t order)
+        pub all-given : leb (length (numericRows t order)) (answersRoom numbers wholes decimals) ≡ true → outcome ≡ gives (valuesOf most t order)
         unfolding results
         all-given e = rw (table, is-order, e, results)
 
@@ -70,11 +69,11 @@ module _ (L : Limits) (levels : ℕ → ℕ → ℕ) (most : ℕ) (t : Lent) (or
         (record { answers = told; numbers-put = refl; wholes-put = refl; decimals-put = refl })
 
     module _ (table : isTable L levels t ≡ true) (is-order : orderAt t order ≡ true) where
-      pub values-few : leb (length (numericRows t order)) (places (length numbers) (length wholes) (length decimals)) ≡ false → {r : ValuesRead}
-          → r ≡ resultsTold (refusesValues fewPlaces) → ReadValues L levels most t order numbers wholes decimals r numbers wholes decimals
-      values-few e = values-refused fewPlaces (few-places (length numbers) (length wholes) (length decimals) table is-order e)
+      pub values-few : leb (length (numericRows t order)) (answersRoom (length numbers) (length wholes) (length decimals)) ≡ false → {r : ValuesRead}
+          → r ≡ resultsTold (refusesValues littleRoom) → ReadValues L levels most t order numbers wholes decimals r numbers wholes decimals
+      values-few e = values-refused littleRoom (little-room (length numbers) (length wholes) (length decimals) table is-order e)
 
-      pub values-put : leb (length (numericRows t order)) (places (length numbers) (length wholes) (length decimals)) ≡ true
+      pub values-put : leb (length (numericRows t order)) (answersRoom (length numbers) (length wholes) (length decimals)) ≡ true
           → {count : ℕ} {numbers′ : List ℕ} {wholes′ : List ℤ} {decimals′ : List ℕ}
           → PutValues most t order numbers wholes decimals count numbers′ wholes′ decimals′
           → ReadValues L levels most t order numbers wholes decimals (record { number = 0; place = 0; count = count }) numbers′ wholes′ decimals′

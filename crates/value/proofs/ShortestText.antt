@@ -14,17 +14,16 @@ use lib.ListN.{length, length-append}
 use lib.Signed.{ltZ}
 use borrow.Author.Tests.{ltb-true, lt-ltb, le-ltb, leb-true, le-leb}
 use Rattle.laws.proofs.Tests.{and-first, and-second, and-both}
-use Rattle.value.specs.Numerals.{minus, point, allDigits, madeBy}
-use Rattle.value.specs.Values.{signedOf, ReadsTo, Shortest}
+use Rattle.value.specs.Numerals.{minus, point, allDigits, madeBy, behindPoint, SignIs, no-sign, a-plus, a-minus}
+use Rattle.value.specs.Values.{signedOf, ReadsTo, Shortest, Spelt}
 use Rattle.value.specs.Writing.{inRange, longestText}
 use Rattle.value.specs.inner.Digits.{tenths, lastDigits}
 use Rattle.value.specs.inner.Shortening.{digitsFor, signText, pointed, digitText, textFor, shortestText}
 use Rattle.value.specs.inner.Signs.{apart}
 use Rattle.value.proofs.DigitTexts.{digits-append, made-append, made-below, power-within}
 use Rattle.value.proofs.DigitsBack.{last-length, last-digits, last-first, last-add, made-last, tenths-made, last-made, count-most, count-least}
-use Rattle.value.proofs.NumberShape.{behindPoint, SignIs, no-sign, a-plus, a-minus}
 use Rattle.value.proofs.WrittenDigits.{apart-signed, signed-magnitude, written-decimals, written-enough, written-least, written-one}
-use Rattle.value.proofs.SpeltTexts.{Spelt, point-one, pointBytes, spelt-length, spelt-reads, reads-spelt}
+use Rattle.value.proofs.SpeltTexts.{point-one, pointBytes, spelt-length, spelt-reads, reads-spelt}
 
 -- the shortest text, spelt: its sign, its digits before the point and its decimals
 abbrev pub wholeWritten : ℕ → ℤ → ℕ → List ℕ
@@ -90,14 +89,18 @@ module _ (most : ℕ) (z : ℤ) (d : ℕ) where
   shortest-spelt : 1 ≤ most → natAbs z < 10 ^ most → d ≤ most → Spelt most z d (shortestText most z d)
   shortest-spelt one few decimals =
       record {
-        sign = signText (apart z .negative);
-        negative = apart z .negative;
-        sign-is = sign-written (apart z .negative);
-        whole = wholeWritten most z d;
-        decimals = decimalsWritten z d;
-        whole-digits = last-digits (digitsFor most (natAbs z) d - d) (tenths d (natAbs z));
-        decimal-digits = last-digits d (natAbs z);
-        some-digit = some-written;
+        number =
+            record {
+              sign = signText (apart z .negative);
+              negative = apart z .negative;
+              sign-is = sign-written (apart z .negative);
+              whole = wholeWritten most z d;
+              decimals = decimalsWritten z d;
+              whole-digits = last-digits (digitsFor most (natAbs z) d - d) (tenths d (natAbs z));
+              decimal-digits = last-digits d (natAbs z);
+              some-digit = some-written;
+              shape = shortest-shape;
+            };
         few =
             omega (
               arith,
@@ -106,7 +109,6 @@ module _ (most : ℕ) (z : ℤ) (d : ℕ) where
               written-decimals most (natAbs z) d,
               written-least most (natAbs z) d most (count-most most (natAbs z)) decimals one,
             );
-        shape = shortest-shape;
         value =
             ap (λ (s : List ℕ). signedOf (apart z .negative) (madeBy 0 s)) written-joined
             ∙ ap (λ (n : ℕ). signedOf (apart z .negative) (madeBy n (lastDigits (digitsFor most (natAbs z) d) (natAbs z))))
@@ -140,77 +142,77 @@ only-sign m z a-minus e h = a-sign-minus (ltZ z (pos 0)) h
 
 -- what a text that reads to a value has at least, and what it is where it has no more
 module _ {most : ℕ} {z : ℤ} {d : ℕ} {text : List ℕ} (s : Spelt most z d text) where
-  pub spelt-magnitude : madeBy 0 (s .whole ++ s .decimals) ≡ natAbs z
-  spelt-magnitude = sym (signed-magnitude (s .negative) (madeBy 0 (s .whole ++ s .decimals))) ∙ ap natAbs (s .value)
+  pub spelt-magnitude : madeBy 0 (s .number .whole ++ s .number .decimals) ≡ natAbs z
+  spelt-magnitude = sym (signed-magnitude (s .number .negative) (madeBy 0 (s .number .whole ++ s .number .decimals))) ∙ ap natAbs (s .value)
 
-  joined-digits : allDigits (s .whole ++ s .decimals) ≡ true
-  joined-digits = digits-append (s .whole) (s .decimals) (s .whole-digits) (s .decimal-digits)
+  joined-digits : allDigits (s .number .whole ++ s .number .decimals) ≡ true
+  joined-digits = digits-append (s .number .whole) (s .number .decimals) (s .number .whole-digits) (s .number .decimal-digits)
 
-  joined-length : length (s .whole ++ s .decimals) ≡ length (s .whole) + length (s .decimals)
-  joined-length = length-append (s .whole) (s .decimals)
+  joined-length : length (s .number .whole ++ s .number .decimals) ≡ length (s .number .whole) + length (s .number .decimals)
+  joined-length = length-append (s .number .whole) (s .number .decimals)
 
-  enough-digits : digitsFor most (natAbs z) d ≤ length (s .whole) + length (s .decimals)
+  enough-digits : digitsFor most (natAbs z) d ≤ length (s .number .whole) + length (s .number .decimals)
   enough-digits =
-      let brought : tenths (length (s .whole ++ s .decimals)) (natAbs z) ≡ 0 =
-      ap (tenths (length (s .whole ++ s .decimals))) (sym spelt-magnitude) ∙ tenths-made 0 (s .whole ++ s .decimals) joined-digits in
-      written-least most (natAbs z) d (length (s .whole) + length (s .decimals))
-      (omega (arith, count-least most (length (s .whole ++ s .decimals)) (natAbs z) brought, joined-length))
+      let brought : tenths (length (s .number .whole ++ s .number .decimals)) (natAbs z) ≡ 0 =
+      ap (tenths (length (s .number .whole ++ s .number .decimals))) (sym spelt-magnitude) ∙ tenths-made 0 (s .number .whole ++ s .number .decimals) joined-digits in
+      written-least most (natAbs z) d (length (s .number .whole) + length (s .number .decimals))
+      (omega (arith, count-least most (length (s .number .whole ++ s .number .decimals)) (natAbs z) brought, joined-length))
       (omega (arith, s .count))
-      (s .some-digit)
+      (s .number .some-digit)
 
-  text-length : length text ≡ length (s .sign) + (length (s .whole) + length (s .decimals) + pointBytes d)
+  text-length : length text ≡ length (s .number .sign) + (length (s .number .whole) + length (s .number .decimals) + pointBytes d)
   text-length =
-      omega (arith, ap length (s .shape), spelt-length (s .sign) (s .whole) (s .decimals), ap pointBytes (s .count))
+      omega (arith, ap length (s .number .shape), spelt-length (s .number .sign) (s .number .whole) (s .number .decimals), ap pointBytes (s .count))
 
-  sign-needed : length (signText (apart z .negative)) ≤ length (s .sign)
-  sign-needed = least-sign (madeBy 0 (s .whole ++ s .decimals)) z (s .sign-is) (s .value)
+  sign-needed : length (signText (apart z .negative)) ≤ length (s .number .sign)
+  sign-needed = least-sign (madeBy 0 (s .number .whole ++ s .number .decimals)) z (s .number .sign-is) (s .value)
 
   pub no-shorter : length (shortestText most z d) ≤ length text
   no-shorter = omega (arith, shortest-length most z d, text-length, sign-needed, enough-digits)
 
-  decimals-are : s .decimals ≡ decimalsWritten z d
+  decimals-are : s .number .decimals ≡ decimalsWritten z d
   decimals-are =
-      sym (last-made (madeBy 0 (s .whole)) (s .decimals) (s .decimal-digits))
-      ∙ ap₂ lastDigits (s .count) (sym (made-append 0 (s .whole) (s .decimals)) ∙ spelt-magnitude)
+      sym (last-made (madeBy 0 (s .number .whole)) (s .number .decimals) (s .number .decimal-digits))
+      ∙ ap₂ lastDigits (s .count) (sym (made-append 0 (s .number .whole) (s .number .decimals)) ∙ spelt-magnitude)
 
-  whole-made : madeBy 0 (s .whole) ≡ tenths d (natAbs z)
+  whole-made : madeBy 0 (s .number .whole) ≡ tenths d (natAbs z)
   whole-made =
-      sym (tenths-made (madeBy 0 (s .whole)) (s .decimals) (s .decimal-digits))
-      ∙ ap₂ tenths (s .count) (sym (made-append 0 (s .whole) (s .decimals)) ∙ spelt-magnitude)
+      sym (tenths-made (madeBy 0 (s .number .whole)) (s .number .decimals) (s .number .decimal-digits))
+      ∙ ap₂ tenths (s .count) (sym (made-append 0 (s .number .whole) (s .number .decimals)) ∙ spelt-magnitude)
 
-  whole-is : length (s .whole) ≡ digitsFor most (natAbs z) d - d → s .whole ≡ wholeWritten most z d
-  whole-is e = sym (last-made 0 (s .whole) (s .whole-digits)) ∙ ap₂ lastDigits e whole-made
+  whole-is : length (s .number .whole) ≡ digitsFor most (natAbs z) d - d → s .number .whole ≡ wholeWritten most z d
+  whole-is e = sym (last-made 0 (s .number .whole) (s .number .whole-digits)) ∙ ap₂ lastDigits e whole-made
 
   pub no-other : length text ≤ length (shortestText most z d) → text ≡ shortestText most z d
   no-other h =
-      let lengths : (length (s .sign) ≤ length (signText (apart z .negative))) × (length (s .whole) ≡ digitsFor most (natAbs z) d - d) =
+      let lengths : (length (s .number .sign) ≤ length (signText (apart z .negative))) × (length (s .number .whole) ≡ digitsFor most (natAbs z) d - d) =
       omega (arith, h, shortest-length most z d, text-length, sign-needed, enough-digits, s .count) in
-      s .shape
+      s .number .shape
       ∙ ap₂ (λ (a b : List ℕ). a ++ b)
-      (only-sign (madeBy 0 (s .whole ++ s .decimals)) z (s .sign-is) (s .value) (lengths .0))
+      (only-sign (madeBy 0 (s .number .whole ++ s .number .decimals)) z (s .number .sign-is) (s .value) (lengths .0))
       (ap₂ (λ (a b : List ℕ). a ++ behindPoint b) (whole-is (lengths .1)) decimals-are)
       ∙ sym (shortest-shape most z d)
 
   pub spelt-few : natAbs z < 10 ^ most
   spelt-few =
       rw (sym spelt-magnitude)
-      (le-trans (made-below 0 0 (s .whole ++ s .decimals) joined-digits (omega arith))
-      (power-within (0 + length (s .whole ++ s .decimals)) most (omega (arith, joined-length, s .few))))
+      (le-trans (made-below 0 0 (s .number .whole ++ s .number .decimals) joined-digits (omega arith))
+      (power-within (0 + length (s .number .whole ++ s .number .decimals)) most (omega (arith, joined-length, s .few))))
 
   pub spelt-decimals : d ≤ most
   spelt-decimals = omega (arith, s .count, s .few)
 
 -- a value in range: what the two tests say
 module _ (most : ℕ) (z : ℤ) (d : ℕ) where
-  range-few : inRange most z d ≡ true → natAbs z < 10 ^ most
+  pub range-few : inRange most z d ≡ true → natAbs z < 10 ^ most
   unfolding inRange
   range-few h = ltb-true (natAbs z) (10 ^ most) (and-first (ltb (natAbs z) (10 ^ most)) (leb d most) h)
 
-  range-decimals : inRange most z d ≡ true → d ≤ most
+  pub range-decimals : inRange most z d ≡ true → d ≤ most
   unfolding inRange
   range-decimals h = leb-true d most (and-second (ltb (natAbs z) (10 ^ most)) (leb d most) h)
 
-  range-both : natAbs z < 10 ^ most → d ≤ most → inRange most z d ≡ true
+  pub range-both : natAbs z < 10 ^ most → d ≤ most → inRange most z d ≡ true
   unfolding inRange
   range-both h k = and-both (lt-ltb (natAbs z) (10 ^ most) h) (le-leb d most k)
 

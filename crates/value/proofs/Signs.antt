@@ -80,7 +80,7 @@ not-below : (whole : ℤ) → SFits w64 whole → ltZ whole (pos 0) ≡ false �
 not-below (pos a) f e = record { size = a; is = refl; small = f .sfits; bits = toZ-ofZ w64 (pos a) f }
 not-below (negsuc n) f e = absurd (never-both refl e)
 
--- what a cast to an unsigned number asks
+-- what a cast to an unsignedText number asks
 abbrev Castable : ℤ → Type 0
 Castable z = T (nonNeg z) × Fits w64 (natAbs z)
 

@@ -15,29 +15,14 @@ use Rattle.table.specs.Leaves.{split}
 use Rattle.value.specs.declared.numeral.Numeral.{Numeral}
 use Rattle.value.specs.declared.reading.Value.{Value}
 use Rattle.value.specs.Refusals.{notANumber, manyDigits}
-use Rattle.value.specs.Numerals.{point, allDigits, unsigned, isNegative, areNumber, madeBy, saysNone, saidBy, numeralOf}
-use Rattle.value.specs.Values.{signedOf, withSign, valueOf, ReadsTo}
+use Rattle.value.specs.Numerals.{point, unsignedText, isNegative, areNumber, madeBy, saysNone, saidBy, numeralOf, behindPoint}
+use Rattle.value.specs.Values.{signedOf, withSign, valueOf, ReadsTo, Spelt}
 use Rattle.value.proofs.NumberParts.{said-none, said-many, said-number}
-use Rattle.value.proofs.NumberShape.{behindPoint, BareNumber, bare-parts, number-bare, bare-apart, SignIs, parted}
-
--- how a text is spelt that reads to a value: a sign, digits, and as many decimals as the value has, which make the value's magnitude
-pub record Spelt (most : ℕ) (z : ℤ) (d : ℕ) (text : List ℕ) : Type 0 where
-  pub sign : List ℕ
-  pub negative : Bool
-  pub sign-is : SignIs sign negative
-  pub whole : List ℕ
-  pub decimals : List ℕ
-  pub whole-digits : allDigits whole ≡ true
-  pub decimal-digits : allDigits decimals ≡ true
-  pub some-digit : 1 ≤ length whole + length decimals
-  pub few : length whole + length decimals ≤ most
-  pub shape : text ≡ sign ++ (whole ++ behindPoint decimals)
-  pub value : signedOf negative (madeBy 0 (whole ++ decimals)) ≡ z
-  pub count : length decimals ≡ d
+use Rattle.value.proofs.NumberShape.{bare-parts, number-bare, bare-apart, bare-of, shaped}
 
 -- what a text's value is by what its parts say
 module _ (most : ℕ) (text : List ℕ) where
-  value-of : (n : Numeral) → saidBy most (isNegative text) (split point (unsigned text)) ≡ n → valueOf most text ≡ withSign n
+  value-of : (n : Numeral) → saidBy most (isNegative text) (split point (unsignedText text)) ≡ n → valueOf most text ≡ withSign n
   unfolding valueOf numeralOf
   value-of n e = ap withSign e
 
@@ -52,27 +37,18 @@ module _ (most : ℕ) (text : List ℕ) where
   reads-spelt z d h = go (tested (areNumber parts)) (less-or-not most (length (concat parts)))
     where
       parts : List (List ℕ)
-      parts = split point (unsigned text)
+      parts = split point (unsignedText text)
 
       spelt : areNumber parts ≡ true → length (concat parts) ≤ most → Spelt most z d text
       spelt k few =
-          let n = number-bare (unsigned text) k in
-          let p = parted text in
+          let n = number-bare (unsignedText text) k in
           let b = bare-parts (n .whole) (n .decimals) (n .whole-digits) (n .decimal-digits) (n .some-digit) in
           let joined : concat parts ≡ n .whole ++ n .decimals = ap (λ (u : List ℕ). concat (split point u)) (n .shape) ∙ b .joined in
           let second : getD parts 1 [] ≡ n .decimals = ap (λ (u : List ℕ). getD (split point u) 1 []) (n .shape) ∙ b .second in
           let told = value-of _ (said-number most (isNegative text) parts k few) in
           record {
-            sign = p .sign;
-            negative = isNegative text;
-            sign-is = p .is;
-            whole = n .whole;
-            decimals = n .decimals;
-            whole-digits = n .whole-digits;
-            decimal-digits = n .decimal-digits;
-            some-digit = n .some-digit;
+            number = shaped text k;
             few = omega (arith, few, ap length joined, length-append (n .whole) (n .decimals));
-            shape = p .text-is ∙ ap (λ (t : List ℕ). p .sign ++ t) (n .shape);
             value =
                 ap (λ (s : List ℕ). signedOf (isNegative text) (madeBy 0 s)) (sym joined)
                 ∙ sym (ap (λ (v : Value). v .whole) told)
@@ -87,26 +63,17 @@ module _ (most : ℕ) (text : List ℕ) where
 
   pub spelt-reads : (z : ℤ) (d : ℕ) → Spelt most z d text → ReadsTo most z d text
   spelt-reads z d s =
-      let u = s .whole ++ behindPoint s.decimals in
-      let b = bare-parts (s .whole) (s .decimals) (s .whole-digits) (s .decimal-digits) (s .some-digit) in
-      let bare : BareNumber u =
-      record {
-        whole = s .whole;
-        decimals = s .decimals;
-        whole-digits = s .whole-digits;
-        decimal-digits = s .decimal-digits;
-        some-digit = s .some-digit;
-        shape = refl;
-      } in
-      let off = bare-apart (s .sign-is) bare in
-      let parts : split point (unsigned text) ≡ split point u = ap (split point) (ap unsigned (s .shape) ∙ off .0) in
-      let negative : isNegative text ≡ s .negative = ap isNegative (s .shape) ∙ off .1 in
+      let u = s .number .whole ++ behindPoint (s .number .decimals) in
+      let b = bare-parts (s .number .whole) (s .number .decimals) (s .number .whole-digits) (s .number .decimal-digits) (s .number .some-digit) in
+      let off = bare-apart (s .number .sign-is) (bare-of (s .number)) in
+      let parts : split point (unsignedText text) ≡ split point u = ap (split point) (ap unsignedText (s .number .shape) ∙ off .0) in
+      let negative : isNegative text ≡ s .number .negative = ap isNegative (s .number .shape) ∙ off .1 in
       value-of _
       (ap₂ (λ (n : Bool) (ps : List (List ℕ)). saidBy most n ps) negative parts
-      ∙ said-number most (s .negative) (split point u) (b .number)
-      (omega (arith, s .few, ap length (b .joined), length-append (s .whole) (s .decimals))))
+      ∙ said-number most (s .number .negative) (split point u) (b .number)
+      (omega (arith, s .few, ap length (b .joined), length-append (s .number .whole) (s .number .decimals))))
       ∙ ap₂ {C = Value} (λ (w : ℤ) (k : ℕ). record { number = 0; whole = w; decimals = k })
-      (ap (λ (t : List ℕ). signedOf (s .negative) (madeBy 0 t)) (b .joined) ∙ s .value)
+      (ap (λ (t : List ℕ). signedOf (s .number .negative) (madeBy 0 t)) (b .joined) ∙ s .value)
       (ap length (b .second) ∙ s .count)
 
 -- the bytes of a point, where there are decimals

@@ -1,4 +1,4 @@
--- What a text says, by what reading it finds: the sign, the digits behind it, and the digits behind a point.
+-- What a text says, by the struct of its sign and the two runs of digits that the code has in hand: each way out of `read_numeral` is a law here.
 -- Assumes nothing.
 use mathlib.Core.Path.{_≡_, sym, ap, _∙_}
 use Prim.Native.Nat.{ℕ, _+_, _-_, _≤_, _<_}

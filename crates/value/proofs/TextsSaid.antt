@@ -14,7 +14,7 @@ use Rattle.laws.proofs.Tests.{Tested, passed, failed, tested, or-first, or-seco
 use Rattle.table.specs.Leaves.{split}
 use Rattle.table.proofs.Splitting.{firstPart, otherParts}
 use Rattle.value.specs.Refusals.{notANumber}
-use Rattle.value.specs.Numerals.{mostDigits, plus, minus, point, isDigit, allDigits, unsigned, isNegative, madeBy, saysNone, saidBy, numeralOf}
+use Rattle.value.specs.Numerals.{mostDigits, plus, minus, point, isDigit, allDigits, unsignedText, isNegative, madeBy, saysNone, saidBy, numeralOf}
 use Rattle.value.specs.inner.Runs.{signOf, digitRun, withDigits, judgedDigits}
 use Rattle.value.proofs.DigitTexts.{digits-append, digits-broken, run-digits, run-ended, run-then-rest, run-whole, run-within, with-append, with-made}
 use Rattle.value.proofs.NumberParts.{behind-stopped, first-part-broken, one-part, said-judged, said-none, split-broken, split-digits, split-pointed, two-parts}
@@ -33,21 +33,21 @@ module _ (b : ℕ) (s : List ℕ) where
   unfolding signOf
   sign-none h k = rw (h, k, signOf)
 
-  pub unsigned-sign : (eqb b plus || eqb b minus) ≡ true → unsigned (b ∷ s) ≡ s
-  unfolding unsigned
-  unsigned-sign h = rw (h, unsigned)
+  pub unsigned-sign : (eqb b plus || eqb b minus) ≡ true → unsignedText (b ∷ s) ≡ s
+  unfolding unsignedText
+  unsigned-sign h = rw (h, unsignedText)
 
-  pub unsigned-none : (eqb b plus || eqb b minus) ≡ false → unsigned (b ∷ s) ≡ b ∷ s
-  unfolding unsigned
-  unsigned-none h = rw (h, unsigned)
+  pub unsigned-none : (eqb b plus || eqb b minus) ≡ false → unsignedText (b ∷ s) ≡ b ∷ s
+  unfolding unsignedText
+  unsigned-none h = rw (h, unsignedText)
 
 -- what stands behind it, whether it is a minus, and that it lies within
-pub unsigned-drops : (text : List ℕ) → unsigned text ≡ drop (signOf text .length) text
-unfolding unsigned signOf
+pub unsigned-drops : (text : List ℕ) → unsignedText text ≡ drop (signOf text .length) text
+unfolding unsignedText signOf
 unsigned-drops [] = refl
 unsigned-drops (b ∷ s) = go (tested (eqb b minus)) (tested (eqb b plus))
   where
-    go : Tested (eqb b minus) → Tested (eqb b plus) → unsigned (b ∷ s) ≡ drop (signOf (b ∷ s) .length) (b ∷ s)
+    go : Tested (eqb b minus) → Tested (eqb b plus) → unsignedText (b ∷ s) ≡ drop (signOf (b ∷ s) .length) (b ∷ s)
     go (passed m) p = unsigned-sign b s (or-second (eqb b plus) m) ∙ rw (sign-minus b s m)
     go (failed m) (passed p) = unsigned-sign b s (or-first (eqb b minus) p) ∙ rw (sign-plus b s m p)
     go (failed m) (failed p) = unsigned-none b s (or-fails p m) ∙ rw (sign-none b s m p)

@@ -2,7 +2,6 @@
 -- Assumes nothing.
 use mathlib.Core.Bool.{Bool, true, false, _&&_, _||_}
 use mathlib.Core.List.{List, [], _∷_, _++_}
-use mathlib.Core.Logic.{_⊎_}
 use mathlib.Core.Path.{_≡_}
 use Prim.Native.Nat.{ℕ, _+_, _*_, _-_, _≤_}
 use lib.Dec.{leb, ltb, eqb}
@@ -35,9 +34,9 @@ allDigits [] = true
 allDigits (b ∷ s) = isDigit b && allDigits s
 
 -- what stands behind the sign, where a text begins with one; whether it begins with a minus
-unfoldable pub unsigned : List ℕ → List ℕ
-unsigned [] = []
-unsigned (b ∷ s) = elim (eqb b plus || eqb b minus) [ true ↦ s | false ↦ b ∷ s ]
+unfoldable pub unsignedText : List ℕ → List ℕ
+unsignedText [] = []
+unsignedText (b ∷ s) = elim (eqb b plus || eqb b minus) [ true ↦ s | false ↦ b ∷ s ]
 
 unfoldable pub isNegative : List ℕ → Bool
 isNegative text = eqb (getD text 0 0) minus
@@ -50,15 +49,28 @@ areNumber (whole ∷ []) = allDigits whole && ltb 0 (length whole)
 areNumber (whole ∷ decimals ∷ []) = allDigits whole && allDigits decimals && ltb 0 (length decimals)
 areNumber (whole ∷ decimals ∷ more ∷ parts) = false
 
--- the same as a shape (D1): a sign or none; digits; and nothing more where there is one at least, or a point and digits, one at least
+-- a sign or none, and whether it is a minus
+pub data SignIs : List ℕ → Bool → Type 0 where
+  no-sign : SignIs [] false
+  a-plus : SignIs (plus ∷ []) false
+  a-minus : SignIs (minus ∷ []) true
+
+-- the decimals with their point in front, and nothing where there are none
+unfoldable pub behindPoint : List ℕ → List ℕ
+behindPoint [] = []
+behindPoint (b ∷ s) = point ∷ b ∷ s
+
+-- a number's text as a shape (D1): a sign or none, digits, and a point and digits or nothing; one digit at least
 pub record NumberText (text : List ℕ) : Type 0 where
   pub sign : List ℕ
-  pub one-sign : (sign ≡ []) ⊎ ((sign ≡ plus ∷ []) ⊎ (sign ≡ minus ∷ []))
+  pub negative : Bool
+  pub sign-is : SignIs sign negative
   pub whole : List ℕ
+  pub decimals : List ℕ
   pub whole-digits : allDigits whole ≡ true
-  pub ending : List ℕ
-  pub one-ending : ((ending ≡ []) × (1 ≤ length whole)) ⊎ ((d : List ℕ) × (ending ≡ point ∷ d) × (allDigits d ≡ true) × (1 ≤ length d))
-  pub shape : text ≡ sign ++ whole ++ ending
+  pub decimal-digits : allDigits decimals ≡ true
+  pub some-digit : 1 ≤ length whole + length decimals
+  pub shape : text ≡ sign ++ (whole ++ behindPoint decimals)
 
 -- the number that digits make behind one made before them
 unfoldable pub madeBy : ℕ → List ℕ → ℕ
@@ -83,4 +95,4 @@ saidBy most negative parts =
 
 -- what a text says
 unfoldable pub numeralOf : (most : ℕ) → List ℕ → Numeral
-numeralOf most text = saidBy most (isNegative text) (split point (unsigned text))
+numeralOf most text = saidBy most (isNegative text) (split point (unsignedText text))

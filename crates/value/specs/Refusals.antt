@@ -17,5 +17,5 @@ narrowOutput = 23
 abbrev pub notAnOrder : ℕ
 notAnOrder = 24
 
-abbrev pub fewPlaces : ℕ
-fewPlaces = 25
+abbrev pub littleRoom : ℕ
+littleRoom = 25

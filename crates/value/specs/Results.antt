@@ -21,12 +21,21 @@ use Rattle.look.specs.declared.leaf.Sought.{Sought}
 use Rattle.look.specs.declared.leaf.Sought.the-variants.{At, Empty, NotThere}
 use Rattle.look.specs.Looking.{hasKindAndOwner, orderAt}
 use Rattle.look.specs.inner.Searching.{soughtIn}
-use Rattle.value.specs.declared.numeral.Numeral.{Numeral}
 use Rattle.value.specs.declared.reading.Value.{Value}
 use Rattle.value.specs.declared.results.ValuesRead.{ValuesRead}
-use Rattle.value.specs.Refusals.{notANumber, notAnOrder, fewPlaces}
-use Rattle.value.specs.Numerals.{saysNone, numeralOf}
-use Rattle.value.specs.Values.{withSign}
+use Rattle.value.specs.Refusals.{notANumber, notAnOrder, littleRoom}
+use Rattle.value.specs.Numerals.{saysNone}
+use Rattle.value.specs.Values.{withSign, valueOf}
+
+-- the kind of a result, OBX (S1), and the fields that have its type and its value, 10.3 and 10.6 (S5)
+abbrev pub resultKind : ℕ
+resultKind = 6
+
+abbrev pub typeField : ℕ
+typeField = 3
+
+abbrev pub valueField : ℕ
+valueField = 6
 
 -- the type of numeric results
 unfoldable pub numericType : List ℕ
@@ -34,7 +43,7 @@ numericType = bytes "NM"
 
 -- the place of leaf 10.3 of segment row i, counted from 0 (S5)
 unfoldable pub typePlace : ℕ → Place
-typePlace i = record { segment = suc i; field = 3; repetition = 1; subfield = 1; subsubfield = 1 }
+typePlace i = record { segment = suc i; field = typeField; repetition = 1; subfield = 1; subsubfield = 1 }
 
 -- whether what was sought is there with a given text
 unfoldable pub saysText : List ℕ → List ℕ → Sought → Bool
@@ -42,10 +51,9 @@ saysText text wanted (At start n) = same (take n (drop start text)) wanted
 saysText text wanted Empty = false
 saysText text wanted NotThere = false
 
--- whether segment row i, counted from 0, is a numeric result of the order in a row counted from 1: an OBX, kind 6 (S1), that the row owns, whose
--- leaf 10.3 is NM
+-- whether segment row i, counted from 0, is a numeric result of the order in a row counted from 1: an OBX that the row owns, whose leaf 10.3 is NM
 unfoldable pub isNumeric : Lent → (order : ℕ) → ℕ → Bool
-isNumeric t order i = hasKindAndOwner (t .segmentRows) 6 order i && saysText (t .text) numericType (soughtIn t (typePlace i))
+isNumeric t order i = hasKindAndOwner (t .segmentRows) resultKind order i && saysText (t .text) numericType (soughtIn t (typePlace i))
 
 -- all of them, in the order of the rows
 abbrev pub numericRows : Lent → (order : ℕ) → List ℕ
@@ -59,28 +67,32 @@ ofField rows segment field i = eqb (getD (placeIn rows i) 0 0) segment && eqb (g
 abbrev pub leafTextIn : (leafRows text : List ℕ) → ℕ → List ℕ
 leafTextIn rows text i = take (lengthIn rows i) (drop (startIn rows i) text)
 
--- what the leaves of a field say, by their rows: the text of the one leaf that there is; none or several are no number
-unfoldable pub oneLeaf : (most : ℕ) → Lent → List ℕ → Numeral
-oneLeaf most t [] = saysNone notANumber
-oneLeaf most t (i ∷ []) = numeralOf most (leafTextIn (t .leafRows) (t .text) i)
-oneLeaf most t (i ∷ j ∷ rows) = saysNone notANumber
+-- no value, where there is no number
+abbrev pub noNumber : Value
+noNumber = withSign (saysNone notANumber)
 
--- what the value of segment row i says, counted from 0: by its field 10.6
-unfoldable pub resultOf : (most : ℕ) → Lent → ℕ → Numeral
-resultOf most t i = oneLeaf most t (passing (ofField (t .leafRows) (suc i) 6) 0 (t .card .leaves))
+-- the value of a field's leaves, by their rows: that of the one leaf's text; none and several have no number
+unfoldable pub oneLeaf : (most : ℕ) → Lent → List ℕ → Value
+oneLeaf most t [] = noNumber
+oneLeaf most t (i ∷ []) = valueOf most (leafTextIn (t .leafRows) (t .text) i)
+oneLeaf most t (i ∷ j ∷ rows) = noNumber
+
+-- the value of segment row i, counted from 0: by its field 10.6
+unfoldable pub valueAt : (most : ℕ) → Lent → ℕ → Value
+valueAt most t i = oneLeaf most t (passing (ofField (t .leafRows) (suc i) valueField) 0 (t .card .leaves))
 
 -- the answers for an order's results
 abbrev pub valuesOf : (most : ℕ) → Lent → (order : ℕ) → List Value
-valuesOf most t order = map (λ i. withSign (resultOf most t i)) (numericRows t order)
+valuesOf most t order = map (valueAt most t) (numericRows t order)
 
 -- the outcome for an order: refused with a number, or the answers
 pub data Results : Type 0 where
   refusesValues : (number : ℕ) → Results
   gives : (values : List Value) → Results
 
--- how many answers three buffers of these lengths hold: as many as the shortest
-abbrev pub places : (numbers wholes decimals : ℕ) → ℕ
-places numbers wholes decimals = min (min numbers wholes) decimals
+-- how many answers have room in three buffers of these lengths: as many as in the shortest
+abbrev pub answersRoom : (numbers wholes decimals : ℕ) → ℕ
+answersRoom numbers wholes decimals = min (min numbers wholes) decimals
 
 -- the table is tested first, for 13, then the row, for 24, then the room, for 25 (D6)
 unfoldable pub results : Limits → (ℕ → ℕ → ℕ) → (most : ℕ) → Lent → (order : ℕ) → (numbers wholes decimals : ℕ) → Results
@@ -89,9 +101,9 @@ results L levels most t order numbers wholes decimals =
       | true ↦
           elim (orderAt t order) [
             | true ↦
-                elim (leb (length (numericRows t order)) (places numbers wholes decimals)) [
+                elim (leb (length (numericRows t order)) (answersRoom numbers wholes decimals)) [
                   | true ↦ gives (valuesOf most t order)
-                  | false ↦ refusesValues fewPlaces
+                  | false ↦ refusesValues littleRoom
                 ]
             | false ↦ refusesValues notAnOrder
           ]

@@ -12,7 +12,7 @@ use Rattle.value.specs.declared.writing.ValueWritten.{ValueWritten}
 use Rattle.value.specs.Refusals.{outOfRange, narrowOutput}
 use Rattle.value.specs.inner.Shortening.{shortestText}
 
--- whether some text of so many digits at most reads to a value (D5)
+-- whether a whole number has so many digits at most, its sign aside, and no more decimals than that (D5); that some text reads to it exactly then is a law
 unfoldable pub inRange : (most : ℕ) → ℤ → ℕ → Bool
 inRange most whole decimals = ltb (natAbs whole) (10 ^ most) && leb decimals most
 

@@ -5,12 +5,12 @@ impl Refusal {
     pub const NOT_A_NUMBER: u8 = 20;
     // over 15 digits
     pub const MANY_DIGITS: u8 = 21;
-    // a number that no text of 15 digits says
+    // a number that no text of at most 15 digits says
     pub const OUT_OF_RANGE: u8 = 22;
     // an output under 17 bytes
     pub const NARROW_OUTPUT: u8 = 23;
     // a row that is no counted OBR
     pub const NOT_AN_ORDER: u8 = 24;
     // room for fewer answers than there are numeric results
-    pub const FEW_PLACES: u8 = 25;
+    pub const LITTLE_ROOM: u8 = 25;
 }

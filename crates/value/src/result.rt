@@ -15,13 +15,16 @@ ghost use Rattle.laws.specs.Lists.{same};
 ghost use Rattle.laws.specs.Tables.{passing};
 ghost use Rattle.table.specs.Lent.{lent};
 ghost use Rattle.value.specs.Numerals.{mostDigits, numeralOf};
-ghost use Rattle.value.specs.Results.{numericType, isNumeric, ofField, leafTextIn, resultOf};
-ghost use Rattle.value.specs.inner.Seeking.{ResultRow, FieldRows, LeafRow};
+ghost use Rattle.value.specs.Results.{numericType, valueField, isNumeric, ofField, leafTextIn};
+ghost use Rattle.value.specs.inner.Seeking.{ResultRow, FieldRows, LeafRow, resultOf};
 
 // The field that has the type of an OBX (10.3), and the field that has its value (10.6).
 const TYPE: rows::Entry = 3;
 
 const VALUE: rows::Entry = 6;
+
+// Letters of a type.
+const LETTERS: usize = 2;
 
 // Whether a segment row, counted from 0, is a numeric result of an order: an OBX whose owner is the order's row, with the type NM.
 pub(crate) fn is_numeric(
@@ -60,7 +63,7 @@ pub(crate) fn is_numeric(
 fn is_type(text: &[u8]) -> bool
     ensures { λ r. ⌜ r ≡ same (now (text .entry)) numericType ⌝ }
 {
-    if text.len() != 2 {
+    if text.len() != LETTERS {
         return false;
     }
     if text[0] != b'N' {
@@ -109,7 +112,7 @@ fn leaf_says(leaves: &[rows::Entry], text: &[u8], row: usize) -> Numeral
 // there is none.
 fn first_of_field(leaves: &[rows::Entry], from: usize, to: usize, segment: rows::Entry) -> usize
     requires { ⌜ FieldRows (now leaves) from to ⌝ }
-    ensures { λ r. ⌜ r ≡ getD (passing (ofField (now (leaves .entry)) segment 6) from (to - from)) 0 to ⌝ }
+    ensures { λ r. ⌜ r ≡ getD (passing (ofField (now (leaves .entry)) segment valueField) from (to - from)) 0 to ⌝ }
 {
     let mut next = from;
     while next < to {

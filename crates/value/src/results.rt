@@ -27,8 +27,8 @@ pub struct ValuesRead {
 }
 
 // The numbers of all numeric results under an OBR row of a table, each answer's three parts at the same place of three lent buffers: 0, 20
-// or 21; the whole number; the decimals. Places past the count stay. Any card, any buffers and any row get an answer. Once the table is
-// tested, only the order's own rows and leaves are looked at.
+// or 21; the whole number; the decimals. Entries past the count stay. Any card, any buffers and any row get an answer. Once the table is
+// tested, only the order's own rows and leaves are looked at, and the row behind them.
 pub fn order_values(
     card: Card,
     segments: &[rows::Entry],
@@ -50,7 +50,7 @@ pub fn order_values(
     }
     let room = lesser(lesser(numbers.len(), wholes.len()), decimals.len());
     if !has_room(card, segments, leaves, text, order, room) {
-        return refusal(Refusal::FEW_PLACES);
+        return refusal(Refusal::LITTLE_ROOM);
     }
     let count = put_values(
         card,

@@ -14,6 +14,9 @@ ghost use Rattle.value.specs.Writing.{WroteValue, refusesValue, spelling
 ghost use Rattle.value.specs.inner.Digits.{lastDigits, tenths, digitCount};
 ghost use Rattle.value.specs.inner.Shortening.{Spellable, PutText, greaterOf, digitsFor, signText, pointed, textFor};
 
+// As many numbers as four digits say.
+const TEN_THOUSAND: u64 = 10000;
+
 // What comes back (D5): 0, 22 or 23, and how many bytes were written, 0 on a refusal.
 pub struct ValueWritten {
     pub number: u8,
@@ -120,8 +123,8 @@ fn digit_count(magnitude: u64) -> usize
 {
     let mut left = magnitude;
     let mut count = 0;
-    while left >= 10000 {
-        left /= 10000;
+    while left >= TEN_THOUSAND {
+        left /= TEN_THOUSAND;
         count += 4;
     }
     count + four_digits(left)

@@ -1,19 +1,32 @@
 -- What the search for an order's numeric results asks of a table, and what it puts.
 -- Assumes nothing.
 use mathlib.Core.Bool.{true}
-use mathlib.Core.List.{List, map}
+use mathlib.Core.List.{List, [], _∷_, map}
 use mathlib.Core.Path.{_≡_}
 use Prim.Native.Nat.{ℕ, suc, _+_, _*_, _-_, _≤_, _<_}
 use lib.IntN.{ℤ}
 use lib.ListN.{length, getD}
 use lib.Seq.{sets}
+use Rattle.laws.specs.Tables.{passing}
 use Rattle.table.specs.Lent.{Lent, withinBuffers}
 use Rattle.table.specs.Rows.{width, leafRowSize, kindIn, ownerIn, firstIn, countIn, placeIn, startIn, lengthIn}
 use Rattle.look.specs.declared.leaf.Place.{Place}
 use Rattle.look.specs.Looking.{isNamed}
 use Rattle.look.specs.inner.Searching.{soughtIn, soughtInSegment}
+use Rattle.value.specs.declared.numeral.Numeral.{Numeral}
 use Rattle.value.specs.declared.reading.Value.{Value}
-use Rattle.value.specs.Results.{numericRows, valuesOf}
+use Rattle.value.specs.Refusals.{notANumber}
+use Rattle.value.specs.Numerals.{saysNone, numeralOf}
+use Rattle.value.specs.Results.{resultKind, valueField, ofField, leafTextIn, numericRows, valuesOf}
+
+-- what the leaves of field 10.6 say, and the value of a row, with the sign and the digits still apart
+unfoldable pub leafSays : (most : ℕ) → Lent → List ℕ → Numeral
+leafSays most t [] = saysNone notANumber
+leafSays most t (i ∷ []) = numeralOf most (leafTextIn (t .leafRows) (t .text) i)
+leafSays most t (i ∷ j ∷ rows) = saysNone notANumber
+
+unfoldable pub resultOf : (most : ℕ) → Lent → ℕ → Numeral
+resultOf most t i = leafSays most t (passing (ofField (t .leafRows) (suc i) valueField) 0 (t .card .leaves))
 
 -- what is known of a table that some message reads to: counts within the buffers and the rows' width; the leaves of each segment row among those
 -- counted; texts within the counted text; and the lookup within a segment answers what the lookup does
@@ -42,11 +55,11 @@ pub record LeafRow (leaves text : List ℕ) (i : ℕ) : Type 0 where
   pub text-within : startIn leaves i + lengthIn leaves i ≤ length text
 
 -- what is owned by an order lies behind it and together: a row's owner stands before it; and once a row behind the order belongs to an earlier one,
--- no row is the order's any more
+-- no OBX is the order's any more
 pub record Together (t : Lent) (order : ℕ) : Type 0 where
   pub earlier : (i : ℕ) → i < t .card .segments → ownerIn (t .segmentRows) i ≤ i
   pub ends : (j k : ℕ) → order ≤ j → j ≤ k → k < t .card .segments → ownerIn (t .segmentRows) j < order
-      → kindIn (t .segmentRows) k ≡ 6 → ownerIn (t .segmentRows) k ≡ order → ⊥
+      → kindIn (t .segmentRows) k ≡ resultKind → ownerIn (t .segmentRows) k ≡ order → ⊥
 
 -- an order of such a table
 pub record OrderRows (t : Lent) (order : ℕ) : Type 0 where

@@ -4,20 +4,20 @@ use mathlib.Core.Bool.{Bool}
 use Prim.Native.Nat.{ℕ, _-_}
 use native.Mathlib.Omega.{arith}
 use Rattle.laws.proofs.Passing.{Passing, passing-begins, passing-found, passing-on, passing-done}
-use Rattle.value.specs.Results.{ofField}
+use Rattle.value.specs.Results.{valueField, ofField}
 use Rattle.value.proofs.FieldLeaves.{of-the-field, other-field, other-segment}
 use Rattle.value.proofs.result.first_of_field.Statement.{statement}
 use Rattle.value.proofs.result.first_of_field.Tie as tie
 
 abbrev Inv-loop : tie.InvT-loop
-Inv-loop leaves from to segment next₀ next = Passing (ofField leaves segment 6) from to next
+Inv-loop leaves from to segment next₀ next = Passing (ofField leaves segment valueField) from to next
 
 abbrev μ-loop : tie.MeasureT-loop
 μ-loop leaves from to segment next₀ next = to - next
 
 -- the test of the rows that are searched
 abbrev test-at : tie.Start Inv-loop μ-loop → ℕ → Bool
-test-at c = ofField (c .args .leaves .now) (c .args .segment) 6
+test-at c = ofField (c .args .leaves .now) (c .args .segment) valueField
 
 loop-holds : tie.Need-loop-holds Inv-loop μ-loop
 loop-holds c = passing-begins (test-at c) (c .args .from) (c .args .to) (c .pre .rising)
@@ -50,7 +50,7 @@ returns c =
     let at-row = turn .before in
     let a = at-row .before .args in
     passing-found (test-at (at-row .before)) (at-row .loop .inv) (turn .loop-test .taken)
-    (of-the-field (a .leaves .now) (a .segment) 6 (at-row .loop .next) (field .if1 .taken) (c .if2 .taken))
+    (of-the-field (a .leaves .now) (a .segment) valueField (at-row .loop .next) (field .if1 .taken) (c .if2 .taken))
 
 loop-less : tie.Need-loop-less Inv-loop μ-loop
 loop-less c = omega arith
@@ -61,7 +61,7 @@ loop-again c =
     let at-row = turn .before in
     let a = at-row .before .args in
     passing-on (test-at (at-row .before)) (at-row .loop .inv) (turn .loop-test .taken)
-    (other-segment (a .leaves .now) (a .segment) 6 (at-row .loop .next) (c .if2 .left))
+    (other-segment (a .leaves .now) (a .segment) valueField (at-row .loop .next) (c .if2 .left))
 
 loop-less-2 : tie.Need-loop-less-2 Inv-loop μ-loop
 loop-less-2 c = omega arith
@@ -72,7 +72,7 @@ loop-again-2 c =
     let at-row = turn .before in
     let a = at-row .before .args in
     passing-on (test-at (at-row .before)) (at-row .loop .inv) (turn .loop-test .taken)
-    (other-field (a .leaves .now) (a .segment) 6 (at-row .loop .next) (c .if1 .left))
+    (other-field (a .leaves .now) (a .segment) valueField (at-row .loop .next) (c .if1 .left))
 
 returns-2 : tie.Need-returns-2 Inv-loop μ-loop
 returns-2 c = passing-done (test-at (c .before .before)) (c .before .loop .inv) (c .loop-test .left)

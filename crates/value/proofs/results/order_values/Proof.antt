@@ -18,7 +18,7 @@ use Rattle.write.specs.inner.ReadsBack.{isTable}
 use Rattle.look.specs.Looking.{orderAt}
 use Rattle.value.specs.Refusals.{notAnOrder}
 use Rattle.value.specs.Numerals.{mostDigits}
-use Rattle.value.specs.Results.{numericRows, places}
+use Rattle.value.specs.Results.{numericRows, answersRoom}
 use Rattle.value.specs.inner.Seeking.{OrderRows}
 use Rattle.value.proofs.TestedTables.{order-rows}
 use Rattle.value.proofs.ResultsRead.{no-table, no-order, values-refused, values-few, values-put}
@@ -42,8 +42,8 @@ lent-here c = lent (c .args .card) (now (c .args .segments)) (now (c .args .leav
 abbrev many-here : tie.Start → ℕ
 many-here c = length (numericRows (lent-here c) (c .args .order))
 
-abbrev places-here : tie.Start → ℕ
-places-here c = places (length (now (c .args .numbers))) (length (now (c .args .wholes))) (length (now (c .args .decimals)))
+abbrev room-held : tie.Start → ℕ
+room-held c = answersRoom (length (now (c .args .numbers))) (length (now (c .args .wholes))) (length (now (c .args .decimals)))
 
 -- past the first two tests: some message reads to the table, and the row is an order
 table-here : (c : tie.Else1) → isTable form level (lent-here (start-of (c .before))) ≡ true
@@ -57,17 +57,17 @@ rows-here c =
     order-rows form form-lawful level (lent-here (start-ordered c)) (table-here (c .before .before)) (omega arith) (start-ordered c .args .order) (order-here c)
 
 -- the room is that of the shortest buffer; whether it does for all results; and past the third test, it does
-room-here : (c : tie.After-lesser2) → c .lesser2 .result ≡ places-here (start-roomy c)
+room-here : (c : tie.After-lesser2) → c .lesser2 .result ≡ room-held (start-roomy c)
 room-here c = c .lesser2 .ensures ∙ ap (λ (n : ℕ). min n (length (now (start-roomy c .args .decimals)))) (c .before .lesser .ensures)
 
-room-tested : (c : tie.After-has-room) → c .has-room .result ≡ leb (many-here (start-roomy (c .before))) (places-here (start-roomy (c .before)))
+room-tested : (c : tie.After-has-room) → c .has-room .result ≡ leb (many-here (start-roomy (c .before))) (room-held (start-roomy (c .before)))
 room-tested c = c .has-room .ensures ∙ ap (leb (many-here (start-roomy (c .before)))) (room-here (c .before))
 
-all-fit : (c : tie.Else3) → leb (many-here (start-roomy (c .before .before))) (places-here (start-roomy (c .before .before))) ≡ true
+all-fit : (c : tie.Else3) → leb (many-here (start-roomy (c .before .before))) (room-held (start-roomy (c .before .before))) ≡ true
 all-fit c = sym (room-tested (c .before)) ∙ not-false (c .before .has-room .result) (c .if3 .left)
 
-fits-here : (c : tie.Else3) → many-here (start-roomy (c .before .before)) ≤ places-here (start-roomy (c .before .before))
-fits-here c = leb-true (many-here (start-roomy (c .before .before))) (places-here (start-roomy (c .before .before))) (all-fit c)
+fits-here : (c : tie.Else3) → many-here (start-roomy (c .before .before)) ≤ room-held (start-roomy (c .before .before))
+fits-here c = leb-true (many-here (start-roomy (c .before .before))) (room-held (start-roomy (c .before .before))) (all-fit c)
 
 is-table-requires : tie.Need-is-table-requires
 is-table-requires c κs = search needs
