@@ -11,7 +11,7 @@ use lib.ListN.{length, getD, drop, length-append}
 use lib.Seq.{drop-length}
 use borrow.Author.Tests.{leb-true, le-leb, lt-ltb, ne-eqb}
 use Rattle.laws.proofs.Tests.{Tested, passed, failed, tested, and-first, and-second, and-both, and-fails-first, and-fails-second}
-use Rattle.value.specs.Numerals.{mostDigits, plus, minus, point, isDigit, allDigits, madeBy}
+use Rattle.value.specs.Numerals.{plus, minus, point, isDigit, allDigits, madeBy}
 use Rattle.value.specs.inner.Runs.{digitRun, withDigit, withDigits}
 
 -- a digit is a byte from 48 to 57
@@ -146,10 +146,10 @@ unfolding madeBy
 made-append n [] t = refl
 made-append n (b ∷ s) t = made-append (n * 10 + (b - 48)) s t
 
-pub with-append : (n : ℕ) (s t : List ℕ) → withDigits n (s ++ t) ≡ withDigits (withDigits n s) t
+pub with-append : (most n : ℕ) (s t : List ℕ) → withDigits most n (s ++ t) ≡ withDigits most (withDigits most n s) t
 unfolding withDigits
-with-append n [] t = refl
-with-append n (b ∷ s) t = with-append (withDigit n b) s t
+with-append most n [] t = refl
+with-append most n (b ∷ s) t = with-append most (withDigit most n b) s t
 
 -- a digit more leaves a number below the next power of ten
 digit-below : (a n b : ℕ) → isDigit b ≡ true → n < 10 ^ a → n * 10 + (b - 48) < 10 ^ suc a
@@ -166,13 +166,13 @@ pub power-within : (a c : ℕ) → a ≤ c → 10 ^ a ≤ 10 ^ c
 power-within a c h = pow-le-pow-right (zero-lt-suc 9) h
 
 -- while no more digits come than a number has, none is left out
-pub with-digit-small : (n b : ℕ) → n < 10 ^ mostDigits → withDigit n b ≡ n * 10 + (b - 48)
+pub with-digit-small : (most n b : ℕ) → n < 10 ^ most → withDigit most n b ≡ n * 10 + (b - 48)
 unfolding withDigit
-with-digit-small n b h = rw (lt-ltb n (10 ^ mostDigits) h, withDigit)
+with-digit-small most n b h = rw (lt-ltb n (10 ^ most) h, withDigit)
 
-pub with-made : (a n : ℕ) (s : List ℕ) → allDigits s ≡ true → n < 10 ^ a → a + length s ≤ mostDigits → withDigits n s ≡ madeBy n s
+pub with-made : (most a n : ℕ) (s : List ℕ) → allDigits s ≡ true → n < 10 ^ a → a + length s ≤ most → withDigits most n s ≡ madeBy n s
 unfolding withDigits madeBy
-with-made a n [] h k few = refl
-with-made a n (b ∷ s) h k few =
-    ap (λ (m : ℕ). withDigits m s) (with-digit-small n b (le-trans k (power-within a mostDigits (omega arith))))
-    ∙ with-made (suc a) (n * 10 + (b - 48)) s (digits-others b s h) (digit-below a n b (digits-first b s h) k) (omega arith)
+with-made most a n [] h k few = refl
+with-made most a n (b ∷ s) h k few =
+    ap (λ (m : ℕ). withDigits most m s) (with-digit-small most n b (le-trans k (power-within a most (omega arith))))
+    ∙ with-made most (suc a) (n * 10 + (b - 48)) s (digits-others b s h) (digit-below a n b (digits-first b s h) k) (omega arith)

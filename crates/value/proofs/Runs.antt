@@ -11,7 +11,7 @@ use lib.ListN.{length, getD, drop}
 use lib.Seq.{drop-length}
 use Rattle.laws.proofs.Parts.{left-cons}
 use Rattle.value.specs.declared.numeral.Run.{Run}
-use Rattle.value.specs.Numerals.{mostDigits, plus, minus, isDigit}
+use Rattle.value.specs.Numerals.{plus, minus, isDigit}
 use Rattle.value.specs.inner.Runs.{signOf, digitRun, withDigit, withDigits, runFrom}
 use Rattle.value.proofs.TextsSaid.{sign-minus, sign-plus, sign-none}
 use Rattle.value.proofs.DigitTexts.{run-none, run-more, run-stop}
@@ -45,38 +45,38 @@ pub sign-of-other : (text : List ℕ) → (length text ≡ 0 → ⊥) → (getD 
 sign-of-other [] h e f = absurd (h refl)
 sign-of-other (b ∷ s) h e f = sym (sign-none b s (ne-eqb b minus e) (ne-eqb b plus f))
 
--- a number of more digits than any stays
-pub digit-dropped : (n digit : ℕ) → 10 ^ mostDigits ≤ n → n ≡ withDigit n digit
+-- a number of more than so many digits stays
+pub digit-dropped : (most n digit : ℕ) → 10 ^ most ≤ n → n ≡ withDigit most n digit
 unfolding withDigit
-digit-dropped n digit h = sym (rw (le-ltb n (10 ^ mostDigits) h, withDigit))
+digit-dropped most n digit h = sym (rw (le-ltb n (10 ^ most) h, withDigit))
 
 -- a loop over digits in a row, before its turn at `end`: those from here on give the whole run
-pub record Running (text : List ℕ) (from before end magnitude : ℕ) : Type 0 where
+pub record Running (most : ℕ) (text : List ℕ) (from before end magnitude : ℕ) : Type 0 where
   pub within : end ≤ length text
-  pub rest : runFrom text end magnitude ≡ runFrom text from before
+  pub rest : runFrom most text end magnitude ≡ runFrom most text from before
 
-pub running-begins : (text : List ℕ) (from before : ℕ) → from ≤ length text → Running text from before from before
-running-begins text from before h = record { within = h; rest = refl }
+pub running-begins : (most : ℕ) (text : List ℕ) (from before : ℕ) → from ≤ length text → Running most text from before from before
+running-begins most text from before h = record { within = h; rest = refl }
 
-module _ {text : List ℕ} {from before end magnitude : ℕ} (r : Running text from before end magnitude) where
-  stops : digitRun (drop end text) ≡ [] → record { end = end; magnitude = magnitude } ≡ runFrom text from before
+module _ {most : ℕ} {text : List ℕ} {from before end magnitude : ℕ} (r : Running most text from before end magnitude) where
+  stops : digitRun (drop end text) ≡ [] → record { end = end; magnitude = magnitude } ≡ runFrom most text from before
   unfolding runFrom withDigits
   stops e =
-      ap₂ {C = Run} (λ (n m : ℕ). record { end = n; magnitude = m }) (omega (arith, ap length e)) (sym (ap (withDigits magnitude) e))
+      ap₂ {C = Run} (λ (n m : ℕ). record { end = n; magnitude = m }) (omega (arith, ap length e)) (sym (ap (withDigits most magnitude) e))
       ∙ r .rest
 
-  pub running-stops : end < length text → isDigit (getD text end 0) ≡ false → record { end = end; magnitude = magnitude } ≡ runFrom text from before
+  pub running-stops : end < length text → isDigit (getD text end 0) ≡ false → record { end = end; magnitude = magnitude } ≡ runFrom most text from before
   running-stops h e = stops (ap digitRun (left-cons text end 0 h) ∙ run-stop (getD text end 0) (drop (end + 1) text) e)
 
-  pub running-ends : length text ≤ end → record { end = end; magnitude = magnitude } ≡ runFrom text from before
+  pub running-ends : length text ≤ end → record { end = end; magnitude = magnitude } ≡ runFrom most text from before
   running-ends h =
       stops
       (ap (λ (n : ℕ). digitRun (drop n text)) (let e : end ≡ length text = omega (arith, h, r .within) in e)
       ∙ ap digitRun (drop-length text)
       ∙ run-none)
 
-  pub running-on : end < length text → isDigit (getD text end 0) ≡ true → {m : ℕ} → m ≡ withDigit magnitude (getD text end 0)
-      → Running text from before (end + 1) m
+  pub running-on : end < length text → isDigit (getD text end 0) ≡ true → {m : ℕ} → m ≡ withDigit most magnitude (getD text end 0)
+      → Running most text from before (end + 1) m
   unfolding runFrom withDigits
   running-on h e {m} q =
       let one : digitRun (drop end text) ≡ getD text end 0 ∷ digitRun (drop (end + 1) text) =
@@ -85,6 +85,6 @@ module _ {text : List ℕ} {from before end magnitude : ℕ} (r : Running text f
         within = omega arith;
         rest =
             ap₂ {C = Run} (λ (n k : ℕ). record { end = n; magnitude = k }) (omega (arith, ap length one))
-            (ap (λ (k : ℕ). withDigits k (digitRun (drop (end + 1) text))) q ∙ sym (ap (withDigits magnitude) one))
+            (ap (λ (k : ℕ). withDigits most k (digitRun (drop (end + 1) text))) q ∙ sym (ap (withDigits most magnitude) one))
             ∙ r .rest;
       }

@@ -14,7 +14,7 @@ use Rattle.laws.proofs.Tests.{Tested, passed, failed, tested, or-first, or-seco
 use Rattle.table.specs.Leaves.{split}
 use Rattle.table.proofs.Splitting.{firstPart, otherParts}
 use Rattle.value.specs.Refusals.{notANumber}
-use Rattle.value.specs.Numerals.{mostDigits, plus, minus, point, isDigit, allDigits, unsignedText, isNegative, madeBy, saysNone, saidBy, numeralOf}
+use Rattle.value.specs.Numerals.{plus, minus, point, isDigit, allDigits, unsignedText, isNegative, madeBy, saysNone, saidBy, numeralOf}
 use Rattle.value.specs.inner.Runs.{signOf, digitRun, withDigits, judgedDigits}
 use Rattle.value.proofs.DigitTexts.{digits-append, digits-broken, run-digits, run-ended, run-then-rest, run-whole, run-within, with-append, with-made}
 use Rattle.value.proofs.NumberParts.{behind-stopped, first-part-broken, one-part, said-judged, said-none, split-broken, split-digits, split-pointed, two-parts}
@@ -99,17 +99,17 @@ module _ (text : List ℕ) where
   whole-within = omega (arith, run-within (behindSign text), behind-length, sign-within text)
 
   -- digits to the end
-  pub read-whole : wholeEnd text ≡ length text
-      → numeralOf mostDigits text
-      ≡ judgedDigits mostDigits (signOf text .negative) (length (wholeRun text)) (length (wholeRun text)) (withDigits 0 (wholeRun text)) 0
+  pub read-whole : (most : ℕ) → wholeEnd text ≡ length text
+      → numeralOf most text
+      ≡ judgedDigits most (signOf text .negative) (length (wholeRun text)) (length (wholeRun text)) (withDigits most 0 (wholeRun text)) 0
   unfolding concat
-  read-whole h =
-      said-behind mostDigits (wholeRun text ∷ [])
+  read-whole most h =
+      said-behind most (wholeRun text ∷ [])
       (ap (split point) (run-whole (behindSign text) (omega (arith, behind-length, sign-within text))) ∙ split-digits (wholeRun text) (run-digits (behindSign text)))
-      ∙ said-judged mostDigits (signOf text .negative) (wholeRun text ∷ []) (length (wholeRun text)) (length (wholeRun text)) (withDigits 0 (wholeRun text))
+      ∙ said-judged most (signOf text .negative) (wholeRun text ∷ []) (length (wholeRun text)) (length (wholeRun text)) (withDigits most 0 (wholeRun text))
       (one-part (wholeRun text) (run-digits (behindSign text)))
       (ap length (append-nil (wholeRun text)))
-      (λ few. with-made 0 0 (wholeRun text) (run-digits (behindSign text)) (omega arith) (omega arith) ∙ ap (madeBy 0) (sym (append-nil (wholeRun text))))
+      (λ few. with-made most 0 0 (wholeRun text) (run-digits (behindSign text)) (omega arith) (omega arith) ∙ ap (madeBy 0) (sym (append-nil (wholeRun text))))
 
   -- what is left where the digits end before the end of the text
   behind-broken : wholeEnd text < length text → behindSign text ≡ wholeRun text ++ getD text (wholeEnd text) 0 ∷ drop (wholeEnd text + 1) text
@@ -142,12 +142,12 @@ module _ (text : List ℕ) where
         ∙ split-pointed (wholeRun text) (drop (wholeEnd text + 1) text) (run-digits (behindSign text))
 
     -- digits to the end behind the point
-    pub read-pointed : wholeEnd text + 1 + length (behindRun text) ≡ length text
-        → numeralOf mostDigits text
-        ≡ judgedDigits mostDigits (signOf text .negative) (length (wholeRun text) + length (behindRun text)) (length (behindRun text))
-        (withDigits (withDigits 0 (wholeRun text)) (behindRun text)) (length (behindRun text))
+    pub read-pointed : (most : ℕ) → wholeEnd text + 1 + length (behindRun text) ≡ length text
+        → numeralOf most text
+        ≡ judgedDigits most (signOf text .negative) (length (wholeRun text) + length (behindRun text)) (length (behindRun text))
+        (withDigits most (withDigits most 0 (wholeRun text)) (behindRun text)) (length (behindRun text))
     unfolding concat
-    read-pointed h =
+    read-pointed most h =
         let whole = wholeRun text in
         let behind = behindRun text in
         let whole-digits : allDigits whole ≡ true = run-digits (behindSign text) in
@@ -155,15 +155,15 @@ module _ (text : List ℕ) where
         let ends : drop (wholeEnd text + 1) text ≡ behind =
         run-whole (drop (wholeEnd text + 1) text) (omega (arith, length-drop (wholeEnd text + 1) text)) in
         let joined : whole ++ (behind ++ []) ≡ whole ++ behind = ap (λ (t : List ℕ). whole ++ t) (append-nil behind) in
-        said-behind mostDigits (whole ∷ behind ∷ [])
+        said-behind most (whole ∷ behind ∷ [])
         (parts-pointed ∙ ap {B = List (List ℕ)} (λ (ps : List (List ℕ)). whole ∷ ps) (ap (split point) ends ∙ split-digits behind behind-digits))
-        ∙ said-judged mostDigits (signOf text .negative) (whole ∷ behind ∷ []) (length whole + length behind) (length behind)
-        (withDigits (withDigits 0 whole) behind)
+        ∙ said-judged most (signOf text .negative) (whole ∷ behind ∷ []) (length whole + length behind) (length behind)
+        (withDigits most (withDigits most 0 whole) behind)
         (two-parts whole behind whole-digits behind-digits)
         (ap length joined ∙ length-append whole behind)
         (λ few.
-        sym (with-append 0 whole behind)
-        ∙ with-made 0 0 (whole ++ behind) (digits-append whole behind whole-digits behind-digits) (omega arith) (omega (arith, length-append whole behind))
+        sym (with-append most 0 whole behind)
+        ∙ with-made most 0 0 (whole ++ behind) (digits-append whole behind whole-digits behind-digits) (omega arith) (omega (arith, length-append whole behind))
         ∙ ap (madeBy 0) (sym joined))
 
     -- digits that end before the end

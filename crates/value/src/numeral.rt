@@ -88,7 +88,7 @@ fn sign_of(text: &[u8]) -> Sign
 // The digits from a place on, and the number that they make behind one that was made before them.
 fn digit_run(text: &[u8], from: usize, before: u64) -> Run
     requires { ⌜ from ≤ length (now text) ⌝ }
-    ensures { λ r. ⌜ r ≡ runFrom (now (text .entry)) from before ⌝ }
+    ensures { λ r. ⌜ r ≡ runFrom mostDigits (now (text .entry)) from before ⌝ }
 {
     let mut end = from;
     let mut magnitude = before;
@@ -116,7 +116,7 @@ fn is_digit(byte: u8) -> bool
 // A number with one digit more. One that has over 15 digits stays: its text is refused, and nobody asks for it.
 fn with_digit(magnitude: u64, digit: u8) -> u64
     requires { ⌜ isDigit digit ≡ true ⌝ }
-    ensures { λ r. ⌜ r ≡ withDigit magnitude digit ⌝ }
+    ensures { λ r. ⌜ r ≡ withDigit mostDigits magnitude digit ⌝ }
 {
     if magnitude < TOO_LARGE {
         return magnitude * 10 + (digit - b'0') as u64;

@@ -9,7 +9,7 @@ use Rattle.value.specs.declared.numeral.Numeral.{Numeral}
 use Rattle.value.specs.declared.numeral.Run.{Run}
 use Rattle.value.specs.declared.numeral.Sign.{Sign}
 use Rattle.value.specs.Refusals.{notANumber, manyDigits}
-use Rattle.value.specs.Numerals.{mostDigits, plus, minus, isDigit, saysNone}
+use Rattle.value.specs.Numerals.{plus, minus, isDigit, saysNone}
 
 -- the sign that a text begins with
 unfoldable pub signOf : List ℕ → Sign
@@ -25,18 +25,18 @@ unfoldable pub digitRun : List ℕ → List ℕ
 digitRun [] = []
 digitRun (b ∷ s) = elim (isDigit b) [ true ↦ b ∷ digitRun s | false ↦ [] ]
 
--- a number with one digit more, and with several; one of more digits than any number has stays
-unfoldable pub withDigit : ℕ → ℕ → ℕ
-withDigit n digit = elim (ltb n (10 ^ mostDigits)) [ true ↦ n * 10 + (digit - 48) | false ↦ n ]
+-- a number with one digit more, and with several; one of more than so many digits stays
+unfoldable pub withDigit : (most : ℕ) → ℕ → ℕ → ℕ
+withDigit most n digit = elim (ltb n (10 ^ most)) [ true ↦ n * 10 + (digit - 48) | false ↦ n ]
 
-unfoldable pub withDigits : ℕ → List ℕ → ℕ
-withDigits n [] = n
-withDigits n (digit ∷ s) = withDigits (withDigit n digit) s
+unfoldable pub withDigits : (most : ℕ) → ℕ → List ℕ → ℕ
+withDigits most n [] = n
+withDigits most n (digit ∷ s) = withDigits most (withDigit most n digit) s
 
 -- the digits from a place on, behind a number made before them
-unfoldable pub runFrom : List ℕ → ℕ → ℕ → Run
-runFrom text from before =
-    record { end = from + length (digitRun (drop from text)); magnitude = withDigits before (digitRun (drop from text)) }
+unfoldable pub runFrom : (most : ℕ) → List ℕ → ℕ → ℕ → Run
+runFrom most text from before =
+    record { end = from + length (digitRun (drop from text)); magnitude = withDigits most before (digitRun (drop from text)) }
 
 -- what so many digits say, of which one at least must stand among the last
 unfoldable pub judgedDigits : (most : ℕ) → Bool → (digits last magnitude decimals : ℕ) → Numeral

@@ -7,13 +7,13 @@ use native.Mathlib.Omega.{arith}
 use borrow.Author.Needs.{needs}
 use borrow.Author.Tests.{not-true, not-false}
 use lib.ListN.{length, getD}
-use Rattle.value.specs.Numerals.{isDigit}
+use Rattle.value.specs.Numerals.{mostDigits, isDigit}
 use Rattle.value.proofs.Runs.{Running, running-begins, running-stops, running-ends, running-on}
 use Rattle.value.proofs.numeral.digit_run.Statement.{statement}
 use Rattle.value.proofs.numeral.digit_run.Tie as tie
 
 abbrev Inv-loop : tie.InvT-loop
-Inv-loop text from before end₀ magnitude₀ end magnitude = Running text from before end magnitude
+Inv-loop text from before end₀ magnitude₀ end magnitude = Running mostDigits text from before end magnitude
 
 abbrev μ-loop : tie.MeasureT-loop
 μ-loop text from before end₀ magnitude₀ end magnitude = length text - end
@@ -28,7 +28,7 @@ digit-here c = sym (c .before .is-digit .ensures) ∙ not-false (c .before .is-d
 loop-holds : tie.Need-loop-holds Inv-loop μ-loop
 loop-holds c =
     let a = c .before .args in
-    running-begins (a .text .now) (a .from) (a .before) (c .before .pre)
+    running-begins mostDigits (a .text .now) (a .from) (a .before) (c .before .pre)
 
 shared-slice-read-byte : tie.Need-shared-slice-read-byte Inv-loop μ-loop
 shared-slice-read-byte c = omega arith
