@@ -1,5 +1,5 @@
 -- Levels by rows and by table: for any rows of levels that pass the computed tests of `Fitting`, the table says what the rows say, for every context
--- number and every kind number, and all levels are below `topLevel`. The levels in force pass.
+-- number and every kind number, and all levels are below `topLevel`. The levels in force pass, and the former ones do.
 -- Assumes nothing.
 use mathlib.Core.Bool.{true, false, and-false}
 use mathlib.Core.List.{List, []}
@@ -15,8 +15,8 @@ use Rattle.laws.specs.inner.Tests.{below, everyFrom}
 use Rattle.laws.proofs.Cases.{less-or-not}
 use Rattle.laws.proofs.Tables.{at, getD-values-zero}
 use Rattle.order.specs.Contexts.{isContext}
-use Rattle.order.specs.Owners.{levelBy, levels, level}
-use Rattle.order.specs.inner.Levels.{levelIn, levelTableOf, levelTable, topLevel, LevelsBelow}
+use Rattle.order.specs.Owners.{levelBy, levels, formerLevels, level, formerLevel}
+use Rattle.order.specs.inner.Levels.{levelIn, levelTableOf, levelTable, formerLevelTable, topLevel, LevelsBelow}
 use Rattle.order.proofs.Seven.{context-within}
 use Rattle.order.proofs.Allowing.{no-context-below, no-context-above}
 
@@ -95,22 +95,37 @@ module _ (rows : List (List ℕ)) (fits : Fitting rows) where
       by t there (inr h) (inr g) (inl l) = no-level-kind t c k l ∙ sym (no-kind c k (omega arith) l)
       by t there (inr h) (inr g) (inr l) = there h g l
 
+  -- so does a table that equals it, and all of its levels are below `topLevel`
+  pub table-levels : {table : List ℕ} → table ≡ levelTableOf (levelBy rows) → levelIn table ≡ levelBy rows
+  table-levels {table} e = fun-ext (λ c. fun-ext (λ k. ap (λ (t : List ℕ). levelIn t c k) e ∙ rows-table c k))
+
+  pub table-below : {table : List ℕ} → table ≡ levelTableOf (levelBy rows) → LevelsBelow (levelIn table)
+  table-below e = subst⁻¹ LevelsBelow (table-levels e) rows-below
+
 -- the levels in force
 
 levels-fit : Fitting levels
 unfolding levels everyFrom
 levels-fit = record { none = refl; seven = refl; twelve = refl; low = refl }
 
-pub level-few : LevelsBelow level
-unfolding level
-level-few = rows-below levels levels-fit
-
-pub level-in-this : (table : List ℕ) → table ≡ levelTable → (c k : ℕ) → levelIn table c k ≡ level c k
-unfolding levelTable level
-level-in-this table e c k = ap (λ (t : List ℕ). levelIn t c k) e ∙ rows-table levels levels-fit c k
-
 pub levels-are : {table : List ℕ} → table ≡ levelTable → levelIn table ≡ level
-levels-are {table} e = fun-ext (λ c. fun-ext (λ k. level-in-this table e c k))
+unfolding levelTable level
+levels-are = table-levels levels levels-fit
 
 pub levels-below : {table : List ℕ} → table ≡ levelTable → LevelsBelow (levelIn table)
-levels-below e = subst⁻¹ LevelsBelow (levels-are e) level-few
+unfolding levelTable level
+levels-below = table-below levels levels-fit
+
+-- the former levels
+
+former-levels-fit : Fitting formerLevels
+unfolding formerLevels everyFrom
+former-levels-fit = record { none = refl; seven = refl; twelve = refl; low = refl }
+
+pub former-levels-are : {table : List ℕ} → table ≡ formerLevelTable → levelIn table ≡ formerLevel
+unfolding formerLevelTable formerLevel
+former-levels-are = table-levels formerLevels former-levels-fit
+
+pub former-levels-below : {table : List ℕ} → table ≡ formerLevelTable → LevelsBelow (levelIn table)
+unfolding formerLevelTable formerLevel
+former-levels-below = table-below formerLevels former-levels-fit

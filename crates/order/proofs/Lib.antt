@@ -17,6 +17,8 @@ pub mod TopLevel
 pub mod OnlyOne
 pub mod NoC
 pub mod Together
+pub mod GoingBack
+pub mod OwnerKinds
 pub mod ShutOut
 pub mod Refusing
 pub mod Coming

@@ -1,5 +1,5 @@
 -- H and L have no owner (rule O2), for any levels that pass the computed tests of `Topped`: every kind that may come in
--- a context is C or has a level, and H and L have level 1, below which there is none. The levels in force pass.
+-- a context is C or has a level, and H and L have level 1, below which there is none. The levels in force pass, and the former ones do.
 -- Assumes nothing.
 use mathlib.Core.Bool.{Bool, true, false, not, _&&_, _||_}
 use mathlib.Core.List.{List, [], _∷_, reverse}
@@ -18,7 +18,7 @@ use Rattle.order.specs.Grammar.{Shape, Begins}
 use Rattle.order.specs.Contexts.{grammar, isContext}
 use Rattle.order.specs.inner.Place.{rowsTold, rowsAfter, someLeft}
 use Rattle.order.specs.inner.Followers.{leftAt, follows}
-use Rattle.order.specs.Owners.{levels, level, nearest, isC, owner, owners}
+use Rattle.order.specs.Owners.{levels, formerLevels, level, formerLevel, nearest, isC, owner, owners}
 use Rattle.order.proofs.Seven.{all-seven, all-seven₃, states}
 use Rattle.order.proofs.States.{lastAfter, some-told, next-state, next-last, kind-left}
 use Rattle.order.proofs.Follow.{left-begun}
@@ -81,13 +81,21 @@ module _ (lv : ℕ → ℕ → ℕ) (top : Topped lv) (c : ℕ) (t : isContext c
       let kinds = left-placed 0 (omega arith) w (left-begun c t w b) in
       owners-at (lv c) w i h ∙ (rw (p .1, p .0, owner)) ∙ none-nearer (reverse (take i w)) (all-reverse (all-take i kinds) none)
 
--- the levels in force
+-- the levels in force, and the former ones
 
 levels-topped : Topped level
 unfolding comesPlaced placed isC follows states level levels everyFrom
 levels-topped = record { H = refl; L = refl; others = refl }
 
+former-levels-topped : Topped formerLevel
+unfolding comesPlaced placed isC follows states formerLevel formerLevels everyFrom
+former-levels-topped = record { H = refl; L = refl; others = refl }
+
 -- H and L have no owner in any begun order (O2)
 pub H-and-L-have-0 : (c : ℕ) → isContext c ≡ true → (w : List ℕ) → Begins (grammar c) w → (i : ℕ) → i < length w
     → (getD w i 0 ≡ 1) ⊎ (getD w i 0 ≡ 11) → getD (owners (level c) w) i 0 ≡ 0
 H-and-L-have-0 = top-has-0 level levels-topped
+
+pub former-H-and-L-have-0 : (c : ℕ) → isContext c ≡ true → (w : List ℕ) → Begins (grammar c) w → (i : ℕ) → i < length w
+    → (getD w i 0 ≡ 1) ⊎ (getD w i 0 ≡ 11) → getD (owners (formerLevel c) w) i 0 ≡ 0
+former-H-and-L-have-0 = top-has-0 formerLevel former-levels-topped

@@ -148,7 +148,7 @@ module _ (c : ℕ) (t : isContext c ≡ true) where
 
 -- a bad context says no to all, and nothing begins there
 
-never-begins : (c : ℕ) → grammar c ≡ never → (w : List ℕ) → Begins (grammar c) w → ⊥
+pub never-begins : (c : ℕ) → grammar c ≡ never → (w : List ℕ) → Begins (grammar c) w → ⊥
 never-begins c e w b = (subst (λ (r : Shape). Begins r w) e b) .1 .0
 
 pub no-to-all : (w : Watcher) (k : ℕ) → isContext (w .context) ≡ false → tellOf w k .yes ≡ false

@@ -3,4 +3,5 @@ pub mod Contexts
 pub mod Misplaced
 pub mod Watcher
 pub mod Owners
+pub mod OwnerKinds
 pub mod inner

@@ -1,4 +1,4 @@
--- Levels and owners (rules O1 to O3).
+-- Levels and owners (rules O1 to O4).
 -- Assumes nothing.
 use mathlib.Core.Bool.{Bool, true, false, not, _&&_}
 use mathlib.Core.List.{List, [], _∷_}
@@ -10,23 +10,42 @@ use lib.ListN.{length, getD}
 abbrev pub levelBy : List (List ℕ) → ℕ → ℕ → ℕ
 levelBy rows context kind = getD (getD rows context []) kind 0
 
--- the rows of levels in force (O1); 0 where a context has no such kind
-unfoldable pub levels : List (List ℕ)
-levels =
+-- rows of levels, given those of the two contexts in which the former ones differ; 0 where a context has no such kind
+abbrev pub levelsWith : (ora fac : List ℕ) → List (List ℕ)
+levelsWith ora fac =
     --      H   P   AP  AC  OBR OBX FAC REG ACT ERR L
     []
     ∷ (0 ∷ 1 ∷ 2 ∷ 3 ∷ 4 ∷ 0 ∷ 0 ∷ 0 ∷ 0 ∷ 0 ∷ 0 ∷ 1 ∷ [])  -- ADM
     ∷ (0 ∷ 1 ∷ 2 ∷ 0 ∷ 0 ∷ 3 ∷ 4 ∷ 0 ∷ 0 ∷ 0 ∷ 0 ∷ 1 ∷ [])  -- ORM
-    ∷ (0 ∷ 1 ∷ 2 ∷ 3 ∷ 4 ∷ 5 ∷ 6 ∷ 0 ∷ 0 ∷ 0 ∷ 0 ∷ 1 ∷ [])  -- ORA
+    ∷ ora
     ∷ (0 ∷ 1 ∷ 2 ∷ 0 ∷ 0 ∷ 0 ∷ 0 ∷ 0 ∷ 3 ∷ 0 ∷ 0 ∷ 1 ∷ [])  -- REG
     ∷ (0 ∷ 1 ∷ 0 ∷ 0 ∷ 0 ∷ 0 ∷ 0 ∷ 0 ∷ 0 ∷ 0 ∷ 2 ∷ 1 ∷ [])  -- ERR
     ∷ (0 ∷ 1 ∷ 2 ∷ 0 ∷ 0 ∷ 3 ∷ 4 ∷ 0 ∷ 0 ∷ 0 ∷ 0 ∷ 1 ∷ [])  -- ORU
-    ∷ (0 ∷ 1 ∷ 2 ∷ 3 ∷ 4 ∷ 0 ∷ 0 ∷ 5 ∷ 6 ∷ 7 ∷ 0 ∷ 1 ∷ [])  -- FAC
+    ∷ fac
     ∷ []
 
--- the levels in force
+-- the rows of levels in force (O1): a patient owns the orders and the invoices, and an invoice all of its lines
+unfoldable pub levels : List (List ℕ)
+levels =
+    levelsWith
+    --   H   P   AP  AC  OBR OBX FAC REG ACT ERR L
+    (0 ∷ 1 ∷ 2 ∷ 3 ∷ 4 ∷ 3 ∷ 4 ∷ 0 ∷ 0 ∷ 0 ∷ 0 ∷ 1 ∷ [])  -- ORA
+    (0 ∷ 1 ∷ 2 ∷ 3 ∷ 4 ∷ 0 ∷ 0 ∷ 3 ∷ 4 ∷ 4 ∷ 0 ∷ 1 ∷ [])  -- FAC
+
+-- the former rows of levels (O4), by which archived tables may have been made: the last cover owns what follows it, and a REG the ACT behind it
+unfoldable pub formerLevels : List (List ℕ)
+formerLevels =
+    levelsWith
+    --   H   P   AP  AC  OBR OBX FAC REG ACT ERR L
+    (0 ∷ 1 ∷ 2 ∷ 3 ∷ 4 ∷ 5 ∷ 6 ∷ 0 ∷ 0 ∷ 0 ∷ 0 ∷ 1 ∷ [])  -- ORA
+    (0 ∷ 1 ∷ 2 ∷ 3 ∷ 4 ∷ 0 ∷ 0 ∷ 5 ∷ 6 ∷ 7 ∷ 0 ∷ 1 ∷ [])  -- FAC
+
+-- the levels in force, and the former ones
 unfoldable pub level : ℕ → ℕ → ℕ
 level context kind = levelBy levels context kind
+
+unfoldable pub formerLevel : ℕ → ℕ → ℕ
+formerLevel context kind = levelBy formerLevels context kind
 
 -- the row of the nearest of some earlier kinds that passes a test, or 0; the nearest stands first
 unfoldable pub nearest : (ℕ → Bool) → List ℕ → ℕ

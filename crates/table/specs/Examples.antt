@@ -172,7 +172,7 @@ k10 =
     ∷ [])
     (bytes "H~^\\&LABADMP1C1AP1AC1L1")
 
--- the table of K11: the OBR is owned by the last AC before it (O2)
+-- the table of K11: the OBR is owned by the P, not by the last AC before it (O1, O2)
 unfoldable pub k11 : Table
 k11 =
     filed 3 7 19 28
@@ -181,7 +181,7 @@ k11 =
     ∷ (3 ∷ 2 ∷ 10 ∷ 2 ∷ [])
     ∷ (4 ∷ 3 ∷ 12 ∷ 2 ∷ [])
     ∷ (4 ∷ 3 ∷ 14 ∷ 2 ∷ [])
-    ∷ (5 ∷ 5 ∷ 16 ∷ 2 ∷ [])
+    ∷ (5 ∷ 2 ∷ 16 ∷ 2 ∷ [])
     ∷ (11 ∷ 0 ∷ 18 ∷ 2 ∷ [])
     ∷ [])
     ((1 ∷ 1 ∷ 1 ∷ 1 ∷ 1 ∷ 0 ∷ 1 ∷ [])

@@ -7,7 +7,7 @@ use lib.Dec.{leb}
 use lib.ListN.{getD}
 use Rattle.laws.specs.Tables.{values}
 use Rattle.order.specs.Contexts.{isContext}
-use Rattle.order.specs.Owners.{level}
+use Rattle.order.specs.Owners.{level, formerLevel}
 
 -- the level of a kind in a context by a table: contexts count from 1 and have twelve numbers each, by the kind
 unfoldable pub levelIn : List ℕ → ℕ → ℕ → ℕ
@@ -17,9 +17,12 @@ levelIn table c k = elim (isContext c && leb k 11) [ true ↦ getD table ((c - 1
 unfoldable pub levelTableOf : (ℕ → ℕ → ℕ) → List ℕ
 levelTableOf lv = values (λ i. lv (i / 12 + 1) (i % 12)) 0 84
 
--- the table of the levels in force
+-- the table of the levels in force, and of the former ones
 unfoldable pub levelTable : List ℕ
 levelTable = levelTableOf level
+
+unfoldable pub formerLevelTable : List ℕ
+formerLevelTable = levelTableOf formerLevel
 
 -- the number above all levels, and that levels are below it: so a kind's level is a place in what is known of the rows so far
 abbrev pub topLevel : ℕ
