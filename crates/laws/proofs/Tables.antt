@@ -79,12 +79,19 @@ unfolding values
 replicate-values a i zero = refl
 replicate-values a i (suc n) = ap (λ s. a ∷ s) (replicate-values a (suc i) n)
 
--- a table from one further on; two tables whose functions agree everywhere
+-- a table from one further on
 pub values-later {ℓ} : {A : Type ℓ} (f : ℕ → A) (i n : ℕ) → values f (suc i) n ≡ values (λ k. f (suc k)) i n
 unfolding values
 values-later f i zero = refl
 values-later {A} f i (suc n) = ap {B = List A} (λ r. f (suc i) ∷ r) (values-later f (suc i) n)
 
+-- a list as the table of its entries
+pub values-entries {ℓ} : {A : Type ℓ} (l : List A) (d : A) → values (λ k. getD l k d) 0 (length l) ≡ l
+unfolding values
+values-entries [] d = refl
+values-entries {A = A} (x ∷ l) d = ap {B = List A} (λ r. x ∷ r) (values-later (λ k. getD (x ∷ l) k d) 0 (length l) ∙ values-entries l d)
+
+-- two tables whose functions agree everywhere
 pub values-as {ℓ} : {A : Type ℓ} (f g : ℕ → A) → ((k : ℕ) → f k ≡ g k) → (i n : ℕ) → values f i n ≡ values g i n
 values-as f g h i n = values-same f g i n (λ k low high. h k)
 

@@ -75,6 +75,16 @@ module _ {o : ℕ} {kindAt : ℕ → ℕ} {i : ℕ} where
       by (inr h) (inl g) = absurd (not-before s r g)
       by (inr h) (inr g) = omega arith
 
+-- of two ways to say which kind stands where, each finds the same nearest
+pub nearest-along : {o : ℕ} {f g : ℕ → ℕ} {i row : ℕ} → ((m : ℕ) → m < i → f m ≡ g m) → NearestOf o f i row → NearestOf o g i row
+nearest-along {row = row} same r =
+    record {
+      there = r .there;
+      earlier = r .earlier;
+      of-kind = sym (same (row - 1) (let h = r .there in let l = r .earlier in omega arith)) ∙ r .of-kind;
+      none-nearer = λ m low high q. r .none-nearer m low high (same m high ∙ q);
+    }
+
 -- the last kind before place i that is no C
 abbrev pub lastBefore : List ℕ → ℕ → ℕ
 lastBefore w i = lastOf 0 (take i w)

@@ -1,7 +1,8 @@
 -- What the contracts rule out: a watcher that says yes always, or no always, or that changes on a no; numbers that are no kinds, and
--- kinds after L; an owner that is a C.
+-- kinds after L; an owner that is a C. And that the two levels differ: an order and an invoice that the former ones give other owners.
 -- Assumes nothing.
 use mathlib.Core.Bool.{Bool, true, false, not, and-false, true≢false, false≢true}
+use mathlib.Core.List.{[], _∷_}
 use mathlib.Core.Logic.{_⊎_, ⊎-elim}
 use mathlib.Core.Path.{_≡_, refl, sym, ap, _∙_}
 use Prim.Native.Nat.{ℕ, suc, _≤_}
@@ -12,6 +13,7 @@ use Rattle.laws.specs.inner.Tests.{below, everyFrom}
 use Rattle.laws.proofs.Cases.{less-or-not}
 use Rattle.laws.proofs.Tests.{never-holds}
 use Rattle.order.specs.Contexts.{isContext}
+use Rattle.order.specs.Owners.{levels, formerLevels, level, formerLevel, nearest, isC, owner, ownersAfter, owners}
 use Rattle.order.specs.inner.Followers.{follows}
 use Rattle.order.specs.Watcher.{begun}
 use Rattle.order.specs.inner.Telling.{allowsC, allowsNext, allows, tellBy, tellOf}
@@ -81,3 +83,15 @@ L-next c t k false e =
 
 pub after-L-no : (c k : ℕ) → tellOf (record { context = c; last = 11 }) k .yes ≡ false
 after-L-no c k = no-by (record { context = c; last = 11 }) k (λ e. L-next c e k (eqb k 12) refl)
+
+-- H, P, AP, AC, AC, OBR, L in ORA, which is K11: the owner of the OBR is 2, and was 5
+pub order-moved : (owners (level 3) (1 ∷ 2 ∷ 3 ∷ 4 ∷ 4 ∷ 5 ∷ 11 ∷ []) ≡ 0 ∷ 1 ∷ 2 ∷ 3 ∷ 3 ∷ 2 ∷ 0 ∷ [])
+    × (owners (formerLevel 3) (1 ∷ 2 ∷ 3 ∷ 4 ∷ 4 ∷ 5 ∷ 11 ∷ []) ≡ 0 ∷ 1 ∷ 2 ∷ 3 ∷ 3 ∷ 5 ∷ 0 ∷ [])
+unfolding owners ownersAfter owner nearest isC level levels formerLevel formerLevels
+order-moved = (refl, refl)
+
+-- H, P, AP, AC, FAC, REG, ACT, L in FAC: the owner of the FAC is 2, and was 4; that of the ACT is 5, and was 6
+pub invoice-moved : (owners (level 7) (1 ∷ 2 ∷ 3 ∷ 4 ∷ 7 ∷ 8 ∷ 9 ∷ 11 ∷ []) ≡ 0 ∷ 1 ∷ 2 ∷ 3 ∷ 2 ∷ 5 ∷ 5 ∷ 0 ∷ [])
+    × (owners (formerLevel 7) (1 ∷ 2 ∷ 3 ∷ 4 ∷ 7 ∷ 8 ∷ 9 ∷ 11 ∷ []) ≡ 0 ∷ 1 ∷ 2 ∷ 3 ∷ 4 ∷ 5 ∷ 6 ∷ 0 ∷ [])
+unfolding owners ownersAfter owner nearest isC level levels formerLevel formerLevels
+invoice-moved = (refl, refl)

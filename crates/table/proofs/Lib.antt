@@ -31,3 +31,5 @@ pub mod Lent
 pub mod Width
 pub mod ShutOut
 pub mod OwnLeaves
+pub mod OwnedRows
+pub mod AnyLevels

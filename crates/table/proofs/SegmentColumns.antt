@@ -7,12 +7,13 @@ use Prim.Native.Nat.{ℕ, zero, suc, _+_, _*_, _≤_, _<_}
 use native.Mathlib.Nat.{le-of-suc-le-suc, not-suc-le-zero}
 use native.Mathlib.Omega.{arith}
 use lib.ListN.{length, take, getD, length-append}
-use lib.Seq.{sets, getD-append-add}
+use lib.Seq.{sets, getD-append-add, getD-take}
 use Rattle.laws.specs.Lists.{concat}
 use Rattle.laws.proofs.Lists.{getD-map}
 use Rattle.form.specs.declared.separators.Separators.{Separators}
 use Rattle.order.specs.Owners.{owner, owners}
 use Rattle.order.proofs.Owner.{owners-at, length-owners}
+use Rattle.table.specs.Lent.{Lent, counted}
 use Rattle.table.specs.Leaves.{Leaf, kindOfSegment, messageLeaves}
 use Rattle.table.specs.Rows.{segmentRowSize, Next, noneBefore, nextAfter, rowNext, segmentRowsFrom, RowIs, kindsOf, contextIn, tableOf, RowOf}
 use Rattle.table.proofs.RowsGrowing.{length-kinds, length-messageLeaves, length-segmentRows}
@@ -82,4 +83,17 @@ front-row buffer front i fits h w =
       owner-is = front-at buffer front (i * segmentRowSize + 1) fits (omega arith) ∙ w .owner-is;
       first-is = front-at buffer front (i * segmentRowSize + 2) fits (omega arith) ∙ w .first-is;
       count-is = front-at buffer front (i * segmentRowSize + 3) fits (omega arith) ∙ w .count-is;
+    }
+
+-- a counted row is a row of its buffer
+pub row-taken : (t : Lent) (i : ℕ) → i < t .card .segments → {kind owner first leaves : ℕ} → RowIs (counted t .segmentRows) i kind owner first leaves
+    → RowIs (t .segmentRows) i kind owner first leaves
+unfolding counted
+row-taken t i h w =
+    let most = t .card .segments * segmentRowSize in
+    record {
+      kind-is = sym (getD-take most (t .segmentRows) (i * segmentRowSize) 0 (omega arith)) ∙ w .kind-is;
+      owner-is = sym (getD-take most (t .segmentRows) (i * segmentRowSize + 1) 0 (omega arith)) ∙ w .owner-is;
+      first-is = sym (getD-take most (t .segmentRows) (i * segmentRowSize + 2) 0 (omega arith)) ∙ w .first-is;
+      count-is = sym (getD-take most (t .segmentRows) (i * segmentRowSize + 3) 0 (omega arith)) ∙ w .count-is;
     }

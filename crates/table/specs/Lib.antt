@@ -1,5 +1,6 @@
 pub mod Leaves
 pub mod Rows
+pub mod OwnedRows
 pub mod Reading
 pub mod Examples
 pub mod Lent

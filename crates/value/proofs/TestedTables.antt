@@ -7,7 +7,6 @@ use mathlib.Core.Path.{_≡_, refl, sym, ap, _∙_, subst, subst⁻¹}
 use Prim.Native.Nat.{ℕ, _+_, _*_, _-_, _≤_, _<_}
 use native.Mathlib.Omega.{arith}
 use lib.ListN.{length, take, getD}
-use lib.Seq.{getD-take}
 use Rattle.laws.specs.Lists.{concat}
 use Rattle.laws.proofs.Parts.{part-taken}
 use Rattle.laws.proofs.Sums.{part-within}
@@ -22,7 +21,6 @@ use Rattle.table.specs.Leaves.{Leaf, messageLeaves}
 use Rattle.table.specs.Rows.{
   Table,
   width,
-  segmentRowSize,
   leafRowSize,
   kindIn,
   firstIn,
@@ -44,7 +42,7 @@ use Rattle.table.proofs.EndToEnd.{ended-within}
 use Rattle.table.proofs.Lent.{few-segments}
 use Rattle.table.proofs.OwnLeaves.{Named, own-leaf}
 use Rattle.table.proofs.RowsGrowing.{length-kinds}
-use Rattle.table.proofs.SegmentColumns.{rows-at}
+use Rattle.table.proofs.SegmentColumns.{rows-at, row-taken}
 use Rattle.write.specs.inner.ReadsBack.{isTable}
 use Rattle.write.proofs.LentTables.{table-within, is-table, is-table-rows}
 use Rattle.look.specs.Looking.{isNamed, orderAt}
@@ -53,29 +51,16 @@ use Rattle.look.proofs.Entries.{start-taken, length-taken, named-taken}
 use Rattle.look.proofs.SameAnswer.{named-by, table-answer}
 use Rattle.value.specs.inner.Seeking.{Searchable, Together, OrderRows}
 
--- a counted row is a row of its buffer
+-- a counted leaf row is a row of its buffer
 
-module _ (t : Lent) (i : ℕ) where
-  row-taken : i < t .card .segments → {kind owner first leaves : ℕ} → RowIs (counted t .segmentRows) i kind owner first leaves
-      → RowIs (t .segmentRows) i kind owner first leaves
+module _ (t : Lent) (i : ℕ) (h : i < t .card .leaves) where
+  place-taken : placeIn (counted t .leafRows) i ≡ placeIn (t .leafRows) i
   unfolding counted
-  row-taken h w =
-      let most = t .card .segments * segmentRowSize in
-      record {
-        kind-is = sym (getD-take most (t .segmentRows) (i * segmentRowSize) 0 (omega arith)) ∙ w .kind-is;
-        owner-is = sym (getD-take most (t .segmentRows) (i * segmentRowSize + 1) 0 (omega arith)) ∙ w .owner-is;
-        first-is = sym (getD-take most (t .segmentRows) (i * segmentRowSize + 2) 0 (omega arith)) ∙ w .first-is;
-        count-is = sym (getD-take most (t .segmentRows) (i * segmentRowSize + 3) 0 (omega arith)) ∙ w .count-is;
-      }
+  place-taken = part-taken (t .leafRows) (i * leafRowSize) 5 (t .card .leaves * leafRowSize) (omega arith)
 
-  module _ (h : i < t .card .leaves) where
-    place-taken : placeIn (counted t .leafRows) i ≡ placeIn (t .leafRows) i
-    unfolding counted
-    place-taken = part-taken (t .leafRows) (i * leafRowSize) 5 (t .card .leaves * leafRowSize) (omega arith)
-
-    text-taken : startIn (counted t .leafRows) i + lengthIn (counted t .leafRows) i ≤ t .card .text
-        → startIn (t .leafRows) i + lengthIn (t .leafRows) i ≤ t .card .text
-    text-taken fits = omega (arith, fits, start-taken t i h, length-taken t i h)
+  text-taken : startIn (counted t .leafRows) i + lengthIn (counted t .leafRows) i ≤ t .card .text
+      → startIn (t .leafRows) i + lengthIn (t .leafRows) i ≤ t .card .text
+  text-taken fits = omega (arith, fits, start-taken t i h, length-taken t i h)
 
 -- of a lent table whose counted entries are the table of joined segments
 module _ (t : Lent) (levels : ℕ → ℕ → ℕ) (ps : Separators) (segs : List (List ℕ)) (filed-so : counted t ≡ tableOf levels ps segs) where

@@ -1,0 +1,171 @@
+-- Who belongs to whom, proved: of what the reader leaves, of two readings by two levels, and of a table that is lent to the writer.
+-- Assumes nothing.
+use mathlib.Core.List.{List}
+use mathlib.Core.Logic.{⊎-elim}
+use mathlib.Core.Path.{_≡_, refl, sym, ap, ap₂, _∙_, subst, subst⁻¹}
+use Prim.Native.Nat.{ℕ, suc, _≤_, _<_}
+use native.Mathlib.Omega.{arith}
+use lib.ListN.{length, getD}
+use lib.Seq.{sets}
+use Rattle.laws.specs.Tables.{values}
+use Rattle.laws.proofs.Tables.{values-entries, values-same}
+use Rattle.form.specs.declared.limits.Limits.{Limits}
+use Rattle.form.specs.declared.separators.Separators.{Separators}
+use Rattle.form.specs.Limits.{form, Lawful}
+use Rattle.form.proofs.LineCount.{form-lawful}
+use Rattle.order.specs.Owners.{level, formerLevel, owners}
+use Rattle.order.specs.OwnerKinds.{ownerKinds, ownerKind}
+use Rattle.order.proofs.Misplaced.{derived-unless-misplaced}
+use Rattle.table.specs.Lent.{Lent, counted}
+use Rattle.table.specs.Rows.{Table, kindIn, ownerIn, kindsOf, contextIn, tableOf, RowOf}
+use Rattle.table.specs.OwnedRows.{NearestRow}
+use Rattle.table.specs.Reading.{roomOf, stated}
+use Rattle.table.proofs.Accepting.{Accepted, accepting}
+use Rattle.table.proofs.AnyLevels.{levels-unseen}
+use Rattle.table.proofs.OwnedRows.{kind-column, owner-column, nearest-row, same-owner}
+use Rattle.table.proofs.RowsGrowing.{length-kinds}
+use Rattle.table.proofs.SegmentColumns.{table-rows, row-taken}
+use Rattle.read.specs.declared.Answer.{Answer}
+use Rattle.read.specs.Answering.{answerOf, textPut, leavesPut, ReadAs}
+use Rattle.read.specs.Acceptance.{Read}
+use Rattle.read.specs.Sound.{segmentsIn}
+use Rattle.read.proofs.Acceptance.{accepted-read}
+use Rattle.read.proofs.Contract.{accepted-table}
+use Rattle.read.proofs.OwnersColumn.{segments-count, owners-column}
+use Rattle.write.specs.Writing.{ReadTo}
+use Rattle.write.proofs.Contract.{none-exactly}
+use Rattle.demands.specs.Belonging.{SameButMoved, Belonging}
+
+-- what the reader leaves of an accepted message, by any levels
+module _ {L : Limits} {levels : ℕ → ℕ → ℕ} {message : List ℕ} {ps : Separators} {text segments leaves text′ segments′ leaves′ : List ℕ} {r : Answer}
+    (read : Read L levels message ps text segments leaves r text′ segments′ leaves′) where
+  context-read : r .card .context ≡ contextIn ps (segmentsIn L ps message)
+  unfolding answerOf tableOf
+  context-read = ap (λ (a : Answer). a .card .context) (read .given .answer)
+
+  rows-read : (j : ℕ) → j < length (segmentsIn L ps message) → RowOf levels ps (segmentsIn L ps message) segments′ j
+  rows-read j h = owners-column read j (omega (arith, segments-count read))
+
+-- by the levels in force
+module _ (L : Limits) (message : List ℕ) {text segments leaves text′ segments′ leaves′ : List ℕ} {r : Answer}
+    (read : ReadAs L level message text segments leaves r text′ segments′ leaves′) (yes : r .number ≡ 0) where
+  read-nearest : (i : ℕ) → i < r .card .segments → 1 ≤ ownerKind (r .card .context) (kindIn segments′ i)
+      → NearestRow (ownerKind (r .card .context) (kindIn segments′ i)) segments′ i
+  read-nearest i h owned =
+      let a = accepted-table L level message read yes in
+      let segs = segmentsIn L (a .0) message in
+      let context = context-read (a .1) in
+      subst⁻¹ (λ (c : ℕ). NearestRow (ownerKind c (kindIn segments′ i)) segments′ i) context
+      (nearest-row (a .0) segs (a .1 .derived) (rows-read (a .1)) i (omega (arith, segments-count (a .1)))
+      (subst (λ (c : ℕ). 1 ≤ ownerKind c (kindIn segments′ i)) context owned))
+
+  read-named : (c k o : ℕ) → ownerKind c k ≡ suc o → r .card .context ≡ c → (i : ℕ) → i < r .card .segments → kindIn segments′ i ≡ k
+      → NearestRow (suc o) segments′ i
+  read-named c k o named context i h kind =
+      let here = ap₂ ownerKind context kind ∙ named in
+      subst (λ (n : ℕ). NearestRow n segments′ i) here (read-nearest i h (omega (arith, here)))
+
+-- by two levels
+module _ (L : Limits) (levels others : ℕ → ℕ → ℕ) (message : List ℕ) {text segments leaves text₁ segments₁ leaves₁ text₂ segments₂ leaves₂ : List ℕ} {r s : Answer}
+    (one : ReadAs L levels message text segments leaves r text₁ segments₁ leaves₁)
+    (other : ReadAs L others message text segments leaves s text₂ segments₂ leaves₂) where
+  read-alike : (r ≡ s) × (text₁ ≡ text₂) × (leaves₁ ≡ leaves₂)
+  unfolding answerOf textPut leavesPut tableOf
+  read-alike =
+      let room = roomOf text segments leaves in (
+        one .answer ∙ levels-unseen answerOf L levels others (λ ps segs. refl) room message ∙ sym (other .answer),
+        one .textArea ∙ ap (sets text 0) (levels-unseen textPut L levels others (λ ps segs. refl) room message) ∙ sym (other .textArea),
+        one .leafRows ∙ ap (sets leaves 0) (levels-unseen leavesPut L levels others (λ ps segs. refl) room message) ∙ sym (other .leafRows),
+      )
+
+module _ (L : Limits) (message : List ℕ) {text segments leaves text₁ segments₁ leaves₁ text₂ segments₂ leaves₂ : List ℕ} {r s : Answer}
+    (one : ReadAs L level message text segments leaves r text₁ segments₁ leaves₁)
+    (former : ReadAs L formerLevel message text segments leaves s text₂ segments₂ leaves₂) (yes : r .number ≡ 0) where
+  rows-same : (i : ℕ) → i < r .card .segments → SameButMoved (r .card .context) segments₁ segments₂ i
+  rows-same i h =
+      let a = accepted-table L level message one yes in
+      let ps = a .0 in
+      let segs = segmentsIn L ps message in
+      let yes-former : s .number ≡ 0 = ap (λ (x : Answer). x .number) (sym (read-alike L level formerLevel message one former .0)) ∙ yes in
+      let b = accepted-read L formerLevel message ps (a .1 .sound .sound .header) former yes-former in
+      let inside : i < length segs = omega (arith, segments-count (a .1)) in
+      let row = rows-read (a .1) i inside in
+      let formerRow = rows-read b i inside in
+      record {
+        kind = row .kind-is ∙ sym (formerRow .kind-is);
+        owner = λ stays.
+            same-owner ps segs (a .1 .derived) i inside row formerRow (rw (← context-read (a .1)) stays);
+        first = row .first-is ∙ sym (formerRow .first-is);
+        count = row .count-is ∙ sym (formerRow .count-is);
+      }
+
+-- a lent table to which a message reads
+module _ (L : Limits) (table : Lent) (to : ReadTo L level (counted table)) where
+  read-so : Accepted L level (stated L) (to .0) (counted table)
+  read-so = accepting L level (stated L) (to .0) (counted table) .0 (to .1)
+
+  abbrev separators : Separators
+  separators = read-so .separators
+
+  abbrev segs : List (List ℕ)
+  segs = segmentsIn L separators (to .0)
+
+  context-lent : table .card .context ≡ contextIn separators segs
+  unfolding counted tableOf
+  context-lent = ap (λ (t : Table). t .card .context) (read-so .segments .table)
+
+  count-lent : table .card .segments ≡ length segs
+  unfolding counted tableOf
+  count-lent = ap (λ (t : Table). t .card .segments) (read-so .segments .table)
+
+  rows-lent : (j : ℕ) → j < length segs → RowOf level separators segs (table .segmentRows) j
+  rows-lent j h =
+      row-taken table j (omega (arith, count-lent))
+      (subst⁻¹ (λ (t : Table). RowOf level separators segs (t .segmentRows) j) (read-so .segments .table) (table-rows level separators segs j h))
+
+  kinds-lent : kindsOf separators segs ≡ values (kindIn (table .segmentRows)) 0 (table .card .segments)
+  kinds-lent =
+      let kinds = kindsOf separators segs in
+      let count = count-lent ∙ sym (length-kinds separators segs) in
+      sym (values-entries kinds 0)
+      ∙ values-same (λ k. getD kinds k 0) (kindIn (table .segmentRows)) 0 (length kinds)
+      (λ k low high. let inside : k < length segs = omega (arith, length-kinds separators segs) in kind-column level separators segs k inside (rows-lent k inside))
+      ∙ ap (values (kindIn (table .segmentRows)) 0) (sym count)
+
+  module _ (i : ℕ) (h : i < table .card .segments) where
+    inside : i < length segs
+    inside = omega (arith, count-lent)
+
+    owner-lent : ownerIn (table .segmentRows) i
+        ≡ getD (owners (level (table .card .context)) (values (kindIn (table .segmentRows)) 0 (table .card .segments))) i 0
+    owner-lent =
+        sym (owner-column level separators segs i inside (rows-lent i inside))
+        ∙ ap₂ (λ (c : ℕ) (w : List ℕ). getD (owners (level c) w) i 0) (sym context-lent) kinds-lent
+
+    nearest-lent : 1 ≤ ownerKind (table .card .context) (kindIn (table .segmentRows) i)
+        → NearestRow (ownerKind (table .card .context) (kindIn (table .segmentRows) i)) (table .segmentRows) i
+    nearest-lent owned =
+        let kind = kindIn (table .segmentRows) i in
+        let derived = derived-unless-misplaced (contextIn separators segs) (kindsOf separators segs) .0 (read-so .segments .ordered) in
+        subst⁻¹ (λ (c : ℕ). NearestRow (ownerKind c kind) (table .segmentRows) i) context-lent
+        (nearest-row separators segs derived rows-lent i inside (subst (λ (c : ℕ). 1 ≤ ownerKind c kind) context-lent owned))
+
+module _ (L : Limits) (lawful : Lawful L) where
+  pub belonging : Belonging L
+  unfolding ownerKind ownerKinds
+  belonging =
+      record {
+        order = λ message read yes. read-named L message read yes 3 5 1 refl;
+        invoice = λ message read yes. read-named L message read yes 7 7 1 refl;
+        invoice-line = λ message read yes context i h.
+            ⊎-elim (read-named L message read yes 7 8 6 refl context i h) (read-named L message read yes 7 9 6 refl context i h);
+        any-kind = read-nearest L;
+        accepted-alike = read-alike L;
+        rows-alike = rows-same L;
+        other-owner = λ table wrote room i h other. none-exactly L lawful level table wrote .1 (room, λ to. other (owner-lent L table to i h));
+        not-nearest = λ table wrote room i h owned other. none-exactly L lawful level table wrote .1 (room, λ to. other (nearest-lent L table to i h owned));
+      }
+
+-- of the form itself
+pub form-belonging : Belonging form
+form-belonging = belonging form form-lawful
