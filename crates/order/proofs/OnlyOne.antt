@@ -5,7 +5,7 @@ use mathlib.Core.Path.{_≡_}
 use Prim.Native.Nat.{ℕ}
 use Rattle.laws.proofs.Equality.{only-one}
 use Rattle.order.specs.inner.Followers.{followers}
-use Rattle.order.specs.inner.Levels.{levelTable, levelIn}
+use Rattle.order.specs.inner.Levels.{levelTable, formerLevelTable, levelIn}
 use Rattle.order.specs.inner.Owning.{noRows, Owned}
 use Rattle.order.specs.Watcher.{begun}
 use Rattle.order.specs.inner.Telling.{followsBy, tellBy, tellOf}
@@ -17,6 +17,9 @@ followers-table r s p q = only-one p q
 
 pub levels-table : (r s : List ℕ) → r ≡ levelTable → s ≡ levelTable → r ≡ s
 levels-table r s p q = only-one p q
+
+pub former-levels-table : (r s : List ℕ) → r ≡ formerLevelTable → s ≡ formerLevelTable → r ≡ s
+former-levels-table r s p q = only-one p q
 
 pub level-of : (levels : List ℕ) (context kind r s : ℕ) → r ≡ levelIn levels context kind → s ≡ levelIn levels context kind → r ≡ s
 level-of levels context kind r s p q = only-one p q

@@ -2,19 +2,22 @@
 -- kinds after L; an owner that is a C. And that the two levels differ: an order and an invoice that the former ones give other owners.
 -- Assumes nothing.
 use mathlib.Core.Bool.{Bool, true, false, not, and-false, true≢false, false≢true}
-use mathlib.Core.List.{[], _∷_}
+use mathlib.Core.List.{List, [], _∷_}
 use mathlib.Core.Logic.{_⊎_, ⊎-elim}
 use mathlib.Core.Path.{_≡_, refl, sym, ap, _∙_}
 use Prim.Native.Nat.{ℕ, suc, _≤_}
 use native.Mathlib.Omega.{arith}
 use lib.Dec.{leb, eqb}
+use lib.ListN.{getD}
 use borrow.Author.Tests.{eqb-true, eqb-false, ne-eqb, not-true}
+use Rattle.laws.specs.Tables.{values}
 use Rattle.laws.specs.inner.Tests.{below, everyFrom}
 use Rattle.laws.proofs.Cases.{less-or-not}
 use Rattle.laws.proofs.Tests.{never-holds}
 use Rattle.order.specs.Contexts.{isContext}
 use Rattle.order.specs.Owners.{levels, formerLevels, level, formerLevel, nearest, isC, owner, ownersAfter, owners}
 use Rattle.order.specs.inner.Followers.{follows}
+use Rattle.order.specs.inner.Levels.{levelTableOf, levelTable, formerLevelTable}
 use Rattle.order.specs.Watcher.{begun}
 use Rattle.order.specs.inner.Telling.{allowsC, allowsNext, allows, tellBy, tellOf}
 use Rattle.order.specs.declared.watcher.Watcher.{Watcher}
@@ -83,6 +86,23 @@ L-next c t k false e =
 
 pub after-L-no : (c k : ℕ) → tellOf (record { context = c; last = 11 }) k .yes ≡ false
 after-L-no c k = no-by (record { context = c; last = 11 }) k (λ e. L-next c e k (eqb k 12) refl)
+
+-- a table of one of the two levels for that of the other: they differ at the OBR of ORA
+module _ (r : List ℕ) where
+  order-level : r ≡ levelTable → getD r 29 0 ≡ 3
+  unfolding levelTable levelTableOf level levels values
+  order-level e = ap (λ (t : List ℕ). getD t 29 0) e
+
+  former-order-level : r ≡ formerLevelTable → getD r 29 0 ≡ 5
+  unfolding formerLevelTable levelTableOf formerLevel formerLevels values
+  former-order-level e = ap (λ (t : List ℕ). getD t 29 0) e
+
+  pub former-for-present : r ≡ levelTable → r ≡ formerLevelTable → ⊥
+  former-for-present e f = omega (arith, order-level e, former-order-level f)
+
+  -- and a table of the former levels whose OBR of ORA would belong to the AP, whatever AC there is
+  pub order-under-AP : r ≡ formerLevelTable → getD r 29 0 ≡ 4 → ⊥
+  order-under-AP f four = omega (arith, former-order-level f, four)
 
 -- H, P, AP, AC, AC, OBR, L in ORA, which is K11: the owner of the OBR is 2, and was 5
 pub order-moved : (owners (level 3) (1 ∷ 2 ∷ 3 ∷ 4 ∷ 4 ∷ 5 ∷ 11 ∷ []) ≡ 0 ∷ 1 ∷ 2 ∷ 3 ∷ 3 ∷ 2 ∷ 0 ∷ [])
