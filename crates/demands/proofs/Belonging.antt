@@ -133,13 +133,13 @@ module _ (L : Limits) (table : Lent) (to : ReadTo L level (counted table)) where
       ∙ ap (values (kindIn (table .segmentRows)) 0) (sym count)
 
   module _ (i : ℕ) (h : i < table .card .segments) where
-    inside : i < length segs
-    inside = omega (arith, count-lent)
+    row-inside : i < length segs
+    row-inside = omega (arith, count-lent)
 
     owner-lent : ownerIn (table .segmentRows) i
         ≡ getD (owners (level (table .card .context)) (values (kindIn (table .segmentRows)) 0 (table .card .segments))) i 0
     owner-lent =
-        sym (owner-column level separators segs i inside (rows-lent i inside))
+        sym (owner-column level separators segs i row-inside (rows-lent i row-inside))
         ∙ ap₂ (λ (c : ℕ) (w : List ℕ). getD (owners (level c) w) i 0) (sym context-lent) kinds-lent
 
     nearest-lent : 1 ≤ ownerKind (table .card .context) (kindIn (table .segmentRows) i)
@@ -148,7 +148,7 @@ module _ (L : Limits) (table : Lent) (to : ReadTo L level (counted table)) where
         let kind = kindIn (table .segmentRows) i in
         let derived = derived-unless-misplaced (contextIn separators segs) (kindsOf separators segs) .0 (read-so .segments .ordered) in
         subst⁻¹ (λ (c : ℕ). NearestRow (ownerKind c kind) (table .segmentRows) i) context-lent
-        (nearest-row separators segs derived rows-lent i inside (subst (λ (c : ℕ). 1 ≤ ownerKind c kind) context-lent owned))
+        (nearest-row separators segs derived rows-lent i row-inside (subst (λ (c : ℕ). 1 ≤ ownerKind c kind) context-lent owned))
 
 module _ (L : Limits) (lawful : Lawful L) where
   pub belonging : Belonging L

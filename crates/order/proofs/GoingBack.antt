@@ -32,18 +32,18 @@ climbs zero c o x = eqb x o
 climbs (suc n) c o x = elim (eqb x o) [ true ↦ true | false ↦ climbs n c o (ownerKind c x) ]
 
 -- whether x is o or stands below it: no kind has more than four owners above it
-unfoldable pub within : ℕ → ℕ → ℕ → Bool
-within c o x = climbs 4 c o x
+unfoldable pub isOrBelow : ℕ → ℕ → ℕ → Bool
+isOrBelow c o x = climbs 4 c o x
 
 -- whether whatever may stand right before an x is o or below it
 unfoldable pub leads : ℕ → ℕ → ℕ → Bool
-leads c o x = below 12 (λ y. elim (follows c y x) [ true ↦ within c o y | false ↦ true ])
+leads c o x = below 12 (λ y. elim (follows c y x) [ true ↦ isOrBelow c o y | false ↦ true ])
 
 -- the nearest of a kind: right before the next place; further off, where another kind stands between; and there is no second
 
 module _ {o : ℕ} {kindAt : ℕ → ℕ} {i : ℕ} where
-  nearest-here : kindAt i ≡ o → NearestOf o kindAt (suc i) (suc i)
-  nearest-here e =
+  kind-here : kindAt i ≡ o → NearestOf o kindAt (suc i) (suc i)
+  kind-here e =
       record {
         there = omega arith;
         earlier = omega arith;
@@ -51,8 +51,8 @@ module _ {o : ℕ} {kindAt : ℕ → ℕ} {i : ℕ} where
         none-nearer = λ m low high q. absurd (omega arith);
       }
 
-  nearest-further : {row : ℕ} → (kindAt i ≡ o → ⊥) → NearestOf o kindAt i row → NearestOf o kindAt (suc i) row
-  nearest-further {row} other r =
+  kind-further : {row : ℕ} → (kindAt i ≡ o → ⊥) → NearestOf o kindAt i row → NearestOf o kindAt (suc i) row
+  kind-further {row} other r =
       record {
         there = r .there;
         earlier = let h = r .earlier in omega arith;
@@ -108,19 +108,19 @@ module _ (c : ℕ) (t : isContext c ≡ true) (w : List ℕ) (b : Begins (gramma
       begins-more c t (take i w) (getD w i 0) (begins-take (grammar c) i w b) .0
       (subst (Begins (grammar c)) (take-suc w i 0 h) (begins-take (grammar c) (suc i) w b))
 
-  pub led-back : (o i : ℕ) → i < length w → leads c o (getD w i 0) ≡ true → within c o (lastBefore w i) ≡ true
+  pub led-back : (o i : ℕ) → i < length w → leads c o (getD w i 0) ≡ true → isOrBelow c o (lastBefore w i) ≡ true
   unfolding leads
   led-back o i h l =
-      where-holds (within c o (lastBefore w i)) (follows-last i h)
-      (at 12 (λ y. elim (follows c y (getD w i 0)) [ true ↦ within c o y | false ↦ true ]) l (lastBefore w i) (last-below i))
+      where-holds (isOrBelow c o (lastBefore w i)) (follows-last i h)
+      (at 12 (λ y. elim (follows c y (getD w i 0)) [ true ↦ isOrBelow c o y | false ↦ true ]) l (lastBefore w i) (last-below i))
 
 -- what a test p of kinds and a kind o must pass: p tells o from the kinds below it, and going on back from those leads to o, never to the start
 pub record Leading (c o : ℕ) (p : ℕ → Bool) : Type 0 where
-  pub not-start : within c o 0 ≡ false
+  pub not-start : isOrBelow c o 0 ≡ false
   pub not-C : 12 ≡ o → ⊥
   pub C-fails : p 12 ≡ false
-  pub tells-apart : (x : ℕ) → x < 12 → within c o x ≡ true → p x ≡ eqb x o
-  pub leads-on : (x : ℕ) → x < 12 → within c o x ≡ true → eqb x o ≡ false → leads c o x ≡ true
+  pub tells-apart : (x : ℕ) → x < 12 → isOrBelow c o x ≡ true → p x ≡ eqb x o
+  pub leads-on : (x : ℕ) → x < 12 → isOrBelow c o x ≡ true → eqb x o ≡ false → leads c o x ≡ true
 
 -- then going back in a begun order leads to the nearest o
 module _ (c : ℕ) (t : isContext c ≡ true) (w : List ℕ) (b : Begins (grammar c) w) (o : ℕ) (p : ℕ → Bool) (leading : Leading c o p) where
@@ -143,17 +143,17 @@ module _ (c : ℕ) (t : isContext c ≡ true) (w : List ℕ) (b : Begins (gramma
     near-further e = ap (nearest p) (before-next w i h) ∙ (rw (e, nearest))
 
     further-off : p (getD w i 0) ≡ false → (getD w i 0 ≡ o → ⊥) → Near i → Near (suc i)
-    further-off e other r = subst⁻¹ (NearestOf o (λ m. getD w m 0) (suc i)) (near-further e) (nearest-further other r)
+    further-off e other r = subst⁻¹ (NearestOf o (λ m. getD w m 0) (suc i)) (near-further e) (kind-further other r)
 
     -- one place more: behind a C, behind an o, and behind a kind below o
-    near-next : (within c o (lastBefore w i) ≡ true → Near i) → within c o (lastBefore w (suc i)) ≡ true → Near (suc i)
+    near-next : (isOrBelow c o (lastBefore w i) ≡ true → Near i) → isOrBelow c o (lastBefore w (suc i)) ≡ true → Near (suc i)
     near-next earlier below-o = by (tested (eqb (getD w i 0) 12))
       where
         kind : ℕ
         kind = getD w i 0
 
-        other : within c o kind ≡ true → kind < 12 → Tested (eqb kind o) → Near (suc i)
-        other in-o low (passed e) = subst⁻¹ (NearestOf o (λ m. getD w m 0) (suc i)) (near-here (leading .tells-apart kind low in-o ∙ e)) (nearest-here (eqb-true kind o e))
+        other : isOrBelow c o kind ≡ true → kind < 12 → Tested (eqb kind o) → Near (suc i)
+        other in-o low (passed e) = subst⁻¹ (NearestOf o (λ m. getD w m 0) (suc i)) (near-here (leading .tells-apart kind low in-o ∙ e)) (kind-here (eqb-true kind o e))
         other in-o low (failed e) =
             further-off (leading .tells-apart kind low in-o ∙ e) (eqb-false kind o e) (earlier (led-back c t w b o i h (leading .leads-on kind low in-o e)))
 
@@ -161,12 +161,12 @@ module _ (c : ℕ) (t : isContext c ≡ true) (w : List ℕ) (b : Begins (gramma
         by (passed e) =
             let C = eqb-true kind 12 e in
             further-off (ap p C ∙ leading .C-fails) (λ q. leading .not-C (sym C ∙ q))
-            (earlier (subst (λ (x : ℕ). within c o x ≡ true) (last-next w i h ∙ ap (lastAfter (lastBefore w i)) C ∙ lastAfter-C (lastBefore w i)) below-o))
+            (earlier (subst (λ (x : ℕ). isOrBelow c o x ≡ true) (last-next w i h ∙ ap (lastAfter (lastBefore w i)) C ∙ lastAfter-C (lastBefore w i)) below-o))
         by (failed e) =
             let at : lastBefore w (suc i) ≡ kind = last-other w i h (eqb-false kind 12 e) in
-            other (subst (λ (x : ℕ). within c o x ≡ true) at below-o) (subst (λ (x : ℕ). x < 12) at (last-below c t w b (suc i))) (tested (eqb kind o))
+            other (subst (λ (x : ℕ). isOrBelow c o x ≡ true) at below-o) (subst (λ (x : ℕ). x < 12) at (last-below c t w b (suc i))) (tested (eqb kind o))
 
-  pub near-there : (i : ℕ) → i ≤ length w → within c o (lastBefore w i) ≡ true → Near i
+  pub near-there : (i : ℕ) → i ≤ length w → isOrBelow c o (lastBefore w i) ≡ true → Near i
   unfolding lastOf
   near-there zero h below-o = absurd (never-both below-o (leading .not-start))
   near-there (suc i) h below-o = near-next i h (near-there i (le-of-lt h)) below-o

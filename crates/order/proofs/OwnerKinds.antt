@@ -25,19 +25,19 @@ use Rattle.order.proofs.Seven.{all-seven, all-seven₂, all-seven₃, c
 use Rattle.order.proofs.Owner.{owners-at}
 use Rattle.order.proofs.TopLevel.{H-and-L-have-0, former-H-and-L-have-0}
 use Rattle.order.proofs.Watched.{never-begins}
-use Rattle.order.proofs.GoingBack.{climbs, within, leads, one-nearest, lastBefore, last-below, other-below, follows-last, led-back, Leading, near-there}
+use Rattle.order.proofs.GoingBack.{climbs, isOrBelow, leads, one-nearest, lastBefore, last-below, other-below, follows-last, led-back, Leading, near-there}
 
 -- whether going on back from each kind below o leads to o, and so not to the start, where no kind has come
 unfoldable leadsOn : ℕ → ℕ → Bool
-leadsOn c o = below 12 (λ x. elim (within c o x && not (eqb x o)) [ true ↦ leads c o x | false ↦ true ])
+leadsOn c o = below 12 (λ x. elim (isOrBelow c o x && not (eqb x o)) [ true ↦ leads c o x | false ↦ true ])
 
 -- whether going back from a k leads to an o
 unfoldable leadsTo : ℕ → ℕ → ℕ → Bool
-leadsTo c o k = not (within c o 0) && (leads c o k && leadsOn c o)
+leadsTo c o k = not (isOrBelow c o 0) && (leads c o k && leadsOn c o)
 
 -- whether levels tell o from the kinds below it: o alone is lower than k
 unfoldable tells : (ℕ → ℕ → ℕ) → ℕ → ℕ → ℕ → Bool
-tells lv c o k = below 12 (λ x. elim (within c o x) [ true ↦ Bool·beq (ltb (lv c x) (lv c k)) (eqb x o) | false ↦ true ])
+tells lv c o k = below 12 (λ x. elim (isOrBelow c o x) [ true ↦ Bool·beq (ltb (lv c x) (lv c k)) (eqb x o) | false ↦ true ])
 
 -- a test of a kind that has an owner
 unfoldable whereOwned : (ℕ → ℕ → ℕ → Bool) → ℕ → ℕ → Bool
@@ -58,7 +58,7 @@ unfolding ownerKind ownerKinds everyFrom
 C-owns-nothing = refl
 
 all-lead : below 7 (λ i. below 12 (whereOwned leadsTo (suc i))) ≡ true
-unfolding whereOwned leadsTo leadsOn leads within climbs ownerKind ownerKinds follows states everyFrom
+unfolding whereOwned leadsTo leadsOn leads isOrBelow climbs ownerKind ownerKinds follows states everyFrom
 all-lead = refl
 
 all-ownerless : below 7 (λ i. below 12 (λ y. below 12 (ownerless (suc i) y))) ≡ true
@@ -66,11 +66,11 @@ unfolding ownerless ownerKind ownerKinds follows states everyFrom
 all-ownerless = refl
 
 levels-tell : below 7 (λ i. below 12 (whereOwned (tells level) (suc i))) ≡ true
-unfolding whereOwned tells within climbs ownerKind ownerKinds level levels everyFrom
+unfolding whereOwned tells isOrBelow climbs ownerKind ownerKinds level levels everyFrom
 levels-tell = refl
 
 former-levels-tell : below 7 (λ i. below 12 (λ k. elim (not (moved (suc i) k)) [ true ↦ whereOwned (tells formerLevel) (suc i) k | false ↦ true ])) ≡ true
-unfolding moved whereOwned tells within climbs ownerKind ownerKinds formerLevel formerLevels everyFrom
+unfolding moved whereOwned tells isOrBelow climbs ownerKind ownerKinds formerLevel formerLevels everyFrom
 former-levels-tell = refl
 
 -- the owner at a place, by levels that pass the tests there
@@ -98,23 +98,23 @@ module _ (lv : ℕ → ℕ → ℕ) (c : ℕ) (t : isContext c ≡ true) (w : Li
   owner-lower = owners-at (lv c) w i h ∙ (rw (no-C-below kind low, owner))
 
   module _ (leads-to : leadsTo c above kind ≡ true) (tell : tells lv c above kind ≡ true) where
-    told-lower : (x : ℕ) → x < 12 → within c above x ≡ true → lower x ≡ eqb x above
+    told-lower : (x : ℕ) → x < 12 → isOrBelow c above x ≡ true → lower x ≡ eqb x above
     unfolding tells
     told-lower x l e =
         and-passed (ltb (lv c x) (lv c kind)) (not-holds (isC x) (no-C-below x l))
         ∙ equal-tests (ltb (lv c x) (lv c kind)) (eqb x above)
         (where-holds (Bool·beq (ltb (lv c x) (lv c kind)) (eqb x above)) e
-        (at 12 (λ y. elim (within c above y) [ true ↦ Bool·beq (ltb (lv c y) (lv c kind)) (eqb y above) | false ↦ true ]) tell x l))
+        (at 12 (λ y. elim (isOrBelow c above y) [ true ↦ Bool·beq (ltb (lv c y) (lv c kind)) (eqb y above) | false ↦ true ]) tell x l))
 
     leads-there : (leads c above kind && leadsOn c above) ≡ true
     unfolding leadsTo
-    leads-there = and-second (not (within c above 0)) (leads c above kind && leadsOn c above) leads-to
+    leads-there = and-second (not (isOrBelow c above 0)) (leads c above kind && leadsOn c above) leads-to
 
     leading : Leading c above lower
     unfolding leadsOn leadsTo
     leading =
         record {
-          not-start = not-true (within c above 0) (and-first (not (within c above 0)) (leads c above kind && leadsOn c above) leads-to);
+          not-start = not-true (isOrBelow c above 0) (and-first (not (isOrBelow c above 0)) (leads c above kind && leadsOn c above) leads-to);
           not-C = λ e.
               let l = ltb-true above 12 (all-seven₂ 12 (λ n k. ltb (ownerKind n k) 12) C-owns-nothing c t kind low) in
               omega arith;
@@ -122,7 +122,7 @@ module _ (lv : ℕ → ℕ → ℕ) (c : ℕ) (t : isContext c ≡ true) (w : Li
           tells-apart = told-lower;
           leads-on = λ x l e f.
               where-holds (leads c above x) (and-both e (not-holds (eqb x above) f))
-              (at 12 (λ y. elim (within c above y && not (eqb y above)) [ true ↦ leads c above y | false ↦ true ])
+              (at 12 (λ y. elim (isOrBelow c above y && not (eqb y above)) [ true ↦ leads c above y | false ↦ true ])
               (and-second (leads c above kind) (leadsOn c above) leads-there) x l);
         }
 

@@ -1,5 +1,5 @@
--- Owners by kind (rule O5): in force, the owner of a segment is the nearest one of a certain kind before it, whatever stands between; and the
--- former levels give the same owner to every kind but three.
+-- Owners by kind (rule O5): by the levels in force each segment belongs to the nearest one of a certain kind before it, whatever stands between;
+-- and the former levels give the same owner to every kind but three.
 -- Assumes nothing.
 use mathlib.Core.Bool.{Bool, false, _&&_, _||_}
 use mathlib.Core.List.{List, [], _∷_}

@@ -34,11 +34,11 @@ module _ (levels : ℕ → ℕ → ℕ) (ps : Separators) (segs : List (List ℕ
 
 -- the rows of joined segments whose kinds the context's grammar derives
 module _ (ps : Separators) (segs : List (List ℕ)) (derived : Derives (grammar (contextIn ps segs)) (kindsOf ps segs)) where
-  begun : Begins (grammar (contextIn ps segs)) (kindsOf ps segs)
-  begun = ([], subst⁻¹ (λ (w : List ℕ). Derives (grammar (contextIn ps segs)) w) (append-nil (kindsOf ps segs)) derived)
+  kinds-begin : Begins (grammar (contextIn ps segs)) (kindsOf ps segs)
+  kinds-begin = ([], subst⁻¹ (λ (w : List ℕ). Derives (grammar (contextIn ps segs)) w) (append-nil (kindsOf ps segs)) derived)
 
-  inside : (i : ℕ) → i < length segs → i < length (kindsOf ps segs)
-  inside i h = let e = length-kinds ps segs in omega arith
+  place-inside : (i : ℕ) → i < length segs → i < length (kindsOf ps segs)
+  place-inside i h = let e = length-kinds ps segs in omega arith
 
   -- by the levels in force: the owner is the nearest row of the kind that is named
   pub nearest-row : {rows : List ℕ} → ((j : ℕ) → j < length segs → RowOf level ps segs rows j) → (i : ℕ) → i < length segs
@@ -49,13 +49,13 @@ module _ (ps : Separators) (segs : List (List ℕ)) (derived : Derives (grammar 
       let named = subst⁻¹ (λ (k : ℕ). 1 ≤ ownerKind c k) kind owned in
       subst₂ (λ (k o : ℕ). NearestOf (ownerKind c k) (kindIn rows) i o) kind (owner-column level ps segs i h (each i h))
       (nearest-along (λ m l. kind-column level ps segs m (omega arith) (each m (omega arith)))
-      (owners-by-kind .any-kind c (kindsOf ps segs) begun i (inside i h) named))
+      (owners-by-kind .any-kind c (kindsOf ps segs) kinds-begin i (place-inside i h) named))
 
   -- and by the former levels the same, but for the kinds that moved
   pub same-owner : {rows formerRows : List ℕ} (i : ℕ) → i < length segs → RowOf level ps segs rows i → RowOf formerLevel ps segs formerRows i
       → moved (contextIn ps segs) (kindIn rows i) ≡ false → ownerIn rows i ≡ ownerIn formerRows i
   same-owner i h row former stays =
       sym (owner-column level ps segs i h row)
-      ∙ owners-by-kind .others (contextIn ps segs) (kindsOf ps segs) begun i (inside i h)
+      ∙ owners-by-kind .others (contextIn ps segs) (kindsOf ps segs) kinds-begin i (place-inside i h)
       (subst⁻¹ (λ (k : ℕ). moved (contextIn ps segs) k ≡ false) (kind-column level ps segs i h row) stays)
       ∙ owner-column formerLevel ps segs i h former
