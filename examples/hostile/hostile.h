@@ -81,6 +81,7 @@ bool draw_table(struct table *t);      /* such a table, or a damaged one; whethe
 uint8_t read_table(const uint8_t *message, size_t bytes, struct table *t, size_t *place); /* in buffers of ordinary memory */
 uint8_t write_table(const struct table *t, uint8_t *output, size_t *answer);              /* the same, with output enough */
 void expect_same_table(const struct table *a, const struct table *b, const char *what);
+void expect_owners(const struct table *t); /* each row has the owner that plain_owner finds */
 size_t segments_there(const struct table *t); /* segment rows that are counted and lie in the buffer */
 size_t leaves_there(const struct table *t);
 uint16_t draw_order(const struct table *t);   /* the row of an order mostly */
@@ -97,6 +98,7 @@ extern const char *const context_names[8];
 
 unsigned followers(uint8_t context, uint8_t last); /* bit k: kind k may come next, C aside */
 bool may_follow(uint8_t context, uint8_t last, uint8_t kind);
+size_t plain_owner(const struct table *t, size_t row); /* by context and kinds alone, of a table that was read or written */
 uint8_t plain_line(const uint8_t *message, size_t bytes, size_t at, size_t answer[2]);
 struct outcome plain_outcome(const uint8_t *message, size_t bytes); /* what the reader answers where the buffers are enough */
 size_t plain_kinds(uint8_t *kinds, size_t room, uint8_t *context);  /* of the message that plain_outcome saw last */

@@ -52,6 +52,41 @@ bool may_follow(uint8_t context, uint8_t last, uint8_t kind)
     return kind < SARGACEU_C && (followers(context, last) >> kind & 1) != 0;
 }
 
+/* ---- owners ---- */
+
+/* By context and kind, C aside: the kind whose nearest row owns it; 0 where none does. */
+static const uint8_t owner_kinds[8][13] = {
+    [SARGACEU_CONTEXT_ADM] = { [SARGACEU_P] = SARGACEU_H, [SARGACEU_AP] = SARGACEU_P, [SARGACEU_AC] = SARGACEU_AP },
+    [SARGACEU_CONTEXT_ORM] = { [SARGACEU_P] = SARGACEU_H, [SARGACEU_OBR] = SARGACEU_P, [SARGACEU_OBX] = SARGACEU_OBR },
+    [SARGACEU_CONTEXT_ORA] = {
+        [SARGACEU_P] = SARGACEU_H, [SARGACEU_AP] = SARGACEU_P, [SARGACEU_AC] = SARGACEU_AP,
+        [SARGACEU_OBR] = SARGACEU_P, [SARGACEU_OBX] = SARGACEU_OBR },
+    [SARGACEU_CONTEXT_REG] = { [SARGACEU_P] = SARGACEU_H, [SARGACEU_REG] = SARGACEU_P },
+    [SARGACEU_CONTEXT_ERR] = { [SARGACEU_ERR] = SARGACEU_H },
+    [SARGACEU_CONTEXT_ORU] = { [SARGACEU_P] = SARGACEU_H, [SARGACEU_OBR] = SARGACEU_P, [SARGACEU_OBX] = SARGACEU_OBR },
+    [SARGACEU_CONTEXT_FAC] = {
+        [SARGACEU_P] = SARGACEU_H, [SARGACEU_AP] = SARGACEU_P, [SARGACEU_AC] = SARGACEU_AP,
+        [SARGACEU_FAC] = SARGACEU_P, [SARGACEU_REG] = SARGACEU_FAC, [SARGACEU_ACT] = SARGACEU_FAC },
+};
+
+static uint16_t kind_in(const struct table *t, size_t row)
+{
+    return t->segments[(row - 1) * SARGACEU_SEGMENT_ROW];
+}
+
+/* Of a C the nearest row before it that is none. */
+size_t plain_owner(const struct table *t, size_t row)
+{
+    uint16_t kind = kind_in(t, row);
+    uint8_t wanted = kind == SARGACEU_C ? 0 : owner_kinds[t->card[CARD_CONTEXT]][kind];
+    if (kind != SARGACEU_C && wanted == 0)
+        return 0;
+    for (size_t before = row - 1; before > 0; before--)
+        if (kind == SARGACEU_C ? kind_in(t, before) != SARGACEU_C : kind_in(t, before) == wanted)
+            return before;
+    return 0;
+}
+
 /* ---- lines ---- */
 
 uint8_t plain_line(const uint8_t *message, size_t bytes, size_t at, size_t answer[2])

@@ -38,6 +38,7 @@ static struct outcome expected_outcome(struct room room)
         size_t place;
         if (read_table(drawn.bytes, drawn.length, &read, &place) != SARGACEU_ACCEPTED)
             fail("refused, and a plain reading accepts");
+        expect_owners(&read);
     }
     return expected;
 }

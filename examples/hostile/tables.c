@@ -72,6 +72,15 @@ uint16_t draw_order(const struct table *t)
     return (uint16_t)row;
 }
 
+void expect_owners(const struct table *t)
+{
+    for (size_t row = 1; row <= t->card[CARD_SEGMENTS]; row++) {
+        size_t owner = t->segments[(row - 1) * SARGACEU_SEGMENT_ROW + 1], expected = plain_owner(t, row);
+        if (owner != expected)
+            fail("row %zu belongs to %zu, and to %zu by its kind", row, owner, expected);
+    }
+}
+
 /* ---- drawing ---- */
 
 void draw_read_table(struct table *t)
@@ -133,9 +142,26 @@ static void lengthen(struct table *t, size_t leaves)
     t->card[CARD_TEXT] += more;
 }
 
+/* Orders and invoices go under the nearest cover before them, an ACT under the nearest REG: owners that they had once. */
+static void move_owners(struct table *t, size_t segments)
+{
+    uint16_t cover = 0, line = 0;
+    for (size_t i = 0; i < segments; i++) {
+        uint16_t *row = t->segments + i * SARGACEU_SEGMENT_ROW, number = (uint16_t)(i + 1);
+        switch (row[0]) {
+        case SARGACEU_P: case SARGACEU_AP: case SARGACEU_AC: cover = number; break;
+        case SARGACEU_OBR: row[1] = cover; break;
+        case SARGACEU_FAC: row[1] = cover; line = number; break;
+        case SARGACEU_REG: line = number; break;
+        case SARGACEU_ACT: row[1] = line; break;
+        default: break;
+        }
+    }
+}
+
 static void damage(struct table *t, size_t segments, size_t leaves, size_t text)
 {
-    switch (below(14)) {
+    switch (below(15)) {
     case 0: t->card[below(SARGACEU_CARD)] = wild(); break;
     case 1: case 2: {
         size_t *number = t->card + below(SARGACEU_CARD);
@@ -149,6 +175,7 @@ static void damage(struct table *t, size_t segments, size_t leaves, size_t text)
     case 7: t->card_numbers = below(SARGACEU_CARD); break;
     case 8: t->text[below(text)] = (uint8_t)chance(); break;
     case 9: double_place(t, leaves); break;
+    case 14: move_owners(t, segments); break;
     case 10: case 11: t->text[below(text)] = (uint8_t)('a' + below(26)); break;
     default:
         if (t->card[CARD_TEXT] == text) /* as it was read, and not yet made longer */

@@ -34,6 +34,7 @@ static uint8_t expected_number(size_t *answer)
     if (read_table(written, answer[1], &again, &place) != SARGACEU_ACCEPTED)
         fail("the reader refuses what was written");
     expect_same_table(&drawn, &again, "what was written and read again");
+    expect_owners(&drawn);
     expect_full_lines(written, answer[1]);
     return number;
 }
