@@ -47,17 +47,17 @@ module _ (L : Limits) (lawful : Lawful L) (message : List ℕ) {text segments le
 -- a writer that takes such a table
 module _ (L : Limits) (lawful : Lawful L) (table : Lent) {output output′ : List ℕ} {r : Written}
     (wrote : WroteAs L level table output r output′) (room : L .bytes ≤ length output) (i : ℕ) (h : i < table .card .segments) where
-  other-kind : {o : ℕ} → ownerKind (table .card .context) (kindIn (table .segmentRows) i) ≡ suc o → (ownerKindIn (table .segmentRows) i ≡ suc o → ⊥)
+  other-kind : (o : ℕ) → ownerKind (table .card .context) (kindIn (table .segmentRows) i) ≡ suc o → (ownerKindIn (table .segmentRows) i ≡ suc o → ⊥)
       → r .number ≡ 0 → ⊥
-  other-kind named other taken =
+  other-kind o named other taken =
       omega (arith, taken, belonging L lawful .not-nearest table wrote room i h (omega (arith, named)) (λ near. other (near .of-kind ∙ named)))
 
   pub writes-order-under-cover : table .card .context ≡ 3 → kindIn (table .segmentRows) i ≡ 5 → ownerKindIn (table .segmentRows) i ≡ 4
       → r .number ≡ 0 → ⊥
   unfolding ownerKind ownerKinds
-  writes-order-under-cover context kind under = other-kind {1} (ap₂ ownerKind context kind) (λ e. omega (arith, e, under))
+  writes-order-under-cover context kind under = other-kind 1 (ap₂ ownerKind context kind) (λ e. omega (arith, e, under))
 
   pub writes-act-under-reg : table .card .context ≡ 7 → kindIn (table .segmentRows) i ≡ 9 → ownerKindIn (table .segmentRows) i ≡ 8
       → r .number ≡ 0 → ⊥
   unfolding ownerKind ownerKinds
-  writes-act-under-reg context kind under = other-kind {6} (ap₂ ownerKind context kind) (λ e. omega (arith, e, under))
+  writes-act-under-reg context kind under = other-kind 6 (ap₂ ownerKind context kind) (λ e. omega (arith, e, under))
