@@ -174,7 +174,7 @@ uint8_t sargaceu_find_leaf_in_segment(const size_t *card, size_t card_numbers,
 
 /*
  * The next row behind row `after` that has a kind and an owner, rows counting from 1: 0 looks at all of them (F2). Returns 0 where there is
- * none, or where the segment rows are fewer than the card counts.
+ * none, or where the segment rows are fewer than the card counts. Orders and invoices are found under their P in every context (O5).
  */
 size_t sargaceu_next_row(const size_t *card, size_t card_numbers,
                          const uint16_t *segments, size_t segments_numbers,

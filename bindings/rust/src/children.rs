@@ -20,6 +20,17 @@ impl<'a> Table<'a> {
     /// assert_eq!(table.children(order, Kind::OBX).count(), 2);
     /// # Ok::<(), sargaceu::Refusal>(())
     /// ```
+    ///
+    /// Orders and invoices belong to their patient in every context, and to no cover:
+    ///
+    /// ```
+    /// # use sargaceu::{Buffers, Kind, Row};
+    /// # let mut buffers = Buffers::new();
+    /// let table = buffers.read(b"H|~^\\&|||LAB||ORA\rP|1\rAP|1\rAC|1\rAC|2\rOBR|1\rL|1\r")?;
+    /// let patient = table.children(Row::FIRST, Kind::P).next().unwrap();
+    /// assert_eq!(table.children(patient, Kind::OBR).next(), Row::new(6));
+    /// # Ok::<(), sargaceu::Refusal>(())
+    /// ```
     pub fn children(&self, owner: Row, kind: Kind) -> Children<'a> {
         Children {
             table: *self,
