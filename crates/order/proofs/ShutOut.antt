@@ -87,7 +87,7 @@ L-next c t k false e =
 pub after-L-no : (c k : ℕ) → tellOf (record { context = c; last = 11 }) k .yes ≡ false
 after-L-no c k = no-by (record { context = c; last = 11 }) k (λ e. L-next c e k (eqb k 12) refl)
 
--- a table of one of the two levels for that of the other: they differ at the OBR of ORA
+-- a table of one of the two levels for that of the other: they differ at the OBR of ORA, entry 29
 module _ (r : List ℕ) where
   order-level : r ≡ levelTable → getD r 29 0 ≡ 3
   unfolding levelTable levelTableOf level levels values
