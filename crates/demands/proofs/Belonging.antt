@@ -1,7 +1,7 @@
 -- Who belongs to whom, proved: of what the reader leaves, of two readings by two levels, and of a table that is lent to the writer.
 -- Assumes nothing.
 use mathlib.Core.List.{List}
-use mathlib.Core.Logic.{⊎-elim}
+use mathlib.Core.Logic.{_⊎_, ⊎-elim}
 use mathlib.Core.Path.{_≡_, refl, sym, ap, ap₂, _∙_, subst, subst⁻¹}
 use Prim.Native.Nat.{ℕ, suc, _≤_, _<_}
 use native.Mathlib.Omega.{arith}
@@ -22,7 +22,7 @@ use Rattle.table.specs.OwnedRows.{NearestRow}
 use Rattle.table.specs.Reading.{roomOf, stated}
 use Rattle.table.proofs.Accepting.{Accepted, accepting}
 use Rattle.table.proofs.AnyLevels.{levels-unseen}
-use Rattle.table.proofs.OwnedRows.{kind-column, owner-column, nearest-row, same-owner}
+use Rattle.table.proofs.OwnedRows.{kind-column, owner-column, nearest-row, unnamed-row, same-owner}
 use Rattle.table.proofs.RowsGrowing.{length-kinds}
 use Rattle.table.proofs.SegmentColumns.{table-rows, row-taken}
 use Rattle.read.specs.declared.Answer.{Answer}
@@ -58,6 +58,14 @@ module _ (L : Limits) (message : List ℕ) {text segments leaves text′ segment
       subst⁻¹ (λ (c : ℕ). NearestRow (ownerKind c (kindIn segments′ i)) segments′ i) context
       (nearest-row (a .0) segs (a .1 .derived) (rows-read (a .1)) i (omega (arith, segments-count (a .1)))
       (subst (λ (c : ℕ). 1 ≤ ownerKind c (kindIn segments′ i)) context owned))
+
+  read-unnamed : (i : ℕ) → i < r .card .segments → ownerKind (r .card .context) (kindIn segments′ i) ≡ 0
+      → (kindIn segments′ i ≡ 12) ⊎ (ownerIn segments′ i ≡ 0)
+  read-unnamed i h none =
+      let a = accepted-table L level message read yes in
+      let row-there : i < length (segmentsIn L (a .0) message) = omega (arith, segments-count (a .1)) in
+      unnamed-row (a .0) (segmentsIn L (a .0) message) (a .1 .derived) i row-there (rows-read (a .1) i row-there)
+      (ap (λ (c : ℕ). ownerKind c (kindIn segments′ i)) (sym (context-read (a .1))) ∙ none)
 
   read-named : (c k o : ℕ) → ownerKind c k ≡ suc o → r .card .context ≡ c → (i : ℕ) → i < r .card .segments → kindIn segments′ i ≡ k
       → NearestRow (suc o) segments′ i
@@ -160,6 +168,7 @@ module _ (L : Limits) (lawful : Lawful L) where
         invoice-line = λ message read yes context i h.
             ⊎-elim (read-named L message read yes 7 8 6 refl context i h) (read-named L message read yes 7 9 6 refl context i h);
         any-kind = read-nearest L;
+        unnamed = read-unnamed L;
         accepted-alike = read-alike L;
         rows-alike = rows-same L;
         other-owner = λ table wrote room i h other. none-exactly L lawful level table wrote .1 (room, λ to. other (owner-lent L table to i h));

@@ -39,11 +39,15 @@ pub record Belonging (L : Limits) : Type 0 where
   pub invoice-line : (message : List ℕ) {text segments leaves text′ segments′ leaves′ : List ℕ} {r : Answer}
       → ReadAs L level message text segments leaves r text′ segments′ leaves′ → r .number ≡ 0 → r .card .context ≡ 7
       → (i : ℕ) → i < r .card .segments → (kindIn segments′ i ≡ 8) ⊎ (kindIn segments′ i ≡ 9) → NearestRow 7 segments′ i
-  -- in every context each segment belongs to the nearest one of the kind that the table of owners' kinds names
+  -- in every context each segment belongs to the nearest one of the kind that the table of owners' kinds names; where it names none, the segment is a
+  -- C or has no owner
   pub any-kind : (message : List ℕ) {text segments leaves text′ segments′ leaves′ : List ℕ} {r : Answer}
       → ReadAs L level message text segments leaves r text′ segments′ leaves′ → r .number ≡ 0
       → (i : ℕ) → i < r .card .segments → 1 ≤ ownerKind (r .card .context) (kindIn segments′ i)
       → NearestRow (ownerKind (r .card .context) (kindIn segments′ i)) segments′ i
+  pub unnamed : (message : List ℕ) {text segments leaves text′ segments′ leaves′ : List ℕ} {r : Answer}
+      → ReadAs L level message text segments leaves r text′ segments′ leaves′ → r .number ≡ 0
+      → (i : ℕ) → i < r .card .segments → ownerKind (r .card .context) (kindIn segments′ i) ≡ 0 → (kindIn segments′ i ≡ 12) ⊎ (ownerIn segments′ i ≡ 0)
   -- what is accepted does not depend on levels: by any two of them the answer, the text area and the leaf rows are the same
   pub accepted-alike : (levels others : ℕ → ℕ → ℕ) (message : List ℕ) {text segments leaves text₁ segments₁ leaves₁ text₂ segments₂ leaves₂ : List ℕ} {r s : Answer}
       → ReadAs L levels message text segments leaves r text₁ segments₁ leaves₁ → ReadAs L others message text segments leaves s text₂ segments₂ leaves₂

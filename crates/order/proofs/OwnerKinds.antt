@@ -200,6 +200,13 @@ module _ (c : ℕ) (w : List ℕ) (b : Begins (grammar c) w) (i : ℕ) (h : i < 
       let top = top-kind low none in
       H-and-L-have-0 c in-context w b i h top ∙ sym (former-H-and-L-have-0 c in-context w b i h top)
 
+  no-owner : ownerKind c (getD w i 0) ≡ 0 → (getD w i 0 ≡ 12) ⊎ (getD (owners (level c) w) i 0 ≡ 0)
+  no-owner none = by (equal-or-not (getD w i 0) 12)
+    where
+      by : (getD w i 0 ≡ 12) ⊎ (getD w i 0 ≡ 12 → ⊥) → (getD w i 0 ≡ 12) ⊎ (getD (owners (level c) w) i 0 ≡ 0)
+      by (inl e) = inl e
+      by (inr n) = inr (H-and-L-have-0 c in-context w b i h (top-kind (other-below c in-context w b i h n) none))
+
   same-owner : moved c (getD w i 0) ≡ false → Same
   unfolding isC
   same-owner stays = by (equal-or-not (getD w i 0) 12) (less-or-not 0 (ownerKind c (getD w i 0)))
@@ -223,5 +230,6 @@ owners-by-kind =
       invoice = named 7 7 1 refl;
       invoice-line = λ w b i h. ⊎-elim (named 7 8 6 refl w b i h) (named 7 9 6 refl w b i h);
       any-kind = nearest-owns;
+      unnamed = no-owner;
       others = same-owner;
     }

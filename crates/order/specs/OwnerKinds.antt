@@ -54,6 +54,9 @@ pub record OwnersByKind : Type 0 where
   -- in every context, where the table of owners' kinds names one, the nearest of that kind
   pub any-kind : (c : ℕ) (w : List ℕ) → Begins (grammar c) w → (i : ℕ) → i < length w → 1 ≤ ownerKind c (getD w i 0)
       → NearestOwns (level c) (ownerKind c (getD w i 0)) w i
+  -- and where it names none, the segment is a C or has no owner
+  pub unnamed : (c : ℕ) (w : List ℕ) → Begins (grammar c) w → (i : ℕ) → i < length w → ownerKind c (getD w i 0) ≡ 0
+      → (getD w i 0 ≡ 12) ⊎ (getD (owners (level c) w) i 0 ≡ 0)
   -- in every other context and for every other kind the former levels give the same owner
   pub others : (c : ℕ) (w : List ℕ) → Begins (grammar c) w → (i : ℕ) → i < length w → moved c (getD w i 0) ≡ false
       → getD (owners (level c) w) i 0 ≡ getD (owners (formerLevel c) w) i 0

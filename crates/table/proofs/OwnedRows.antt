@@ -2,6 +2,7 @@
 -- Assumes nothing.
 use mathlib.Core.Bool.{false}
 use mathlib.Core.List.{List, [], reverse, append-nil}
+use mathlib.Core.Logic.{_⊎_}
 use mathlib.Core.Path.{_≡_, sym, ap, _∙_, subst⁻¹, subst₂}
 use Prim.Native.Nat.{ℕ, _≤_, _<_}
 use native.Mathlib.Omega.{arith}
@@ -50,6 +51,15 @@ module _ (ps : Separators) (segs : List (List ℕ)) (derived : Derives (grammar 
       subst₂ (λ (k o : ℕ). NearestOf (ownerKind c k) (kindIn rows) i o) kind (owner-column level ps segs i h (each i h))
       (nearest-along (λ m l. kind-column level ps segs m (omega arith) (each m (omega arith)))
       (owners-by-kind .any-kind c (kindsOf ps segs) kinds-begin i (place-inside i h) named))
+
+  -- where none is named, the row is that of a C or has no owner
+  pub unnamed-row : {rows : List ℕ} (i : ℕ) → i < length segs → RowOf level ps segs rows i → ownerKind (contextIn ps segs) (kindIn rows i) ≡ 0
+      → (kindIn rows i ≡ 12) ⊎ (ownerIn rows i ≡ 0)
+  unnamed-row i h row none =
+      let c = contextIn ps segs in
+      let kind = kind-column level ps segs i h row in
+      subst₂ (λ (k o : ℕ). (k ≡ 12) ⊎ (o ≡ 0)) kind (owner-column level ps segs i h row)
+      (owners-by-kind .unnamed c (kindsOf ps segs) kinds-begin i (place-inside i h) (ap (ownerKind c) kind ∙ none))
 
   -- and by the former levels the same, but for the kinds that moved
   pub same-owner : {rows formerRows : List ℕ} (i : ℕ) → i < length segs → RowOf level ps segs rows i → RowOf formerLevel ps segs formerRows i
