@@ -1,11 +1,11 @@
--- What is looked at when something is looked up (rules F1 to F4): a leaf row's place, a segment row's kind and owner, an order's number, and
--- the leaf rows that a segment row names.
+-- What is looked at when something is looked up (rules F1 to F4): a leaf row's place and its text, a segment row's kind and owner, an order's
+-- number, and the leaf rows that a segment row names.
 -- Assumes nothing.
-use mathlib.Core.Bool.{Bool, _&&_}
+use mathlib.Core.Bool.{Bool, false, _&&_}
 use mathlib.Core.List.{List, [], _∷_}
 use Prim.Native.Nat.{ℕ, suc, _+_, _*_, _-_}
 use lib.Dec.{leb, ltb, eqb}
-use lib.ListN.{length}
+use lib.ListN.{length, take, drop}
 use Rattle.laws.specs.Lists.{same}
 use Rattle.table.specs.Lent.{Lent}
 use Rattle.table.specs.Rows.{segmentRowSize, kindIn, ownerIn, firstIn, countIn, placeIn, startIn, lengthIn}
@@ -16,6 +16,10 @@ use Rattle.look.specs.declared.leaf.Sought.the-variants.{At, Empty, NotT
 -- the five numbers of a place (S5)
 unfoldable pub numbersOf : Place → List ℕ
 numbersOf p = p .segment ∷ p .field ∷ p .repetition ∷ p .subfield ∷ p .subsubfield ∷ []
+
+-- the place of a leaf of a row by a name such as 10.4.1 (S5): its field and subfield; the repetition and whatever a name leaves out is 1
+abbrev pub leafNamed : (row field subfield : ℕ) → Place
+leafNamed row field subfield = record { segment = row; field = field; repetition = 1; subfield = subfield; subsubfield = 1 }
 
 -- whether leaf row i, counted from 0, counts as a match (F1): it has the place, and its start and length stay within so many bytes of text
 unfoldable pub fits : List ℕ → ℕ → Place → ℕ → Bool
@@ -44,6 +48,12 @@ soughtNumber (At start n) = 1
 soughtNumber Empty = 2
 soughtNumber NotThere = 0
 
+-- whether what was sought is there with a given text
+unfoldable pub saysText : List ℕ → List ℕ → Sought → Bool
+saysText text wanted (At start n) = same (take n (drop start text)) wanted
+saysText text wanted Empty = false
+saysText text wanted NotThere = false
+
 -- whether so many rows are within the segment rows
 abbrev pub segmentsFit : List ℕ → ℕ → Bool
 segmentsFit rows count = leb (count * segmentRowSize) (length rows)
@@ -58,7 +68,7 @@ isOrder rows count row = segmentsFit rows count && leb 1 row && leb row count &&
 
 -- the place of leaf 9.4.2 of a row (S5)
 unfoldable pub orderPlace : ℕ → Place
-orderPlace row = record { segment = row; field = 4; repetition = 1; subfield = 2; subsubfield = 1 }
+orderPlace row = leafNamed row 4 2
 
 -- whether a row of a lent table is an order
 abbrev pub orderAt : Lent → ℕ → Bool

@@ -29,7 +29,7 @@ use Rattle.table.specs.Reading.{refuseIf, refuseAt, stated, short, firstUnknown
 use Rattle.table.specs.Lent.{withinLimits, countsFit, counted}
 use Rattle.table.specs.inner.Back.{leafAt, leavesOf, separatorsAt, between, unsplitFrom, unsplit, segmentsOf, linesOf, written}
 use Rattle.write.specs.inner.ReadsBack.{sameCard, sameTable, givesTable, readsBack, isTable}
-use Rattle.look.specs.Looking.{numbersOf, fits, hasKindAndOwner, isOrder, orderAt}
+use Rattle.look.specs.Looking.{numbersOf, fits, saysText, hasKindAndOwner, isOrder, orderAt}
 use Rattle.look.specs.inner.Searching.{foundOf, soughtFrom, soughtBy}
 use Rattle.value.specs.declared.results.ValuesRead.{ValuesRead}
 use Rattle.value.specs.Numerals.{mostDigits, isDigit, allDigits, unsignedText, isNegative, areNumber, madeBy, saidBy, numeralOf}
@@ -37,7 +37,6 @@ use Rattle.value.specs.Values.{signedOf, valueOf}
 use Rattle.value.specs.Results.{
   numericType,
   typePlace,
-  saysText,
   isNumeric,
   numericRows,
   ofField,

@@ -18,13 +18,12 @@ use Rattle.laws.proofs.Tests.{Tested, passed, failed, tested, and-first, and-se
 use Rattle.table.specs.Lent.{Lent}
 use Rattle.table.specs.Rows.{segmentRowSize, kindIn, ownerIn}
 use Rattle.table.proofs.Lent.{segments-within}
-use Rattle.look.specs.declared.leaf.Place.{Place}
 use Rattle.look.specs.declared.leaf.Sought.{Sought}
 use Rattle.look.specs.declared.leaf.Sought.the-variants.{At, Empty, NotThere}
-use Rattle.look.specs.Looking.{hasKindAndOwner}
+use Rattle.look.specs.Looking.{leafNamed, saysText, hasKindAndOwner}
 use Rattle.look.specs.inner.Searching.{soughtIn, soughtInSegment}
 use Rattle.look.proofs.Seeking.{found-within}
-use Rattle.value.specs.Results.{numericType, typePlace, saysText, isNumeric, numericRows}
+use Rattle.value.specs.Results.{typeField, numericType, typePlace, isNumeric, numericRows}
 use Rattle.value.specs.inner.Seeking.{Searchable, OrderRows}
 
 -- the type NM, by its bytes
@@ -108,13 +107,13 @@ module _ (t : Lent) (order i : ℕ) where
       (and-first (eqb (kindIn (t .segmentRows) i) 6 && eqb (ownerIn (t .segmentRows) i) order) (saysText (t .text) numericType typeSought) e))
 
 -- the place of a type, with its segment as the code counts it
-pub type-place : (i : ℕ) → record { segment = i + 1; field = 3; repetition = 1; subfield = 1; subsubfield = 1 } ≡ typePlace i
+pub type-place : (i : ℕ) → leafNamed (i + 1) typeField 1 ≡ typePlace i
 unfolding typePlace
-type-place i = ap {B = Place} (λ (n : ℕ). record { segment = n; field = 3; repetition = 1; subfield = 1; subsubfield = 1 }) (add-one i)
+type-place i = ap (λ (n : ℕ). leafNamed n typeField 1) (add-one i)
 
 -- the type that is found within the segment is the one that is sought
 pub type-sought : (t : Lent) (table : Searchable t) (i : ℕ) {s : Sought}
-    → s ≡ soughtInSegment t (record { segment = i + 1; field = 3; repetition = 1; subfield = 1; subsubfield = 1 }) → s ≡ soughtIn t (typePlace i)
+    → s ≡ soughtInSegment t (leafNamed (i + 1) typeField 1) → s ≡ soughtIn t (typePlace i)
 type-sought t table i e = e ∙ ap (soughtInSegment t) (type-place i) ∙ table .same (typePlace i)
 
 -- a counted row lies within its buffer, and a type that is found within the text

@@ -8,7 +8,6 @@ use lib.Dec.{leb, eqb}
 use lib.IntN.{ℤ}
 use lib.ListN.{length, getD, take, drop}
 use lib.Seq.{sets}
-use Rattle.laws.specs.Lists.{same}
 use Rattle.laws.specs.Tables.{passing}
 use Rattle.laws.specs.Texts.{bytes}
 use Rattle.form.specs.declared.limits.Limits.{Limits}
@@ -17,9 +16,7 @@ use Rattle.table.specs.Lent.{Lent}
 use Rattle.table.specs.Rows.{placeIn, startIn, lengthIn}
 use Rattle.write.specs.inner.ReadsBack.{isTable}
 use Rattle.look.specs.declared.leaf.Place.{Place}
-use Rattle.look.specs.declared.leaf.Sought.{Sought}
-use Rattle.look.specs.declared.leaf.Sought.the-variants.{At, Empty, NotThere}
-use Rattle.look.specs.Looking.{hasKindAndOwner, orderAt}
+use Rattle.look.specs.Looking.{leafNamed, saysText, hasKindAndOwner, orderAt}
 use Rattle.look.specs.inner.Searching.{soughtIn}
 use Rattle.value.specs.declared.reading.Value.{Value}
 use Rattle.value.specs.declared.results.ValuesRead.{ValuesRead}
@@ -43,13 +40,7 @@ numericType = bytes "NM"
 
 -- the place of leaf 10.3 of segment row i, counted from 0 (S5)
 unfoldable pub typePlace : ℕ → Place
-typePlace i = record { segment = suc i; field = typeField; repetition = 1; subfield = 1; subsubfield = 1 }
-
--- whether what was sought is there with a given text
-unfoldable pub saysText : List ℕ → List ℕ → Sought → Bool
-saysText text wanted (At start n) = same (take n (drop start text)) wanted
-saysText text wanted Empty = false
-saysText text wanted NotThere = false
+typePlace i = leafNamed (suc i) typeField 1
 
 -- whether segment row i, counted from 0, is a numeric result of the order in a row counted from 1: an OBX that the row owns, whose leaf 10.3 is NM
 unfoldable pub isNumeric : Lent → (order : ℕ) → ℕ → Bool
