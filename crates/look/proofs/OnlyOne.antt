@@ -5,6 +5,7 @@ use mathlib.Core.List.{List}
 use mathlib.Core.Path.{_≡_}
 use Prim.Native.Nat.{ℕ}
 use denote.Ref.{RefT}
+use Rattle.laws.specs.Lists.{same}
 use Rattle.laws.specs.Parts.{wholeOf}
 use Rattle.laws.proofs.Equality.{only-one}
 use Rattle.table.specs.declared.Card.{Card}
@@ -39,3 +40,6 @@ same-order t row u other r s h k = only-one h k
 
 pub is-order : (rows : List ℕ) (count row : ℕ) (r s : Bool) → r ≡ isOrder rows count row → s ≡ isOrder rows count row → r ≡ s
 is-order rows count row r s h k = only-one h k
+
+pub same-bytes : (text other : List ℕ) (r s : Bool) → r ≡ same text other → s ≡ same text other → r ≡ s
+same-bytes text other r s h k = only-one h k

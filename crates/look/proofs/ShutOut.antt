@@ -1,7 +1,7 @@
 -- What the contracts rule out, most on a small table: a lookup that returns the last match, or trusts a row past the text, or scans the
 -- whole buffer, or takes a leaf that was sent empty for one that was not sent, or finds a text of no byte, or hands out equal bytes from
 -- elsewhere; one within a segment that goes past its leaves or answers a leaf of another segment; a finder that begins at the given row itself;
--- same order on different bytes, or on two empty texts.
+-- same order on different bytes, or on two empty texts; texts that are the same by their lengths alone, or where one only begins like the other.
 -- Assumes nothing.
 use mathlib.Core.Bool.{Bool, true, false, true≢false}
 use mathlib.Core.List.{List, [], _∷_, _++_}
@@ -217,3 +217,15 @@ module _ (f : Lent → ℕ → Lent → ℕ → Bool) (meets : (t : Lent) (row :
   pub same-bytes-elsewhere : f (table 1 1 (row 0 1 []) (65 ∷ [])) 1 (table 1 2 (row 1 1 []) (66 ∷ 65 ∷ [])) 1 ≡ true
   unfolding sameOrder isOrder sameTexts soughtBy soughtFrom fits foundOf numbersOf orderPlace countsFit same
   same-bytes-elsewhere = meets (table 1 1 (row 0 1 []) (65 ∷ [])) 1 (table 1 2 (row 1 1 []) (66 ∷ 65 ∷ [])) 1
+
+-- what meets the contract of `same_bytes`
+module _ (f : List ℕ → List ℕ → Bool) (meets : (text other : List ℕ) → f text other ≡ same text other) where
+  -- as many bytes are not the same ones
+  pub by-length-alone : f (65 ∷ 66 ∷ []) (65 ∷ 67 ∷ []) ≡ true → ⊥
+  unfolding same
+  by-length-alone h = true≢false (sym h ∙ meets (65 ∷ 66 ∷ []) (65 ∷ 67 ∷ []))
+
+  -- nor is a text the same that only begins so, whichever of the two it is
+  pub begins-so : (f (65 ∷ []) (65 ∷ 66 ∷ []) ≡ true → ⊥) × (f (65 ∷ 66 ∷ []) (65 ∷ []) ≡ true → ⊥)
+  unfolding same
+  begins-so = (λ h. true≢false (sym h ∙ meets (65 ∷ []) (65 ∷ 66 ∷ [])), λ h. true≢false (sym h ∙ meets (65 ∷ 66 ∷ []) (65 ∷ [])))

@@ -3,11 +3,11 @@ use crate::leaf;
 use crate::leaf::Place;
 use crate::leaf::Sought;
 use crate::row::segments_fit;
+use crate::text::same_bytes;
 use form::kind::Kind;
 use table::Card;
 use table::rows;
 ghost use mathlib.Core.Path.{_≡_};
-ghost use Rattle.laws.specs.Lists.{same};
 ghost use Rattle.table.specs.Lent.{lent};
 ghost use Rattle.look.specs.Looking.{isOrder};
 ghost use Rattle.look.specs.inner.Searching.{sameOrder};
@@ -94,21 +94,4 @@ pub fn is_order(segments: &[rows::Entry], count: usize, row: rows::Entry) -> boo
         return false;
     }
     segments[(number - 1) * rows::SEGMENT_ROW] == Kind::OBR as rows::Entry
-}
-
-// Whether two texts have the same bytes.
-fn same_bytes(text: &[u8], other: &[u8]) -> bool
-    ensures { λ r. ⌜ r ≡ same (now (text .entry)) (now (other .entry)) ⌝ }
-{
-    if text.len() != other.len() {
-        return false;
-    }
-    let mut at = 0;
-    while at < text.len() {
-        if text[at] != other[at] {
-            return false;
-        }
-        at += 1;
-    }
-    true
 }

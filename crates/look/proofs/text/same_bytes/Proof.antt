@@ -1,12 +1,12 @@
--- `look::order::same_bytes` meets its contract. The loop's invariant: what is left of both is the same exactly where they are.
+-- `look::text::same_bytes` meets its contract. The loop's invariant: what is left of both is the same exactly where they are.
 -- The measure is the bytes that are left. Assumes nothing.
 use denote.Ref.{now}
 use Prim.Native.Nat.{_-_}
 use native.Mathlib.Omega.{arith}
 use lib.ListN.{length}
 use Rattle.laws.proofs.Comparing.{Comparing, compare-begins, lengths-differ, compare-equal, compare-differ, compare-done}
-use Rattle.look.proofs.order.same_bytes.Statement.{statement}
-use Rattle.look.proofs.order.same_bytes.Tie as tie
+use Rattle.look.proofs.text.same_bytes.Statement.{statement}
+use Rattle.look.proofs.text.same_bytes.Tie as tie
 
 abbrev Inv-loop : tie.InvT-loop
 Inv-loop text other at₀ at = Comparing text other at
