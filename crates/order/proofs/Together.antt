@@ -62,7 +62,7 @@ module _ (lv : ℕ → ℕ) (ks : List ℕ) where
         go (failed e) = absurd (never-both (not-holds (isC (getD ks m 0)) e) (passed-by (λ j. not (isC j)) (rw (c, owner))))
 
     -- of any other none, C left out, has a lower level
-    none-lower : isC (getD ks i 0) ≡ false → isC (getD ks m 0) ≡ false → lv (getD ks i 0) ≤ lv (getD ks m 0)
+    pub none-lower : isC (getD ks i 0) ≡ false → isC (getD ks m 0) ≡ false → lv (getD ks i 0) ≤ lv (getD ks m 0)
     unfolding owner
     none-lower c e =
         ltb-false (lv (getD ks m 0)) (lv (getD ks i 0))
