@@ -17,10 +17,11 @@ use Rattle.table.specs.Lent.{Lent}
 use Rattle.table.specs.Rows.{leafRowSize, firstIn, countIn, placeIn}
 use Rattle.table.proofs.Lent.{leaves-within, text-within}
 use Rattle.look.specs.Looking.{inRun, isNamed}
+use Rattle.tested.specs.inner.Searchable.{Searchable}
 use Rattle.value.specs.Refusals.{notANumber}
 use Rattle.value.specs.Numerals.{saysNone, numeralOf}
 use Rattle.value.specs.Results.{valueField, ofField, leafTextIn}
-use Rattle.value.specs.inner.Seeking.{leafSays, resultOf, Searchable, FieldRows, LeafRow}
+use Rattle.value.specs.inner.Seeking.{leafSays, resultOf, FieldRows, LeafRow}
 
 -- a leaf's segment and field stand in the first two columns of its row
 module _ (rows : List ℕ) (segment field i : ℕ) where

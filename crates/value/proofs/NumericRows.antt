@@ -23,8 +23,9 @@ use Rattle.look.specs.declared.leaf.Sought.the-variants.{At, Empty, NotThere}
 use Rattle.look.specs.Looking.{leafNamed, saysText, hasKindAndOwner}
 use Rattle.look.specs.inner.Searching.{soughtIn, soughtInSegment}
 use Rattle.look.proofs.Seeking.{found-within}
+use Rattle.tested.specs.inner.Searchable.{Searchable}
 use Rattle.value.specs.Results.{typeField, numericType, typePlace, isNumeric, numericRows}
-use Rattle.value.specs.inner.Seeking.{Searchable, OrderRows}
+use Rattle.value.specs.inner.Seeking.{OrderRows}
 
 -- the type NM, by its bytes
 module _ (text : List ℕ) where

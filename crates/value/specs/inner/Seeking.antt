@@ -1,18 +1,15 @@
 -- What the search for an order's numeric results asks of a table, and what it puts.
 -- Assumes nothing.
-use mathlib.Core.Bool.{true}
 use mathlib.Core.List.{List, [], _∷_, map}
 use mathlib.Core.Path.{_≡_}
-use Prim.Native.Nat.{ℕ, suc, _+_, _*_, _-_, _≤_, _<_}
+use Prim.Native.Nat.{ℕ, suc, _+_, _*_, _≤_, _<_}
 use lib.IntN.{ℤ}
-use lib.ListN.{length, getD}
+use lib.ListN.{length}
 use lib.Seq.{sets}
 use Rattle.laws.specs.Tables.{passing}
-use Rattle.table.specs.Lent.{Lent, withinBuffers}
-use Rattle.table.specs.Rows.{width, leafRowSize, kindIn, ownerIn, firstIn, countIn, placeIn, startIn, lengthIn}
-use Rattle.look.specs.declared.leaf.Place.{Place}
-use Rattle.look.specs.Looking.{isNamed}
-use Rattle.look.specs.inner.Searching.{soughtIn, soughtInSegment}
+use Rattle.table.specs.Lent.{Lent}
+use Rattle.table.specs.Rows.{leafRowSize, kindIn, ownerIn, startIn, lengthIn}
+use Rattle.tested.specs.inner.Searchable.{Searchable}
 use Rattle.value.specs.declared.numeral.Numeral.{Numeral}
 use Rattle.value.specs.declared.reading.Value.{Value}
 use Rattle.value.specs.Refusals.{notANumber}
@@ -28,18 +25,7 @@ leafSays most t (i ∷ j ∷ rows) = saysNone notANumber
 unfoldable pub resultOf : (most : ℕ) → Lent → ℕ → Numeral
 resultOf most t i = leafSays most t (passing (ofField (t .leafRows) (suc i) valueField) 0 (t .card .leaves))
 
--- what is known of a table that some message reads to: counts within the buffers and the rows' width; the leaves of each segment row among those
--- counted; texts within the counted text; and the lookup within a segment answers what the lookup does
-pub record Searchable (t : Lent) : Type 0 where
-  pub within : withinBuffers t ≡ true
-  pub few : t .card .segments < width
-  pub first : (i : ℕ) → i < t .card .segments → 1 ≤ firstIn (t .segmentRows) i
-  pub last : (i : ℕ) → i < t .card .segments → firstIn (t .segmentRows) i - 1 + countIn (t .segmentRows) i ≤ t .card .leaves
-  pub texts : (i : ℕ) → i < t .card .leaves → startIn (t .leafRows) i + lengthIn (t .leafRows) i ≤ t .card .text
-  pub named : (i : ℕ) → i < t .card .leaves → isNamed t (getD (placeIn (t .leafRows) i) 0 0) i ≡ true
-  pub same : (p : Place) → soughtInSegment t p ≡ soughtIn t p
-
--- segment row i, counted from 0, of such a table
+-- segment row i, counted from 0, of a table that may be searched
 pub record ResultRow (t : Lent) (i : ℕ) : Type 0 where
   pub table : Searchable t
   pub counts : i < t .card .segments

@@ -1,0 +1,3 @@
+pub mod LentRows
+pub mod LentLeaves
+pub mod PassedTables
