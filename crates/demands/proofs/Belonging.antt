@@ -5,26 +5,19 @@ use mathlib.Core.Logic.{_⊎_, ⊎-elim}
 use mathlib.Core.Path.{_≡_, refl, sym, ap, ap₂, _∙_, subst, subst⁻¹}
 use Prim.Native.Nat.{ℕ, suc, _≤_, _<_}
 use native.Mathlib.Omega.{arith}
-use lib.ListN.{length, getD}
+use lib.ListN.{length}
 use lib.Seq.{sets}
-use Rattle.laws.specs.Tables.{values}
-use Rattle.laws.proofs.Tables.{values-entries, values-same}
 use Rattle.form.specs.declared.limits.Limits.{Limits}
 use Rattle.form.specs.declared.separators.Separators.{Separators}
 use Rattle.form.specs.Limits.{form, Lawful}
 use Rattle.form.proofs.LineCount.{form-lawful}
-use Rattle.order.specs.Owners.{level, formerLevel, owners}
+use Rattle.order.specs.Owners.{level, formerLevel}
 use Rattle.order.specs.OwnerKinds.{ownerKinds, ownerKind}
-use Rattle.order.proofs.Misplaced.{derived-unless-misplaced}
-use Rattle.table.specs.Lent.{Lent, counted}
-use Rattle.table.specs.Rows.{Table, kindIn, ownerIn, kindsOf, contextIn, tableOf, RowOf}
+use Rattle.table.specs.Rows.{kindIn, ownerIn, contextIn, tableOf, RowOf}
 use Rattle.table.specs.OwnedRows.{NearestRow}
-use Rattle.table.specs.Reading.{roomOf, stated}
-use Rattle.table.proofs.Accepting.{Accepted, accepting}
+use Rattle.table.specs.Reading.{roomOf}
 use Rattle.table.proofs.AnyLevels.{levels-unseen}
-use Rattle.table.proofs.OwnedRows.{kind-column, owner-column, nearest-row, unnamed-row, same-owner}
-use Rattle.table.proofs.RowsGrowing.{length-kinds}
-use Rattle.table.proofs.SegmentColumns.{table-rows, row-taken}
+use Rattle.table.proofs.OwnedRows.{nearest-row, unnamed-row, same-owner}
 use Rattle.read.specs.declared.Answer.{Answer}
 use Rattle.read.specs.Answering.{answerOf, textPut, leavesPut, ReadAs}
 use Rattle.read.specs.Acceptance.{Read}
@@ -32,8 +25,9 @@ use Rattle.read.specs.Sound.{segmentsIn}
 use Rattle.read.proofs.Acceptance.{accepted-read}
 use Rattle.read.proofs.Contract.{accepted-table}
 use Rattle.read.proofs.OwnersColumn.{segments-count, owners-column}
-use Rattle.write.specs.Writing.{ReadTo}
 use Rattle.write.proofs.Contract.{none-exactly}
+use Rattle.tested.proofs.LentOwners.{owner-lent, nearest-lent}
+use Rattle.tested.proofs.PassedTables.{read-so}
 use Rattle.demands.specs.Belonging.{SameButMoved, Belonging}
 
 -- what the reader leaves of an accepted message, by any levels
@@ -107,57 +101,6 @@ module _ (L : Limits) (message : List ℕ) {text segments leaves text₁ segment
         count = row .count-is ∙ sym (formerRow .count-is);
       }
 
--- a lent table to which a message reads
-module _ (L : Limits) (table : Lent) (to : ReadTo L level (counted table)) where
-  read-so : Accepted L level (stated L) (to .0) (counted table)
-  read-so = accepting L level (stated L) (to .0) (counted table) .0 (to .1)
-
-  abbrev separators : Separators
-  separators = read-so .separators
-
-  abbrev segs : List (List ℕ)
-  segs = segmentsIn L separators (to .0)
-
-  context-lent : table .card .context ≡ contextIn separators segs
-  unfolding counted tableOf
-  context-lent = ap (λ (t : Table). t .card .context) (read-so .segments .table)
-
-  count-lent : table .card .segments ≡ length segs
-  unfolding counted tableOf
-  count-lent = ap (λ (t : Table). t .card .segments) (read-so .segments .table)
-
-  rows-lent : (j : ℕ) → j < length segs → RowOf level separators segs (table .segmentRows) j
-  rows-lent j h =
-      row-taken table j (omega (arith, count-lent))
-      (subst⁻¹ (λ (t : Table). RowOf level separators segs (t .segmentRows) j) (read-so .segments .table) (table-rows level separators segs j h))
-
-  kinds-lent : kindsOf separators segs ≡ values (kindIn (table .segmentRows)) 0 (table .card .segments)
-  kinds-lent =
-      let kinds = kindsOf separators segs in
-      let count = count-lent ∙ sym (length-kinds separators segs) in
-      sym (values-entries kinds 0)
-      ∙ values-same (λ k. getD kinds k 0) (kindIn (table .segmentRows)) 0 (length kinds)
-      (λ k low high. let inside : k < length segs = omega (arith, length-kinds separators segs) in kind-column level separators segs k inside (rows-lent k inside))
-      ∙ ap (values (kindIn (table .segmentRows)) 0) (sym count)
-
-  module _ (i : ℕ) (h : i < table .card .segments) where
-    row-inside : i < length segs
-    row-inside = omega (arith, count-lent)
-
-    owner-lent : ownerIn (table .segmentRows) i
-        ≡ getD (owners (level (table .card .context)) (values (kindIn (table .segmentRows)) 0 (table .card .segments))) i 0
-    owner-lent =
-        sym (owner-column level separators segs i row-inside (rows-lent i row-inside))
-        ∙ ap₂ (λ (c : ℕ) (w : List ℕ). getD (owners (level c) w) i 0) (sym context-lent) kinds-lent
-
-    nearest-lent : 1 ≤ ownerKind (table .card .context) (kindIn (table .segmentRows) i)
-        → NearestRow (ownerKind (table .card .context) (kindIn (table .segmentRows) i)) (table .segmentRows) i
-    nearest-lent owned =
-        let kind = kindIn (table .segmentRows) i in
-        let derived = derived-unless-misplaced (contextIn separators segs) (kindsOf separators segs) .0 (read-so .segments .ordered) in
-        subst⁻¹ (λ (c : ℕ). NearestRow (ownerKind c kind) (table .segmentRows) i) context-lent
-        (nearest-row separators segs derived rows-lent i row-inside (subst (λ (c : ℕ). 1 ≤ ownerKind c kind) context-lent owned))
-
 module _ (L : Limits) (lawful : Lawful L) where
   pub belonging : Belonging L
   unfolding ownerKind ownerKinds
@@ -171,8 +114,10 @@ module _ (L : Limits) (lawful : Lawful L) where
         unnamed = read-unnamed L;
         accepted-alike = read-alike L;
         rows-alike = rows-same L;
-        other-owner = λ table wrote room i h other. none-exactly L lawful level table wrote .1 (room, λ to. other (owner-lent L table to i h));
-        not-nearest = λ table wrote room i h owned other. none-exactly L lawful level table wrote .1 (room, λ to. other (nearest-lent L table to i h owned));
+        other-owner = λ table wrote room i h other.
+            none-exactly L lawful level table wrote .1 (room, λ to. other (owner-lent table (read-so L level table to .segments) i h));
+        not-nearest = λ table wrote room i h owned other.
+            none-exactly L lawful level table wrote .1 (room, λ to. other (nearest-lent table (read-so L level table to .segments) i h owned));
       }
 
 -- of the form itself

@@ -1,3 +1,4 @@
 pub mod LentRows
 pub mod LentLeaves
+pub mod LentOwners
 pub mod PassedTables
