@@ -1,5 +1,5 @@
--- What may be counted on of every lent table that passes the table test (W4): each of its rows is that of a segment of some message (T2), and its leaf
--- texts lie within the counted text (T4).
+-- What may be counted on of every lent table that passes the table test (W4): each of its rows is that of a segment of some message (T2), its leaf
+-- texts lie within the counted text (T4), and by the levels in force it is known who owns whom (O2, O5).
 -- Assumes nothing.
 use mathlib.Core.Bool.{true}
 use mathlib.Core.List.{List}
@@ -8,6 +8,7 @@ use Prim.Native.Nat.{ℕ, _<_}
 use native.Mathlib.Omega.{arith}
 use Rattle.form.specs.declared.limits.Limits.{Limits}
 use Rattle.form.specs.Limits.{Lawful}
+use Rattle.order.specs.Owners.{level}
 use Rattle.table.specs.Lent.{Lent, counted}
 use Rattle.table.specs.Rows.{width}
 use Rattle.table.specs.Reading.{stated}
@@ -18,8 +19,10 @@ use Rattle.write.specs.inner.ReadsBack.{isTable}
 use Rattle.write.specs.Writing.{ReadTo}
 use Rattle.write.proofs.LentTables.{table-within, is-table, is-table-rows}
 use Rattle.look.proofs.SameAnswer.{table-answer}
+use Rattle.tested.specs.inner.Owned.{Owned}
 use Rattle.tested.specs.inner.Searchable.{Searchable}
 use Rattle.tested.proofs.LentLeaves.{text-taken, first-leaf, last-leaf, named-leaf}
+use Rattle.tested.proofs.LentOwners.{nearest-lent, none-lower-lent}
 
 -- what a message that reads to a lent table passed
 pub read-so : (L : Limits) (levels : ℕ → ℕ → ℕ) (t : Lent) (to : ReadTo L levels (counted t)) → Accepted L levels (stated L) (to .0) (counted t)
@@ -45,3 +48,9 @@ module _ (L : Limits) (lawful : Lawful L) (levels : ℕ → ℕ → ℕ) (t : Le
         named = named-leaf t (w .segments);
         same = table-answer t levels (w .separators) _ (w .segments .table);
       }
+
+-- by the levels in force it is known who owns whom
+pub owned : (L : Limits) (lawful : Lawful L) (t : Lent) → isTable L level t ≡ true → Owned t
+owned L lawful t passes =
+    let w = read-to L lawful level t passes .1 in
+    record { nearest = nearest-lent t (w .segments); none-lower = none-lower-lent t (w .segments) }
