@@ -1,5 +1,5 @@
 /*
- * Sargaceu: the reader, the writer, the lookups and the numeric results of laboratory messages in H.PR.I.M. Santé 2.4.
+ * Sargaceu: the reader, the writer, the lookups, the numeric results and the screening check of laboratory messages in H.PR.I.M. Santé 2.4.
  *
  * Every function takes any bytes, any numbers and any lengths, and returns. None allocates, none keeps anything between two calls,
  * and none touches memory but the buffers of that call, so calls may run at the same time where none writes to a buffer that another uses.
@@ -13,16 +13,17 @@
  * that is all zero, which counts nothing.
  *
  * `answer` is where the numbers go that do not fit the return value: of size_t, and for sargaceu_read_value alone of int64_t, which has a
- * sign. A refusal is answered there, too: reader and writer put its place into answer[0], and zeros for the card or the counts behind it, while every other buffer stays as it was. So does sargaceu_order_values; the
- * refusal of a single value has no place, and answer gets zeros. An answer that is shorter than stated gets no number at all: it stays as
- * it was, and the call has no place then.
+ * sign. A refusal is answered there, too: reader and writer put its place into answer[0], and zeros for the card or the counts behind it,
+ * while every other buffer stays as it was. So does sargaceu_order_values. The answer of sargaceu_screen is the place alone. The refusal of a
+ * single value has no place, and answer gets zeros. An answer that is shorter than stated gets no number at all: it stays as it was, and the
+ * call has no place then.
  *
  * Elements of a buffer past those that a call fills stay as they were.
  *
  * Rows go in as uint16_t, and sargaceu_next_row gives size_t. C cuts a larger number and says nothing: 65539 would go in as 3. No row of a
  * table is over 256, so one that sargaceu_next_row gave goes in as it is.
  *
- * L1, N3, W4, D2 and the like are rules of docs/RULES.md.
+ * L1, N3, W4, D2, R1 and the like are rules of docs/RULES.md.
  */
 #ifndef SARGACEU_INCLUDED
 #define SARGACEU_INCLUDED
@@ -57,34 +58,54 @@ enum {
     SARGACEU_VALUE_TEXT = 17,  /* the output of sargaceu_write_value */
     SARGACEU_VALUE_ANSWER = 2, /* of sargaceu_read_value, in int64_t */
     SARGACEU_TEXT_ANSWER = 1,  /* of sargaceu_write_value */
-    SARGACEU_ORDER_ANSWER = 2  /* of sargaceu_order_values */
+    SARGACEU_ORDER_ANSWER = 2, /* of sargaceu_order_values */
+    SARGACEU_SCREEN_ANSWER = 1 /* of sargaceu_screen */
 };
 
 /* The elements that always do for the values of an order: three buffers of as many are never refused with 25. Fewer may do as well. */
 enum { SARGACEU_VALUES = 256 };
 
-/* The numbers that come back, each with its place (N1). Those from 20 on are of numeric results (D3, D5, D6). */
+/*
+ * The numbers that come back, each with its place (N1). Those from 20 to 25 are of numeric results (D3, D5, D6). Those from 30 on are of the
+ * screening check (R5): what is missing is not there or empty, and a place is the first row of which the rule does not hold.
+ */
 enum sargaceu_number {
     SARGACEU_ACCEPTED = 0,
-    SARGACEU_SHORT_BUFFER = 1,   /* place 0, and no place at all where the answer itself is short */
-    SARGACEU_LONG_MESSAGE = 2,   /* place 0 */
-    SARGACEU_BROKEN_HEADER = 3,  /* place 0 */
-    SARGACEU_CONTROL_BYTE = 4,   /* the byte's offset, from 0 */
-    SARGACEU_LONG_LINE = 5,      /* the offset of the line's 220th byte */
-    SARGACEU_OPEN_LINE = 6,      /* the message's length */
-    SARGACEU_MANY_SEGMENTS = 7,  /* place 0 */
-    SARGACEU_UNKNOWN_KIND = 8,   /* the first such segment, from 1 */
-    SARGACEU_NO_CONTEXT = 9,     /* place 0 */
-    SARGACEU_MISPLACED = 10,     /* the first such segment, or segments + 1 where the L is missing */
-    SARGACEU_MANY_LEAVES = 11,   /* place 0 */
-    SARGACEU_SHORT_OUTPUT = 12,  /* place 0 */
-    SARGACEU_NO_TABLE = 13,      /* place 0 */
-    SARGACEU_NOT_A_NUMBER = 20,  /* no place */
-    SARGACEU_MANY_DIGITS = 21,   /* no place */
-    SARGACEU_OUT_OF_RANGE = 22,  /* no place */
-    SARGACEU_NARROW_OUTPUT = 23, /* no place */
-    SARGACEU_NOT_AN_ORDER = 24,  /* place 0 */
-    SARGACEU_LITTLE_ROOM = 25    /* place 0 */
+    SARGACEU_SHORT_BUFFER = 1,     /* place 0, and no place at all where the answer itself is short */
+    SARGACEU_LONG_MESSAGE = 2,     /* place 0 */
+    SARGACEU_BROKEN_HEADER = 3,    /* place 0 */
+    SARGACEU_CONTROL_BYTE = 4,     /* the byte's offset, from 0 */
+    SARGACEU_LONG_LINE = 5,        /* the offset of the line's 220th byte */
+    SARGACEU_OPEN_LINE = 6,        /* the message's length */
+    SARGACEU_MANY_SEGMENTS = 7,    /* place 0 */
+    SARGACEU_UNKNOWN_KIND = 8,     /* the first such segment, from 1 */
+    SARGACEU_NO_CONTEXT = 9,       /* place 0 */
+    SARGACEU_MISPLACED = 10,       /* the first such segment, or segments + 1 where the L is missing */
+    SARGACEU_MANY_LEAVES = 11,     /* place 0 */
+    SARGACEU_SHORT_OUTPUT = 12,    /* place 0 */
+    SARGACEU_NO_TABLE = 13,        /* place 0 */
+    SARGACEU_NOT_A_NUMBER = 20,    /* no place */
+    SARGACEU_MANY_DIGITS = 21,     /* no place */
+    SARGACEU_OUT_OF_RANGE = 22,    /* no place */
+    SARGACEU_NARROW_OUTPUT = 23,   /* no place */
+    SARGACEU_NOT_AN_ORDER = 24,    /* place 0 */
+    SARGACEU_LITTLE_ROOM = 25,     /* place 0 */
+    SARGACEU_NOT_A_REPORT = 30,    /* no ORU; place 0 */
+    SARGACEU_NO_NAME = 31,         /* 8.6.1; the P */
+    SARGACEU_NO_FIRST_NAME = 32,   /* 8.6.2; the P */
+    SARGACEU_NO_BIRTH_NAME = 33,   /* 8.7; the P */
+    SARGACEU_NO_TELEPHONE = 34,    /* 8.13; the P */
+    SARGACEU_NO_POSTAL_CODE = 35,  /* 8.11.5; the P */
+    SARGACEU_NO_ORDER_NUMBER = 36, /* 9.4.2; the OBR */
+    SARGACEU_NO_SAMPLE_TIME = 37,  /* 9.8; the OBR */
+    SARGACEU_NO_LABORATORY = 38,   /* 7.5.1; the H, which is row 1 */
+    SARGACEU_NOT_ONE_PAYS = 39,    /* none of the patient's OBX has this code in 10.4.1, or several have; the P */
+    SARGACEU_NOT_ONE_TYPOR = 40,   /* the same */
+    SARGACEU_NOT_ONE_PROSS = 41,   /* the same */
+    SARGACEU_NOT_ONE_FINGE = 42,   /* the same */
+    SARGACEU_WRONG_TYPOR = 43,     /* its 10.6.1 is none of I, H, E, C, A, U; the OBX */
+    SARGACEU_WRONG_PROSS = 44,     /* its 10.6.1 is none of O, N, U; the OBX */
+    SARGACEU_WRONG_RESULT = 45     /* coded (CE) and named by LN: its 10.6.1 is none of P, N, I, X; the OBX */
 };
 
 /* A segment row's first number (S1). */
@@ -267,6 +288,21 @@ uint8_t sargaceu_order_values(const size_t *card, size_t card_numbers,
                               int64_t *wholes, size_t wholes_numbers,
                               uint8_t *decimals, size_t decimals_bytes,
                               size_t *answer, size_t answer_numbers);
+
+/*
+ * Whether a report meets the rules for screening: the fields that must be there (R1), the four pseudo-analyses of each patient (R2), and the
+ * values that a result may have (R3). Returns 0 where all hold, and answer gets 0. Else the first of these comes back: 13 where no message
+ * reads to the table (W4), and 30 where its context is not ORU, with the place 0; then the lowest of 31 to 45 whose rule does not hold, with
+ * the first row of which it does not, which for 39 to 42 is the patient's (R4, R5). So a lower number comes before a higher one that fails in
+ * an earlier row. Nothing else is judged. An answer of no number is refused with 1 before the table is looked at; it stays as it was.
+ *
+ * The table is tested once a call, as sargaceu_is_table does.
+ */
+uint8_t sargaceu_screen(const size_t *card, size_t card_numbers,
+                        const uint16_t *segments, size_t segments_numbers,
+                        const uint16_t *leaves, size_t leaves_numbers,
+                        const uint8_t *text, size_t text_bytes,
+                        size_t *answer, size_t answer_numbers);
 
 #ifdef __cplusplus
 }
