@@ -24,5 +24,8 @@ pub const TEXT_ANSWER: usize = 1;
 /// The numbers that the values of an order are counted by: the place and the count.
 pub const ORDER_ANSWER: usize = 2;
 
+/// The numbers that the screening check answers: the place.
+pub const SCREEN_ANSWER: usize = 1;
+
 /// The elements that do for the values of every order, one for each segment of the longest table.
 pub const VALUES: usize = 256;

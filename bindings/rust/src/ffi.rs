@@ -159,6 +159,18 @@ extern "C" {
         answer: *mut usize,
         answer_numbers: usize,
     ) -> u8;
+    pub fn sargaceu_screen(
+        card: *const usize,
+        card_numbers: usize,
+        segments: *const u16,
+        segments_numbers: usize,
+        leaves: *const u16,
+        leaves_numbers: usize,
+        text: *const u8,
+        text_bytes: usize,
+        answer: *mut usize,
+        answer_numbers: usize,
+    ) -> u8;
 }
 
 #[cfg(test)]

@@ -1,4 +1,5 @@
-//! Sargaceu for Rust: the reader, the writer, the lookups and the numeric results of laboratory messages in H.PR.I.M. Santé 2.4.
+//! Sargaceu for Rust: the reader, the writer, the lookups, the numeric results and the screening check of laboratory messages in H.PR.I.M.
+//! Santé 2.4.
 //!
 //! The work is done by a library whose every function is proved to meet its contract for all inputs; this crate lends it slices and
 //! names what comes back. `./archive` in the repository's folder makes that library, for x86-64 Linux.
@@ -27,6 +28,7 @@
 //!   ways: found, found empty, not there; [`same_order`](Table::same_order) compares two orders.
 //! - [`order_values`](Table::order_values) gives the numeric results of an order as numbers, a [`Value`] each; [`read_value`] reads one text, and a
 //!   value is shown as the shortest text that reads to it.
+//! - [`screen`](Table::screen) says whether a report meets the rules for screening, or which one it does not meet, and in which row.
 //! - [`write`](Table::write) and [`to_message`](Table::to_message) give a message that reads to the same table.
 //! - [`lines()`] walks the lines of a file, a [`Watcher`] says which [`Kind`] may come next in a [`Context`], and [`Buffers::list`] lists a
 //!   message.
@@ -50,6 +52,7 @@ mod place;
 mod reading;
 mod results;
 mod row;
+mod screening;
 mod segment;
 pub mod size;
 mod sought;

@@ -54,10 +54,43 @@ pub enum Number {
     NotAnOrder = 24,
     /// A buffer lent for the values has fewer elements than the order has numeric results.
     LittleRoom = 25,
+    /// The message is no ORU.
+    NotAReport = 30,
+    /// A patient's name in use (8.6.1) is missing, that is not there or empty; the place is the first such P.
+    NoName = 31,
+    /// A patient's first name (8.6.2) is missing; the place is the first such P.
+    NoFirstName = 32,
+    /// A patient's birth name (8.7) is missing; the place is the first such P.
+    NoBirthName = 33,
+    /// A patient's telephone (8.13) is missing; the place is the first such P.
+    NoTelephone = 34,
+    /// The postal code of a patient's address (8.11.5) is missing; the place is the first such P.
+    NoPostalCode = 35,
+    /// An order's number in the laboratory (9.4.2) is missing; the place is the first such OBR.
+    NoOrderNumber = 36,
+    /// The time at which an order's sample was taken (9.8) is missing; the place is the first such OBR.
+    NoSampleTime = 37,
+    /// The laboratory's code (7.5.1) is missing; the place is the row of the header, which is 1.
+    NoLaboratory = 38,
+    /// A patient has no result with the code PAYS (10.4.1), or several; the place is the first such P.
+    NotOnePays = 39,
+    /// A patient has no TYPOR, or several; the place is the first such P.
+    NotOneTypor = 40,
+    /// A patient has no PROSS, or several; the place is the first such P.
+    NotOnePross = 41,
+    /// A patient has no FINGE, or several; the place is the first such P.
+    NotOneFinge = 42,
+    /// The value (10.6.1) of a TYPOR is none of I, H, E, C, A, U, or is missing; the place is the first such OBX.
+    WrongTypor = 43,
+    /// The value of a PROSS is none of O, N, U, or is missing; the place is the first such OBX.
+    WrongPross = 44,
+    /// The value of a result of type CE with a LOINC code (10.4.3 or 10.4.6 is LN) is none of P, N, I, X, or is missing; the place is the first
+    /// such OBX.
+    WrongResult = 45,
 }
 
 impl Number {
-    const ALL: [Number; 19] = [
+    const ALL: [Number; 35] = [
         Number::ShortBuffer,
         Number::LongMessage,
         Number::BrokenHeader,
@@ -77,6 +110,22 @@ impl Number {
         Number::NarrowOutput,
         Number::NotAnOrder,
         Number::LittleRoom,
+        Number::NotAReport,
+        Number::NoName,
+        Number::NoFirstName,
+        Number::NoBirthName,
+        Number::NoTelephone,
+        Number::NoPostalCode,
+        Number::NoOrderNumber,
+        Number::NoSampleTime,
+        Number::NoLaboratory,
+        Number::NotOnePays,
+        Number::NotOneTypor,
+        Number::NotOnePross,
+        Number::NotOneFinge,
+        Number::WrongTypor,
+        Number::WrongPross,
+        Number::WrongResult,
     ];
 
     /// What the place counts that comes with this number, or nothing where the place is always 0.
@@ -84,6 +133,7 @@ impl Number {
         match self {
             Number::ControlByte | Number::LongLine | Number::OpenLine => Some("offset"),
             Number::UnknownKind | Number::Misplaced => Some("segment"),
+            _ if (Number::NoName..=Number::WrongResult).contains(&self) => Some("row"),
             _ => None,
         }
     }
@@ -121,6 +171,22 @@ impl fmt::Display for Number {
             Number::NarrowOutput => "the output lent for the text of a value is under 17 bytes",
             Number::NotAnOrder => "the row is no order of the table",
             Number::LittleRoom => "a buffer lent for the values has fewer elements than the order has numeric results",
+            Number::NotAReport => "the message is no ORU",
+            Number::NoName => "a patient has no name in use (8.6.1)",
+            Number::NoFirstName => "a patient has no first name (8.6.2)",
+            Number::NoBirthName => "a patient has no birth name (8.7)",
+            Number::NoTelephone => "a patient has no telephone (8.13)",
+            Number::NoPostalCode => "a patient has no postal code (8.11.5)",
+            Number::NoOrderNumber => "an order has no number in the laboratory (9.4.2)",
+            Number::NoSampleTime => "an order has no time of sampling (9.8)",
+            Number::NoLaboratory => "the header does not name the laboratory (7.5.1)",
+            Number::NotOnePays => "a patient has no PAYS, or several",
+            Number::NotOneTypor => "a patient has no TYPOR, or several",
+            Number::NotOnePross => "a patient has no PROSS, or several",
+            Number::NotOneFinge => "a patient has no FINGE, or several",
+            Number::WrongTypor => "a TYPOR has none of the values I, H, E, C, A, U",
+            Number::WrongPross => "a PROSS has none of the values O, N, U",
+            Number::WrongResult => "a coded result with a LOINC code (LN) has none of the values P, N, I, X",
         })
     }
 }
@@ -152,7 +218,7 @@ impl From<Number> for u8 {
 pub struct Refusal {
     /// What the call is refused for.
     pub number: Number,
-    /// A byte's offset from 0, a segment from 1, or 0: [`Number`] says which goes with it.
+    /// A byte's offset from 0, a segment or its row from 1, or 0: [`Number`] says which goes with it.
     pub place: usize,
 }
 

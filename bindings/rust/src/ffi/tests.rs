@@ -88,6 +88,24 @@ impl Lent<'_> {
         }
     }
 
+    fn screen(&self, answer: &mut [usize]) -> u8 {
+        // SAFETY: as in `write`.
+        unsafe {
+            sargaceu_screen(
+                self.card.as_ptr(),
+                self.card.len(),
+                self.segments.as_ptr(),
+                self.segments.len(),
+                self.leaves.as_ptr(),
+                self.leaves.len(),
+                self.text.as_ptr(),
+                self.text.len(),
+                answer.as_mut_ptr(),
+                answer.len(),
+            )
+        }
+    }
+
     fn next_row(&self, after: usize, kind: u16, owner: u16) -> usize {
         // SAFETY: as in `write`.
         unsafe {
@@ -527,6 +545,45 @@ fn an_order_is_refused_for_its_table_then_for_its_row_then_for_the_room() {
     assert_eq!(places.numbers, [0, 20]);
     assert_eq!(places.wholes, [56, 0, -9]);
     assert_eq!(places.decimals, [1, 0, 99, 99]);
+}
+
+#[test]
+fn a_screening_is_refused_for_its_answer_then_for_its_table_then_for_its_context() {
+    let mut buffers = crate::Buffers::new();
+    let mut screened = |message: &[u8]| {
+        let table = buffers.read(message).unwrap();
+        let card = table.card().numbers();
+        let lent = Lent {
+            card: &card,
+            segments: table.segment_rows(),
+            leaves: table.leaf_rows(),
+            text: table.text(),
+        };
+        let damaged = Lent {
+            text: &lent.text[1..],
+            ..lent
+        };
+        [lent, damaged].map(|lent| {
+            assert_eq!(lent.screen(&mut []), 1);
+            let mut answer = [7; 2];
+            let number = lent.screen(&mut answer);
+            assert_eq!(lent.screen(&mut [7; 1]), number);
+            // the place alone is put
+            assert_eq!(answer[1], 7);
+            (number, answer[0])
+        })
+    };
+    let sound = include_bytes!("../../../../samples/screening.hpr");
+    assert_eq!(screened(sound), [(0, 0), (13, 0)]);
+    let refused = include_bytes!("../../../../samples/screening-refused.hpr");
+    assert_eq!(screened(refused), [(43, 16), (13, 0)]);
+    let errors = b"H|~^\\&|||LAB||ERR\rERR\rL\r";
+    assert_eq!(screened(errors), [(30, 0), (13, 0)]);
+
+    let mut answer = [7; 2];
+    assert_eq!(NOTHING.screen(&mut answer), 13);
+    assert_eq!(answer, [0, 7]);
+    assert_eq!(NOTHING.screen(&mut []), 1);
 }
 
 #[test]

@@ -16,13 +16,15 @@ impl Numbers {
     }
 }
 
-/// All rows and leaves that a table counts are there, and its message reads to it.
+/// All rows and leaves that a table counts are there, its message reads to it, and it is screened.
 fn is_whole(table: &Table<'_>) {
     assert_eq!(table.rows().count(), table.card().segments);
     assert_eq!(table.leaves().count(), table.card().leaves);
     let by_rows = table.rows().flat_map(|segment| segment.leaves());
     assert_eq!(by_rows.count(), table.card().leaves);
     assert_eq!(Buffers::new().read(&table.to_message()), Ok(*table));
+    let row = table.screen().map_or_else(|refusal| refusal.place, |()| 0);
+    assert!(row <= table.card().segments);
 }
 
 #[test]

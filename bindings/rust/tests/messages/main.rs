@@ -6,6 +6,7 @@ mod names;
 mod orders;
 mod reading;
 mod rows;
+mod screening;
 mod values;
 mod walking;
 mod watching;
@@ -18,6 +19,12 @@ const SMALL: &[u8] = b"H|~^\\&|||LAB||ORU\rP|1||||DUPONT~JEAN\rOBR|1\rOBX|1|NM|G
 
 /// Two patients, comments, and a report that is cut into A lines.
 const REPORT: &[u8] = include_bytes!("../../../../samples/report.hpr");
+
+/// Two patients with all that the rules for screening ask for; a comment is cut into A lines.
+const SCREENING: &[u8] = include_bytes!("../../../../samples/screening.hpr");
+
+/// The same, with a code of the laboratory's own where the second patient lives.
+const SCREENING_REFUSED: &[u8] = include_bytes!("../../../../samples/screening-refused.hpr");
 
 /// The joined segments of a message whose field separator is `|` and whose lines all end in CR, joined by hand.
 fn segments(message: &[u8]) -> Vec<Vec<u8>> {

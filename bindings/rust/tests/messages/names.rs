@@ -36,10 +36,12 @@ fn contexts_go_by_name_and_number() {
 fn every_number_that_comes_back_has_a_sentence_of_its_own() {
     let numbers = (0..=u8::MAX).filter_map(|number| Number::try_from(number).ok());
     let mut sentences: Vec<String> = numbers.clone().map(|number| number.to_string()).collect();
-    assert!(numbers.map(u8::from).eq((1..14).chain(20..26)));
+    assert!(numbers
+        .map(u8::from)
+        .eq((1..14).chain(20..26).chain(30..46)));
     sentences.sort();
     sentences.dedup();
-    assert_eq!(sentences.len(), 19);
+    assert_eq!(sentences.len(), 35);
 }
 
 #[test]
