@@ -13,26 +13,37 @@
 #include <stdio.h>
 #include <stdlib.h>
 
-enum { SEED = 24, CALLS = 200000, NUMBERS = EMPTY + 1, LEAST_SHARE = 20 };
+enum { SEED = 24, CALLS = 200000, NUMBERS = EMPTY + 1, LEAST_SHARE = 20, VERDICT_SHARE = 200 };
+
+/* The verdicts of the screening check: no table, no ORU, and each rule that may be broken. */
+static bool all_verdicts(const size_t *count, size_t least)
+{
+    bool all = count[SARGACEU_NO_TABLE] >= least;
+    for (int number = SARGACEU_NOT_A_REPORT; number <= SARGACEU_WRONG_RESULT; number++)
+        all = all && count[number] >= least;
+    return all;
+}
 
 static const struct {
     const char *function;
     int (*try_it)(void);
-    bool may_be_empty; /* what it finds */
+    bool may_be_empty;                                   /* what it finds */
+    bool (*all_came)(const size_t *count, size_t least); /* whether the numbers came that each must come now and then; NULL where there are none */
 } trials[] = {
-    { "sargaceu_read", try_read, false },
-    { "sargaceu_write", try_write, false },
-    { "sargaceu_is_table", try_is_table, false },
-    { "sargaceu_find_leaf", try_find_leaf, true },
-    { "sargaceu_find_leaf_in_segment", try_find_leaf_in_segment, true },
-    { "sargaceu_next_row", try_next_row, false },
-    { "sargaceu_same_order", try_same_order, false },
-    { "sargaceu_line", try_line, false },
-    { "sargaceu_watch", try_watch, false },
-    { "sargaceu_list", try_list, false },
-    { "sargaceu_read_value", try_read_value, false },
-    { "sargaceu_write_value", try_write_value, false },
-    { "sargaceu_order_values", try_order_values, false },
+    { "sargaceu_read", try_read, false, NULL },
+    { "sargaceu_write", try_write, false, NULL },
+    { "sargaceu_is_table", try_is_table, false, NULL },
+    { "sargaceu_find_leaf", try_find_leaf, true, NULL },
+    { "sargaceu_find_leaf_in_segment", try_find_leaf_in_segment, true, NULL },
+    { "sargaceu_next_row", try_next_row, false, NULL },
+    { "sargaceu_same_order", try_same_order, false, NULL },
+    { "sargaceu_line", try_line, false, NULL },
+    { "sargaceu_watch", try_watch, false, NULL },
+    { "sargaceu_list", try_list, false, NULL },
+    { "sargaceu_read_value", try_read_value, false, NULL },
+    { "sargaceu_write_value", try_write_value, false, NULL },
+    { "sargaceu_order_values", try_order_values, false, NULL },
+    { "sargaceu_screen", try_screen, false, all_verdicts },
 };
 
 /* One line: the calls, how many were accepted and refused, those that found something empty, and the numbers of the refusals where they have one. */
@@ -64,7 +75,8 @@ static bool run(size_t which, uint64_t seed, size_t calls)
     }
     show(trials[which].function, count, calls);
     return count[SARGACEU_ACCEPTED] >= least && calls - count[SARGACEU_ACCEPTED] - count[EMPTY] >= least &&
-           (!trials[which].may_be_empty || count[EMPTY] >= least);
+           (!trials[which].may_be_empty || count[EMPTY] >= least) &&
+           (trials[which].all_came == NULL || trials[which].all_came(count, calls / VERDICT_SHARE));
 }
 
 int main(int arguments, char **argument)
@@ -78,7 +90,7 @@ int main(int arguments, char **argument)
     for (size_t which = 0; which < sizeof trials / sizeof *trials; which++)
         all = run(which, seed, calls) && all;
     if (!all) {
-        printf("hostile: a function was too seldom accepted, too seldom refused, or too seldom found something empty\n");
+        printf("hostile: a function was too seldom accepted or refused, too seldom found something empty, or gave some verdict too seldom\n");
         return 1;
     }
     printf("hostile: no byte touched that should not be, no answer contradicted\n");

@@ -52,6 +52,12 @@ struct message {
 
 void draw_sound_message(struct message *m); /* of the form, but for the limits, which it may pass */
 void draw_message(struct message *m);       /* sound, damaged, or any bytes */
+void begin_message(struct message *m);      /* one of no bytes yet, whose separators are drawn */
+void put_segment(const char *usual);        /* goes on with it: written with the usual separators, which become the drawn ones */
+
+/* ---- reports.c ---- */
+
+void draw_report(struct message *m); /* an ORU that meets the rules for screening, or breaks some of them */
 
 /* ---- numerals.c ---- */
 
@@ -76,8 +82,8 @@ struct table {
 
 enum { CARD_SEPARATOR, CARD_CONTEXT, CARD_SEGMENTS, CARD_LEAVES, CARD_TEXT };
 
-void draw_read_table(struct table *t); /* what the reader made of some message */
-bool draw_table(struct table *t);      /* such a table, or a damaged one; whether it is undamaged */
+bool draw_table(struct table *t);        /* what the reader made of some message, or that damaged; whether it is undamaged */
+bool draw_report_table(struct table *t); /* the same of a screening report */
 uint8_t read_table(const uint8_t *message, size_t bytes, struct table *t, size_t *place); /* in buffers of ordinary memory */
 uint8_t write_table(const struct table *t, uint8_t *output, size_t *answer);              /* the same, with output enough */
 void expect_same_table(const struct table *a, const struct table *b, const char *what);
@@ -118,12 +124,13 @@ struct value plain_read_value(const uint8_t *text, size_t bytes);
 size_t plain_write_value(int64_t whole, size_t decimals, uint8_t text[SARGACEU_VALUE_TEXT]); /* 0 where no text reads to it */
 bool plain_is_order(const struct table *t, uint16_t row);
 size_t plain_order_values(const struct table *t, uint16_t order, struct value values[SARGACEU_VALUES]); /* of a table, and of an order in it */
+struct outcome plain_screen(const struct table *t);                                                     /* of a table */
 
 /* ---- the trials: each draws arguments, makes the call on both sides, and answers 0 where it was accepted ---- */
 
 enum {
-    NO = SARGACEU_LITTLE_ROOM + 1, /* a plain no, which has no number */
-    EMPTY                         /* accepted, and what was found is empty */
+    NO = SARGACEU_WRONG_RESULT + 1, /* a plain no, which has no number */
+    EMPTY                          /* accepted, and what was found is empty */
 };
 
 int try_read(void);
@@ -139,5 +146,6 @@ int try_same_order(void);
 int try_read_value(void);
 int try_write_value(void);
 int try_order_values(void);
+int try_screen(void);
 
 #endif

@@ -20,6 +20,7 @@ struct draft {
 };
 
 static struct draft draft;
+static const char usual_separators[] = "|~^\\&";
 
 /* ---- a segment ---- */
 
@@ -164,9 +165,8 @@ static void put_lines(void)
 
 static void draw_separators(void)
 {
-    static const char usual[] = "|~^\\&";
     static const char all[] = "!\"#$%&'()*+,-./:;<=>?@[\\]^_`{|}~";
-    memcpy(draft.separators, usual, 5);
+    memcpy(draft.separators, usual_separators, 5);
     if (!one_in(4))
         return;
     for (int i = 0; i < 5; i++) {
@@ -174,6 +174,22 @@ static void draw_separators(void)
             draft.separators[i] = (uint8_t)all[below(sizeof all - 1)];
         while (memchr(draft.separators, draft.separators[i], (size_t)i) != NULL);
     }
+}
+
+void begin_message(struct message *m)
+{
+    m->length = draft.leaves = 0;
+    draft.message = m;
+    draw_separators();
+}
+
+void put_segment(const char *usual)
+{
+    for (draft.length = 0; *usual != '\0'; usual++) {
+        const char *separator = strchr(usual_separators, *usual);
+        put_byte(separator == NULL ? (uint8_t)*usual : draft.separators[separator - usual_separators]);
+    }
+    put_lines();
 }
 
 static struct measure draw_measure(void)
@@ -220,9 +236,7 @@ void draw_sound_message(struct message *m)
     struct measure measure = draw_measure();
     static const uint8_t with_orders[3] = { SARGACEU_CONTEXT_ORM, SARGACEU_CONTEXT_ORA, SARGACEU_CONTEXT_ORU };
     uint8_t context = one_in(2) ? with_orders[below(3)] : (uint8_t)(1 + below(7)), last = SARGACEU_H;
-    m->length = draft.leaves = 0;
-    draft.message = m;
-    draw_separators();
+    begin_message(m);
     draw_header(context, measure);
     put_lines();
     for (size_t row = 2; last != SARGACEU_L; row++) {

@@ -419,3 +419,87 @@ size_t plain_order_values(const struct table *t, uint16_t order, struct value va
     }
     return count;
 }
+
+/* ---- the screening check ---- */
+
+/* How many bytes the leaf of a name has, in which repetition and sub-subfield are 1, and where they stand; none where it is not there or empty. */
+static size_t leaf_text(const struct table *t, size_t row, uint16_t field, uint16_t subfield, const uint8_t **text)
+{
+    const uint16_t place[5] = { (uint16_t)row, field, 1, subfield, 1 };
+    size_t found[2] = { 0, 0 };
+    plain_find_leaf(t, place, found);
+    *text = t->text + found[0];
+    return found[1];
+}
+
+static bool leaf_is(const struct table *t, size_t row, uint16_t field, uint16_t subfield, const char *expected)
+{
+    const uint8_t *text;
+    return leaf_text(t, row, field, subfield, &text) == strlen(expected) && memcmp(text, expected, strlen(expected)) == 0;
+}
+
+/* Whether the value (10.6.1) is one of these letters. */
+static bool value_among(const struct table *t, size_t row, const char *letters)
+{
+    const uint8_t *text;
+    return leaf_text(t, row, 6, 1, &text) == 1 && memchr(letters, text[0], strlen(letters)) != NULL;
+}
+
+/* How many results have a code, from a patient's row up to the next patient. */
+static size_t count_code(const struct table *t, size_t patient, const char *code)
+{
+    size_t count = 0;
+    for (size_t row = patient + 1; row <= t->card[CARD_SEGMENTS] && kind_in(t, row) != SARGACEU_P; row++)
+        count += kind_in(t, row) == SARGACEU_OBX && leaf_is(t, row, 4, 1, code);
+    return count;
+}
+
+/* The fields that must be there, and the codes that each patient has once, by the number of their rule. */
+static const struct {
+    uint16_t kind, field, subfield;
+} needed_fields[] = {
+    [SARGACEU_NO_NAME] = { SARGACEU_P, 6, 1 },
+    [SARGACEU_NO_FIRST_NAME] = { SARGACEU_P, 6, 2 },
+    [SARGACEU_NO_BIRTH_NAME] = { SARGACEU_P, 7, 1 },
+    [SARGACEU_NO_TELEPHONE] = { SARGACEU_P, 13, 1 },
+    [SARGACEU_NO_POSTAL_CODE] = { SARGACEU_P, 11, 5 },
+    [SARGACEU_NO_ORDER_NUMBER] = { SARGACEU_OBR, 4, 2 },
+    [SARGACEU_NO_SAMPLE_TIME] = { SARGACEU_OBR, 8, 1 },
+    [SARGACEU_NO_LABORATORY] = { SARGACEU_H, 5, 1 },
+};
+
+static const char *const needed_codes[] = {
+    [SARGACEU_NOT_ONE_PAYS] = "PAYS",
+    [SARGACEU_NOT_ONE_TYPOR] = "TYPOR",
+    [SARGACEU_NOT_ONE_PROSS] = "PROSS",
+    [SARGACEU_NOT_ONE_FINGE] = "FINGE",
+};
+
+static bool breaks_rule(const struct table *t, size_t row, uint8_t rule)
+{
+    const uint8_t *text;
+    uint16_t kind = kind_in(t, row);
+    if (rule <= SARGACEU_NO_LABORATORY)
+        return kind == needed_fields[rule].kind && leaf_text(t, row, needed_fields[rule].field, needed_fields[rule].subfield, &text) == 0;
+    if (rule <= SARGACEU_NOT_ONE_FINGE)
+        return kind == SARGACEU_P && count_code(t, row, needed_codes[rule]) != 1;
+    if (kind != SARGACEU_OBX)
+        return false;
+    if (rule == SARGACEU_WRONG_TYPOR)
+        return leaf_is(t, row, 4, 1, "TYPOR") && !value_among(t, row, "IHECAU");
+    if (rule == SARGACEU_WRONG_PROSS)
+        return leaf_is(t, row, 4, 1, "PROSS") && !value_among(t, row, "ONU");
+    return leaf_is(t, row, 3, 1, "CE") && (leaf_is(t, row, 4, 3, "LN") || leaf_is(t, row, 4, 6, "LN")) && !value_among(t, row, "PNIX");
+}
+
+/* Rule by rule, and for each of them row by row. */
+struct outcome plain_screen(const struct table *t)
+{
+    if (t->card[CARD_CONTEXT] != SARGACEU_CONTEXT_ORU)
+        return (struct outcome){ SARGACEU_NOT_A_REPORT, 0 };
+    for (uint8_t rule = SARGACEU_NO_NAME; rule <= SARGACEU_WRONG_RESULT; rule++)
+        for (size_t row = 1; row <= t->card[CARD_SEGMENTS]; row++)
+            if (breaks_rule(t, row, rule))
+                return (struct outcome){ rule, row };
+    return (struct outcome){ SARGACEU_ACCEPTED, 0 };
+}

@@ -83,14 +83,15 @@ void expect_owners(const struct table *t)
 
 /* ---- drawing ---- */
 
-void draw_read_table(struct table *t)
+/* What the reader makes of a message that is drawn in some way. */
+static void draw_read_table(struct table *t, void (*draw)(struct message *))
 {
     size_t place;
     memcpy(t->card, former(sizeof t->card), sizeof t->card);
     memcpy(t->segments, former(sizeof t->segments), sizeof t->segments);
     memcpy(t->leaves, former(sizeof t->leaves), sizeof t->leaves);
     memcpy(t->text, former(sizeof t->text), sizeof t->text);
-    draw_sound_message(&source);
+    draw(&source);
     if (read_table(source.bytes, source.length, t, &place) != SARGACEU_ACCEPTED)
         read_table((const uint8_t *)least, sizeof least - 1, t, &place);
 }
@@ -198,9 +199,9 @@ static bool fit(struct table *t, size_t segments, size_t leaves, size_t text)
     return false;
 }
 
-bool draw_table(struct table *t)
+static bool draw_and_damage(struct table *t, void (*draw)(struct message *))
 {
-    draw_read_table(t);
+    draw_read_table(t, draw);
     size_t segments = t->card[CARD_SEGMENTS], leaves = t->card[CARD_LEAVES], text = t->card[CARD_TEXT];
     bool sound = true;
     if (one_in(2)) {
@@ -213,4 +214,14 @@ bool draw_table(struct table *t)
     if (t->card[CARD_TEXT] > text && t->card[CARD_TEXT] <= SARGACEU_TEXT)
         text = t->card[CARD_TEXT]; /* it was made longer */
     return fit(t, segments, leaves, text) && sound;
+}
+
+bool draw_table(struct table *t)
+{
+    return draw_and_damage(t, draw_sound_message);
+}
+
+bool draw_report_table(struct table *t)
+{
+    return draw_and_damage(t, draw_report);
 }
