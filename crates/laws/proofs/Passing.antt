@@ -1,4 +1,4 @@
--- The numbers that pass a test, `passing`: the first of them, how far a search for it has come, and which numbers they are.
+-- The numbers that pass a test, `passing`: the first of them, how far a search for it has come, and which numbers they are; a search in two parts.
 -- Assumes nothing.
 use mathlib.Core.Bool.{Bool, true, false}
 use mathlib.Core.List.{List, [], _∷_}
@@ -222,3 +222,66 @@ module _ (test : ℕ → Bool) where
 
     pub passing-done : end ≤ i → end ≡ getD (passing test from (end - from)) 0 end
     passing-done h = passing-ends (λ k g l. absurd (omega (arith, g, l)))
+
+  -- the first lies where the search goes: not before its beginning, nor past its end
+  pub first-bounds : (from end : ℕ) → from ≤ end → (from ≤ getD (passing test from (end - from)) 0 end) × (getD (passing test from (end - from)) 0 end ≤ end)
+  first-bounds from end rising = by (first-passed from (end - from))
+    where
+      by : Passed from (end - from) → (from ≤ getD (passing test from (end - from)) 0 end) × (getD (passing test from (end - from)) 0 end ≤ end)
+      by (none q) = let e = ap (λ (s : List ℕ). getD s 0 end) q in (omega (arith, e, rising), omega (arith, e))
+      by (first k g h p q) = let e = ap (λ (s : List ℕ). getD s 0 end) q in (omega (arith, e, g), omega (arith, e, h, rising))
+
+  -- none before it passes
+  none-before-from : (i n end k : ℕ) → i + n ≡ end → i ≤ k → k < getD (passing test i n) 0 end → test k ≡ false
+  unfolding passing
+  none-before-from i zero end k total g h = absurd (omega (arith, total, g, h))
+  none-before-from i (suc n) end k total g h = by (tested (test i)) (less-or-not i k) (none-before-from (suc i) n end k (omega (arith, total)))
+    where
+      by : Tested (test i) → (i < k) ⊎ (k ≤ i) → (suc i ≤ k → k < getD (passing test (suc i) n) 0 end → test k ≡ false) → test k ≡ false
+      by (passed e) s later = absurd (omega (arith, h, g, ap (λ (s : List ℕ). getD s 0 end) (passing-hit i n e)))
+      by (failed e) (inl l) later = later (omega (arith, l)) (omega (arith, h, ap (λ (s : List ℕ). getD s 0 end) (passing-miss i n e)))
+      by (failed e) (inr l) later = ap test (let q : k ≡ i = omega (arith, g, l) in q) ∙ e
+
+  pub none-before : (from end k : ℕ) → from ≤ end → from ≤ k → k < getD (passing test from (end - from)) 0 end → test k ≡ false
+  none-before from end k rising g h = none-before-from from (end - from) end k (omega (arith, rising)) g h
+
+  -- numbers that do not pass are passed over at once
+  pub passing-over : {from end i : ℕ} (j : ℕ) → Passing from end i → i ≤ j → j ≤ end → ((k : ℕ) → i ≤ k → k < j → test k ≡ false)
+      → Passing from end j
+  passing-over {from} {end} {i} j s g h fails =
+      record {
+        later = omega (arith, s .later);
+        within = h;
+        rest =
+            ap (λ (n : ℕ). getD (passing test n (end - j)) 0 end) (let e : j ≡ i + (j - i) = omega (arith, g) in e)
+            ∙ ap (λ (l : List ℕ). getD l 0 end)
+            (sym (passing-behind (j - i) i (end - j) (end - i) (omega (arith, g, h)) (λ k low high. fails k low (omega (arith, high, g)))))
+            ∙ s .rest;
+      }
+
+  -- a search in two parts: what the first part finds, or else what the second does
+  module _ {from mid end r : ℕ} (low : from ≤ mid) (high : mid ≤ end) (found : r ≡ getD (passing test from (mid - from)) 0 mid) where
+    pub first-part : r < mid → r ≡ getD (passing test from (end - from)) 0 end
+    first-part h =
+        let here = found-first from mid r low found (λ e. omega (arith, e, h)) in
+        passing-found
+        (passing-over r (passing-begins from end (omega (arith, low, high))) (here .later) (omega (arith, h, high))
+        (λ k g l. none-before from mid k low g (omega (arith, l, found))))
+        (omega (arith, h, high)) (here .passes)
+
+    pub second-part : mid ≤ r → Passing from end mid
+    second-part h =
+        passing-over mid (passing-begins from end (omega (arith, low, high))) low high
+        (λ k g l. none-before from mid k low g (omega (arith, l, found, h)))
+
+-- two tests that agree on some numbers let the same of them pass
+pub passing-alike : (test other : ℕ → Bool) (i n : ℕ) → ((k : ℕ) → i ≤ k → k < i + n → test k ≡ other k) → passing test i n ≡ passing other i n
+unfolding passing
+passing-alike test other i zero alike = refl
+passing-alike test other i (suc n) alike =
+    by (tested (other i)) (passing-alike test other (suc i) n (λ k g h. alike k (omega (arith, g)) (omega (arith, h))))
+  where
+    by : Tested (other i) → passing test (suc i) n ≡ passing other (suc i) n → passing test i (suc n) ≡ passing other i (suc n)
+    by (passed e) later =
+        passing-hit test i n (alike i (omega arith) (omega arith) ∙ e) ∙ ap (λ (s : List ℕ). i ∷ s) later ∙ sym (passing-hit other i n e)
+    by (failed e) later = passing-miss test i n (alike i (omega arith) (omega arith) ∙ e) ∙ later ∙ sym (passing-miss other i n e)

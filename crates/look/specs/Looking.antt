@@ -13,6 +13,19 @@ use Rattle.look.specs.declared.leaf.Place.{Place}
 use Rattle.look.specs.declared.leaf.Sought.{Sought}
 use Rattle.look.specs.declared.leaf.Sought.the-variants.{At, Empty, NotThere}
 
+-- the kinds that a report of results is made of, by number (S1): H, P, OBR and OBX
+abbrev pub headerKind : ℕ
+headerKind = 1
+
+abbrev pub patientKind : ℕ
+patientKind = 2
+
+abbrev pub orderKind : ℕ
+orderKind = 5
+
+abbrev pub resultKind : ℕ
+resultKind = 6
+
 -- the five numbers of a place (S5)
 unfoldable pub numbersOf : Place → List ℕ
 numbersOf p = p .segment ∷ p .field ∷ p .repetition ∷ p .subfield ∷ p .subsubfield ∷ []
@@ -62,9 +75,9 @@ segmentsFit rows count = leb (count * segmentRowSize) (length rows)
 unfoldable pub hasKindAndOwner : List ℕ → ℕ → ℕ → ℕ → Bool
 hasKindAndOwner rows kind owner i = eqb (kindIn rows i) kind && eqb (ownerIn rows i) owner
 
--- whether a row is an OBR, kind 5 (S1), and one of the counted rows, which the segment rows all hold
+-- whether a row is an OBR and one of the counted rows, which the segment rows all hold
 unfoldable pub isOrder : List ℕ → ℕ → ℕ → Bool
-isOrder rows count row = segmentsFit rows count && leb 1 row && leb row count && eqb (kindIn rows (row - 1)) 5
+isOrder rows count row = segmentsFit rows count && leb 1 row && leb row count && eqb (kindIn rows (row - 1)) orderKind
 
 -- the place of leaf 9.4.2 of a row (S5)
 unfoldable pub orderPlace : ℕ → Place

@@ -2,3 +2,4 @@ pub mod LentRows
 pub mod LentLeaves
 pub mod LentOwners
 pub mod PassedTables
+pub mod NamedLeaves

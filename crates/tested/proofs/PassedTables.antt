@@ -19,7 +19,7 @@ use Rattle.write.specs.inner.ReadsBack.{isTable}
 use Rattle.write.specs.Writing.{ReadTo}
 use Rattle.write.proofs.LentTables.{table-within, is-table, is-table-rows}
 use Rattle.look.proofs.SameAnswer.{table-answer}
-use Rattle.tested.specs.inner.Owned.{Owned}
+use Rattle.tested.specs.inner.KnownOwners.{KnownOwners}
 use Rattle.tested.specs.inner.Searchable.{Searchable}
 use Rattle.tested.proofs.LentLeaves.{text-taken, first-leaf, last-leaf, named-leaf}
 use Rattle.tested.proofs.LentOwners.{nearest-lent, none-lower-lent}
@@ -50,7 +50,7 @@ module _ (L : Limits) (lawful : Lawful L) (levels : ℕ → ℕ → ℕ) (t : Le
       }
 
 -- by the levels in force it is known who owns whom
-pub owned : (L : Limits) (lawful : Lawful L) (t : Lent) → isTable L level t ≡ true → Owned t
-owned L lawful t passes =
+pub known-owners : (L : Limits) (lawful : Lawful L) (t : Lent) → isTable L level t ≡ true → KnownOwners t
+known-owners L lawful t passes =
     let w = read-to L lawful level t passes .1 in
     record { nearest = nearest-lent t (w .segments); none-lower = none-lower-lent t (w .segments) }

@@ -3,9 +3,8 @@
 use mathlib.Core.Bool.{true, false, _&&_}
 use mathlib.Core.List.{List, [], _∷_}
 use mathlib.Core.Path.{_≡_, refl, sym, ap, _∙_}
-use Prim.Native.Nat.{ℕ, _+_, _*_, _-_, _≤_, _<_}
+use Prim.Native.Nat.{ℕ, _+_, _-_, _≤_, _<_}
 use native.Mathlib.Omega.{arith}
-use native.Mathlib.Numerals.{add-one}
 use borrow.Author.Tests.{eqb-true, eq-eqb, ne-eqb}
 use lib.Dec.{eqb}
 use lib.ListN.{length, getD, take, drop}
@@ -16,14 +15,13 @@ use Rattle.laws.proofs.Lists.{different-same}
 use Rattle.laws.proofs.Passing.{passing-behind}
 use Rattle.laws.proofs.Tests.{Tested, passed, failed, tested, and-first, and-second, and-both, and-passed, and-fails-first, and-fails-second}
 use Rattle.table.specs.Lent.{Lent}
-use Rattle.table.specs.Rows.{segmentRowSize, kindIn, ownerIn}
-use Rattle.table.proofs.Lent.{segments-within}
+use Rattle.table.specs.Rows.{kindIn, ownerIn}
 use Rattle.look.specs.declared.leaf.Sought.{Sought}
 use Rattle.look.specs.declared.leaf.Sought.the-variants.{At, Empty, NotThere}
 use Rattle.look.specs.Looking.{leafNamed, saysText, hasKindAndOwner}
 use Rattle.look.specs.inner.Searching.{soughtIn, soughtInSegment}
-use Rattle.look.proofs.Seeking.{found-within}
 use Rattle.tested.specs.inner.Searchable.{Searchable}
+use Rattle.tested.proofs.NamedLeaves.{sought-named, named-inside}
 use Rattle.value.specs.Results.{typeField, numericType, typePlace, isNumeric, numericRows}
 use Rattle.value.specs.inner.Seeking.{OrderRows}
 
@@ -107,23 +105,15 @@ module _ (t : Lent) (order i : ℕ) where
       (and-second (eqb (kindIn (t .segmentRows) i) 6) (eqb (ownerIn (t .segmentRows) i) order)
       (and-first (eqb (kindIn (t .segmentRows) i) 6 && eqb (ownerIn (t .segmentRows) i) order) (saysText (t .text) numericType typeSought) e))
 
--- the place of a type, with its segment as the code counts it
-pub type-place : (i : ℕ) → leafNamed (i + 1) typeField 1 ≡ typePlace i
-unfolding typePlace
-type-place i = ap (λ (n : ℕ). leafNamed n typeField 1) (add-one i)
+-- the type that is found within the segment is the one that is sought, and lies within the text
+module _ (t : Lent) (i : ℕ) where
+  pub type-sought : Searchable t → {s : Sought} → s ≡ soughtInSegment t (leafNamed (i + 1) typeField 1) → s ≡ soughtIn t (typePlace i)
+  unfolding typePlace
+  type-sought table = sought-named t i typeField 1 table
 
--- the type that is found within the segment is the one that is sought
-pub type-sought : (t : Lent) (table : Searchable t) (i : ℕ) {s : Sought}
-    → s ≡ soughtInSegment t (leafNamed (i + 1) typeField 1) → s ≡ soughtIn t (typePlace i)
-type-sought t table i e = e ∙ ap (soughtInSegment t) (type-place i) ∙ table .same (typePlace i)
-
--- a counted row lies within its buffer, and a type that is found within the text
-pub row-inside : (t : Lent) → Searchable t → (i : ℕ) → i < t .card .segments → i * segmentRowSize + segmentRowSize ≤ length (t .segmentRows)
-row-inside t table i h =
-    omega (arith, h, segments-within (t .card) (length (t .segmentRows)) (length (t .leafRows)) (length (t .text)) (table .within))
-
-pub type-inside : (t : Lent) (i start n : ℕ) → At start n ≡ soughtIn t (typePlace i) → start + n ≤ length (t .text)
-type-inside t i start n e = found-within t (typePlace i) start n (sym e)
+  pub type-inside : (start n : ℕ) → At start n ≡ soughtIn t (typePlace i) → start + n ≤ length (t .text)
+  unfolding typePlace
+  type-inside = named-inside t i typeField 1
 
 -- the results of an order
 module _ (t : Lent) (order : ℕ) (rows : OrderRows t order) where

@@ -16,7 +16,7 @@ use Rattle.table.specs.Lent.{Lent}
 use Rattle.table.specs.Rows.{placeIn, startIn, lengthIn}
 use Rattle.write.specs.inner.ReadsBack.{isTable}
 use Rattle.look.specs.declared.leaf.Place.{Place}
-use Rattle.look.specs.Looking.{leafNamed, saysText, hasKindAndOwner, orderAt}
+use Rattle.look.specs.Looking.{resultKind, leafNamed, saysText, hasKindAndOwner, orderAt}
 use Rattle.look.specs.inner.Searching.{soughtIn}
 use Rattle.value.specs.declared.reading.Value.{Value}
 use Rattle.value.specs.declared.results.ValuesRead.{ValuesRead}
@@ -24,10 +24,7 @@ use Rattle.value.specs.Refusals.{notANumber, notAnOrder, littleRoom}
 use Rattle.value.specs.Numerals.{saysNone}
 use Rattle.value.specs.Values.{withSign, valueOf}
 
--- the kind of a result, OBX (S1), and the fields that have its type and its value, 10.3 and 10.6 (S5)
-abbrev pub resultKind : ℕ
-resultKind = 6
-
+-- the fields of a result that have its type and its value, 10.3 and 10.6 (S5)
 abbrev pub typeField : ℕ
 typeField = 3
 

@@ -13,8 +13,9 @@ use Rattle.table.specs.Rows.{segmentRowSize}
 use Rattle.look.specs.declared.leaf.Sought.the-variants.{At}
 use Rattle.look.specs.inner.Searching.{soughtIn}
 use Rattle.look.proofs.TextParts.{part-long}
+use Rattle.tested.proofs.NamedLeaves.{row-inside}
 use Rattle.value.specs.Results.{numericType, typePlace}
-use Rattle.value.proofs.NumericRows.{other-kind, other-owner, type-there, type-empty, type-missing, type-sought, row-inside, type-inside}
+use Rattle.value.proofs.NumericRows.{other-kind, other-owner, type-there, type-empty, type-missing, type-sought, type-inside}
 use Rattle.value.proofs.result.is_numeric.Statement.{statement}
 use Rattle.value.proofs.result.is_numeric.Tie as tie
 
@@ -30,7 +31,7 @@ abbrev start-of : tie.After-find-leaf-in-segment → tie.Start
 start-of c = c .before .before .before .before .before .before .before .before
 
 sought-here : (c : tie.After-find-leaf-in-segment) → c .find-leaf-in-segment .result ≡ soughtIn (lent-here (start-of c)) (typePlace (start-of c .args .row))
-sought-here c = type-sought (lent-here (start-of c)) (start-of c .pre .table) (start-of c .args .row) (c .find-leaf-in-segment .ensures)
+sought-here c = type-sought (lent-here (start-of c)) (start-of c .args .row) (start-of c .pre .table) (c .find-leaf-in-segment .ensures)
 
 -- a type is there, within the text
 found : (c : tie.After-start) → At (c .start .given .0 .0) (c .start .given .0 .1 .0)

@@ -8,8 +8,8 @@ use borrow.Author.Needs.{needs}
 use lib.ListN.{length}
 use Rattle.table.specs.Lent.{Lent, lent}
 use Rattle.table.specs.Rows.{segmentRowSize}
+use Rattle.tested.proofs.NamedLeaves.{row-inside}
 use Rattle.value.specs.Numerals.{mostDigits}
-use Rattle.value.proofs.NumericRows.{row-inside}
 use Rattle.value.proofs.FieldLeaves.{rows-searched, none-found, one-before, rows-behind, leaf-inside, more-found, one-found}
 use Rattle.value.proofs.result.result_of.Statement.{statement}
 use Rattle.value.proofs.result.result_of.Tie as tie

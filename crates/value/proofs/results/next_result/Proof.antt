@@ -9,8 +9,9 @@ use lib.ListN.{length}
 use Rattle.laws.proofs.Passing.{Passing, passing-begins, passing-found, passing-on, passing-ends, passing-done}
 use Rattle.table.specs.Lent.{Lent, lent}
 use Rattle.table.specs.Rows.{segmentRowSize}
+use Rattle.tested.proofs.NamedLeaves.{row-inside}
 use Rattle.value.specs.Results.{isNumeric}
-use Rattle.value.proofs.NumericRows.{row-inside, none-behind}
+use Rattle.value.proofs.NumericRows.{none-behind}
 use Rattle.value.proofs.results.next_result.Statement.{statement}
 use Rattle.value.proofs.results.next_result.Tie as tie
 
