@@ -1,0 +1,9 @@
+pub mod Letters
+pub mod RowCodes
+pub mod CodesCounted
+pub mod Patients
+pub mod RuleNumbers
+pub mod LowestRule
+pub mod CodeRules
+pub mod ValueRules
+pub mod Screened

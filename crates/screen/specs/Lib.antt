@@ -1,0 +1,5 @@
+pub mod Refusals
+pub mod Rules
+pub mod Meeting
+pub mod Verdicts
+pub mod inner
