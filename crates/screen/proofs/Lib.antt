@@ -1,4 +1,5 @@
 pub mod Letters
+pub mod LeafTexts
 pub mod RowCodes
 pub mod CodesCounted
 pub mod Patients
@@ -7,3 +8,10 @@ pub mod LowestRule
 pub mod CodeRules
 pub mod ValueRules
 pub mod Screened
+pub mod ExactlyOne
+pub mod RuleMeanings
+pub mod VerdictCases
+pub mod Promises
+pub mod Examples
+pub mod ShutOut
+pub mod OnlyOne

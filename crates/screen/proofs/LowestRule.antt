@@ -122,7 +122,7 @@ module _ (t : Lent) where
         by n g l m v (inl e) = ap (λ (j : ℕ). failsAt t j n) e ∙ kept-below n g (omega (arith, l, h))
         by n g l m v (inr e) = w .none-lower n g l m (omega (arith, v, e))
 
-  rule-count : length rules ≡ pastRules - firstRule
+  pub rule-count : length rules ≡ pastRules - firstRule
   unfolding rules wantedFields codes valueRules
   rule-count = refl
 

@@ -65,7 +65,7 @@ module _ (t : Lent) (report : Report t) where
       )
 
   -- the patient of a result is the nearest one before it
-  result-patient : (i : ℕ) → i < t .card .segments → kindAt i ≡ resultKind → NearestOf patientKind kindAt i (patientOf t i)
+  pub result-patient : (i : ℕ) → i < t .card .segments → kindAt i ≡ resultKind → NearestOf patientKind kindAt i (patientOf t i)
   result-patient i h e =
       let order = nearest-named resultKind 4 result-owner i h e in
       let patient = nearest-named orderKind 1 order-owner (ownerAt i - 1) (omega (arith, order .there, order .earlier, h)) (order .of-kind) in

@@ -23,6 +23,7 @@ use Rattle.look.specs.declared.leaf.Sought.the-variants.{At, Empty, NotThere}
 use Rattle.look.specs.Looking.{resultKind, saysText}
 use Rattle.screen.specs.Rules.{codes}
 use Rattle.screen.specs.Meeting.{hasKind, hasCode, soughtOf}
+use Rattle.screen.specs.inner.Rows.{textFound, textIn}
 use Rattle.screen.specs.inner.Counting.{codeCount, codeNamed, firstCode, codeOf, codeIn}
 
 -- which code a text is: the codes are tried in turn
@@ -78,6 +79,13 @@ sought-code text (At start n) k h = same-code (take n (drop start text)) k h
 sought-code text Empty k h = sym (ne-eqb codeCount k (λ q. omega (arith, q, h)))
 sought-code text NotThere k h = sym (ne-eqb codeCount k (λ q. omega (arith, q, h)))
 
+-- the same by the text that was found
+found-text : (text : List ℕ) (s : Sought) → codeOf (textFound text s) ≡ firstCode (λ k. saysText text (codeNamed k) s)
+unfolding codeOf textFound saysText passing same codes bytes
+found-text text (At start n) = refl
+found-text text Empty = refl
+found-text text NotThere = refl
+
 -- the code of a row
 module _ (t : Lent) (i : ℕ) where
   pub no-result : (kindIn (t .segmentRows) i ≡ resultKind → ⊥) → codeCount ≡ codeIn t i
@@ -94,17 +102,8 @@ module _ (t : Lent) (i : ℕ) where
         ap (λ (s : Sought). firstCode (λ k. saysText (t .text) (codeNamed k) s)) e
         ∙ sym (rw (eq-eqb (kindIn (t .segmentRows) i) resultKind kind, codeIn))
 
-    pub code-there : (start n : ℕ) → At start n ≡ sought → codeOf (take n (drop start (t .text))) ≡ codeIn t i
-    unfolding codeOf saysText
-    code-there start n e = by-sought e
-
-    pub code-empty : Empty ≡ sought → codeCount ≡ codeIn t i
-    unfolding saysText passing
-    code-empty e = by-sought e
-
-    pub code-missing : NotThere ≡ sought → codeCount ≡ codeIn t i
-    unfolding saysText passing
-    code-missing e = by-sought e
+    pub code-text : codeOf (textIn t i 4 1) ≡ codeIn t i
+    code-text = found-text (t .text) sought ∙ by-sought refl
 
     -- it has a code exactly where that is the one it is found to have
     pub row-code : (k : ℕ) → k < codeCount → hasCode t (codeNamed k) i ≡ eqb (codeIn t i) k

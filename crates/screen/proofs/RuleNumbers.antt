@@ -16,7 +16,7 @@ use Rattle.table.specs.Rows.{kindIn}
 use Rattle.look.specs.Looking.{patientKind, resultKind}
 use Rattle.screen.specs.declared.wanted.Field.{Field}
 use Rattle.screen.specs.Refusals.{firstRule}
-use Rattle.screen.specs.Rules.{About, withCode, inSystem, Rule, wants, once, takes, fieldOf, wantedFields, codes, valueRules, rules}
+use Rattle.screen.specs.Rules.{About, withCode, inSystem, Rule, wants, once, takes, wantedIn, wantedFields, codes, valueRules, rules}
 use Rattle.screen.specs.Meeting.{hasKind, soughtOf, hasText, saysLetter, countUnder, isAbout, fails}
 use Rattle.screen.specs.inner.Rows.{firstCodeRule, firstValueRule, pastRules, ruleNumbered, failsAt, firstFailed}
 use Rattle.laws.proofs.Passing.{passing-over}
@@ -24,7 +24,7 @@ use Rattle.screen.specs.inner.Counting.{codeCount, codeNamed}
 
 -- the k-th field, counted from 0, and the rules by their numbers
 abbrev pub fieldNamed : ℕ → Field
-fieldNamed k = getD wantedFields k (fieldOf 0 0 0)
+fieldNamed k = getD wantedFields k (wantedIn 0 0 0)
 
 abbrev pub fieldCount : ℕ
 fieldCount = 8

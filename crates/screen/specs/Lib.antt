@@ -3,3 +3,5 @@ pub mod Rules
 pub mod Meeting
 pub mod Verdicts
 pub mod inner
+pub mod Promises
+pub mod Examples

@@ -20,20 +20,20 @@ pub data Rule : Type 0 where
   takes : About → (letters : List ℕ) → Rule
 
 -- a field by the kind of its segments and its name there (S5)
-abbrev pub fieldOf : (kind field subfield : ℕ) → Field
-fieldOf kind field subfield = record { kind = kind; field = field; subfield = subfield }
+abbrev pub wantedIn : (kind field subfield : ℕ) → Field
+wantedIn kind field subfield = record { kind = kind; field = field; subfield = subfield }
 
 -- the fields that have a text (R1)
 unfoldable pub wantedFields : List Field
 wantedFields =
-    fieldOf patientKind 6 1  -- 8.6.1, the name in use
-    ∷ fieldOf patientKind 6 2  -- 8.6.2, the first name
-    ∷ fieldOf patientKind 7 1  -- 8.7, the birth name
-    ∷ fieldOf patientKind 13 1  -- 8.13, the telephone
-    ∷ fieldOf patientKind 11 5  -- 8.11.5, the postal code
-    ∷ fieldOf orderKind 4 2  -- 9.4.2, the laboratory's number of the order
-    ∷ fieldOf orderKind 8 1  -- 9.8, when the sample was taken
-    ∷ fieldOf headerKind 5 1  -- 7.5.1, the laboratory
+    wantedIn patientKind 6 1  -- 8.6.1, the name in use
+    ∷ wantedIn patientKind 6 2  -- 8.6.2, the first name
+    ∷ wantedIn patientKind 7 1  -- 8.7, the birth name
+    ∷ wantedIn patientKind 13 1  -- 8.13, the telephone
+    ∷ wantedIn patientKind 11 5  -- 8.11.5, the postal code
+    ∷ wantedIn orderKind 4 2  -- 9.4.2, the laboratory's number of the order
+    ∷ wantedIn orderKind 8 1  -- 9.8, when the sample was taken
+    ∷ wantedIn headerKind 5 1  -- 7.5.1, the laboratory
     ∷ []
 
 -- the codes of the pseudo-analyses (R2): country, kind of residence, profession, place of the laboratory

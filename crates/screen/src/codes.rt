@@ -1,9 +1,8 @@
 // The codes of the pseudo-analyses (R2), and how many results of a patient have each.
-use crate::leaf::leaf_of;
+use crate::leaf::leaf_text;
 use crate::refusal::Refusal;
 use crate::rule::KEPT;
 use form::kind::Kind;
-use look::leaf::Sought;
 use look::text::same_bytes;
 use table::Card;
 use table::rows;
@@ -81,11 +80,7 @@ pub(crate) fn code_in(
     if segments[row * rows::SEGMENT_ROW] != Kind::OBX as rows::Entry {
         return CODES;
     }
-    match leaf_of(card, segments, leaves, text, row, 4, 1) {
-        Sought::At(start, length) => code_of(&text[start..start + length]),
-        Sought::Empty => CODES,
-        Sought::NotThere => CODES,
-    }
+    code_of(leaf_text(card, segments, leaves, text, row, 4, 1))
 }
 
 // Which of the codes, counted from 0, a text is; 4 where it is none.

@@ -1,5 +1,5 @@
 // The fields that must have a text (R1).
-use crate::leaf::is_filled;
+use crate::leaf::leaf_text;
 use crate::refusal::Refusal;
 use crate::wanted::FIELDS;
 use crate::wanted::WANTED;
@@ -30,7 +30,7 @@ pub(crate) fn first_unfilled(
         next += 1;
         let asked = wanted[rule];
         if asked.kind == kind {
-            if !is_filled(
+            let found = leaf_text(
                 card,
                 segments,
                 leaves,
@@ -38,7 +38,8 @@ pub(crate) fn first_unfilled(
                 row,
                 asked.field,
                 asked.subfield,
-            ) {
+            );
+            if found.len() == 0 {
                 return Refusal::NO_NAME + rule as u8;
             }
         }

@@ -1,4 +1,4 @@
-// The leaves of a row by their names (S5): whether one has a text, which text, which letter.
+// The leaves of a row by their names (S5): the text of one, whether it is a given text, whether it is a letter.
 use look::leaf::Place;
 use look::leaf::Sought;
 use look::text::same_bytes;
@@ -7,22 +7,22 @@ use table::rows;
 ghost use mathlib.Core.Path.{_≡_};
 ghost use Rattle.laws.specs.Lists.{among};
 ghost use Rattle.table.specs.Lent.{lent};
-ghost use Rattle.screen.specs.Meeting.{soughtOf, hasText, says, isLetter, saysLetter};
-ghost use Rattle.screen.specs.inner.Rows.{ReportRow};
+ghost use Rattle.screen.specs.Meeting.{says, isLetter};
+ghost use Rattle.screen.specs.inner.Rows.{textIn, ReportRow, AskedText};
 
-// The leaf of a segment row, counted from 0, by its field and subfield. It is sought among the row's own leaves, which in a table that some
-// message reads to gives what the lookup gives.
-pub(crate) fn leaf_of(
+// The text of a leaf of a segment row, counted from 0, by its field and subfield; no byte where the leaf is empty or not there. It is sought
+// among the row's own leaves, which in a table that some message reads to gives what the lookup gives.
+pub(crate) fn leaf_text<'a>(
     card: Card,
     segments: &[rows::Entry],
     leaves: &[rows::Entry],
-    text: &[u8],
+    text: &'a [u8],
     row: usize,
     field: rows::Entry,
     subfield: rows::Entry,
-) -> Sought
+) -> &'a [u8]
     requires { ⌜ ReportRow (lent card (now segments) (now leaves) (now text)) row ⌝ }
-    ensures { λ r. ⌜ r ≡ soughtOf (lent card (now (segments .entry)) (now (leaves .entry)) (now (text .entry))) row field subfield ⌝ }
+    ensures { λ r. ⌜ now r ≡ textIn (lent card (now (segments .entry)) (now (leaves .entry)) (now (text .entry))) row field subfield ⌝ }
 {
     let place = Place {
         segment: (row + 1) as rows::Entry,
@@ -31,30 +31,17 @@ pub(crate) fn leaf_of(
         subfield,
         subsubfield: 1,
     };
-    look::leaf::find_leaf_in_segment(card, segments, leaves, text, place)
-}
-
-// Whether a leaf is there and not empty.
-pub(crate) fn is_filled(
-    card: Card,
-    segments: &[rows::Entry],
-    leaves: &[rows::Entry],
-    text: &[u8],
-    row: usize,
-    field: rows::Entry,
-    subfield: rows::Entry,
-) -> bool
-    requires { ⌜ ReportRow (lent card (now segments) (now leaves) (now text)) row ⌝ }
-    ensures { λ r. ⌜ r ≡ hasText (soughtOf (lent card (now (segments .entry)) (now (leaves .entry)) (now (text .entry))) row field subfield) ⌝ }
-{
-    match leaf_of(card, segments, leaves, text, row, field, subfield) {
-        Sought::At(_, _) => true,
-        Sought::Empty => false,
-        Sought::NotThere => false,
+    match look::leaf::find_leaf_in_segment(card, segments, leaves, text, place) {
+        Sought::At(start, length) => {
+            let end = start + length;
+            &text[start..end]
+        }
+        Sought::Empty => &text[0..0],
+        Sought::NotThere => &text[0..0],
     }
 }
 
-// Whether a leaf is there with just this text.
+// Whether a leaf is there with just this text, which has a byte at least.
 pub(crate) fn leaf_says(
     card: Card,
     segments: &[rows::Entry],
@@ -65,39 +52,17 @@ pub(crate) fn leaf_says(
     subfield: rows::Entry,
     wanted: &[u8],
 ) -> bool
-    requires { ⌜ ReportRow (lent card (now segments) (now leaves) (now text)) row ⌝ }
+    requires { ⌜ AskedText (lent card (now segments) (now leaves) (now text)) row (now wanted) ⌝ }
     ensures { λ r. ⌜ r ≡ says (lent card (now (segments .entry)) (now (leaves .entry)) (now (text .entry))) row field subfield (now (wanted .entry)) ⌝ }
 {
-    match leaf_of(card, segments, leaves, text, row, field, subfield) {
-        Sought::At(start, length) => same_bytes(&text[start..start + length], wanted),
-        Sought::Empty => false,
-        Sought::NotThere => false,
-    }
-}
-
-// Whether a leaf is there with one of these letters.
-pub(crate) fn has_letter(
-    card: Card,
-    segments: &[rows::Entry],
-    leaves: &[rows::Entry],
-    text: &[u8],
-    row: usize,
-    field: rows::Entry,
-    subfield: rows::Entry,
-    letters: &[u8],
-) -> bool
-    requires { ⌜ ReportRow (lent card (now segments) (now leaves) (now text)) row ⌝ }
-    ensures { λ r. ⌜ r ≡ saysLetter (now (text .entry)) (now (letters .entry)) (soughtOf (lent card (now (segments .entry)) (now (leaves .entry)) (now (text .entry))) row field subfield) ⌝ }
-{
-    match leaf_of(card, segments, leaves, text, row, field, subfield) {
-        Sought::At(start, length) => is_letter(&text[start..start + length], letters),
-        Sought::Empty => false,
-        Sought::NotThere => false,
-    }
+    same_bytes(
+        leaf_text(card, segments, leaves, text, row, field, subfield),
+        wanted,
+    )
 }
 
 // Whether a text is one of these letters.
-fn is_letter(text: &[u8], letters: &[u8]) -> bool
+pub(crate) fn is_letter(text: &[u8], letters: &[u8]) -> bool
     ensures { λ r. ⌜ r ≡ isLetter (now (letters .entry)) (now (text .entry)) ⌝ }
 {
     if text.len() != 1 {

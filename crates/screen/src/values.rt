@@ -2,8 +2,9 @@
 use crate::codes::PROSS;
 use crate::codes::TYPOR;
 use crate::codes::code_in;
-use crate::leaf::has_letter;
+use crate::leaf::is_letter;
 use crate::leaf::leaf_says;
+use crate::leaf::leaf_text;
 use crate::refusal::Refusal;
 use crate::rule::KEPT;
 use table::Card;
@@ -58,7 +59,7 @@ fn misses(
     if !must {
         return false;
     }
-    !has_letter(card, segments, leaves, text, row, 6, 1, letters)
+    !is_letter(leaf_text(card, segments, leaves, text, row, 6, 1), letters)
 }
 
 // Whether a result is of type CE, 10.3, and its code is one of LOINC's: 10.4.3 or 10.4.6 is LN.

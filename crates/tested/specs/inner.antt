@@ -2,3 +2,4 @@
 -- theorem says what it means.
 pub mod KnownOwners
 pub mod Searchable
+pub mod Lending

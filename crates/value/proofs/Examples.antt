@@ -31,6 +31,7 @@ use Rattle.table.specs.inner.Back.{leafAt, leavesOf, separatorsAt, between, uns
 use Rattle.write.specs.inner.ReadsBack.{sameCard, sameTable, givesTable, readsBack, isTable}
 use Rattle.look.specs.Looking.{numbersOf, fits, saysText, hasKindAndOwner, isOrder, orderAt}
 use Rattle.look.specs.inner.Searching.{foundOf, soughtFrom, soughtBy}
+use Rattle.tested.specs.inner.Lending.{lentBy, cutShort}
 use Rattle.value.specs.declared.results.ValuesRead.{ValuesRead}
 use Rattle.value.specs.Numerals.{mostDigits, isDigit, allDigits, unsignedText, isNegative, areNumber, madeBy, saidBy, numeralOf}
 use Rattle.value.specs.Values.{signedOf, valueOf}
@@ -51,7 +52,7 @@ use Rattle.value.specs.Results.{
   numbersAfter,
   ReadValues,
 }
-use Rattle.value.specs.Examples.{sent, lentBy, sentTable, cutShort, firstOrder, secondOrder}
+use Rattle.value.specs.Examples.{sent, sentTable, firstOrder, secondOrder}
 use Rattle.value.proofs.ResultsRead.{length-values, no-table, no-order, little-room, all-given}
 
 -- some message reads to its table, and to the one that is cut short none; rows 3 and 14 are its orders, and rows 0, 4 and 17 are none

@@ -1,13 +1,14 @@
 -- A worked example of an order's numbers: a message, and the answers for its order by rule D6.
 -- Assumes nothing.
 use mathlib.Core.List.{List, [], _∷_}
-use Prim.Native.Nat.{ℕ, _-_}
+use Prim.Native.Nat.{ℕ}
 use lib.IntN.{ℤ, pos, negsuc}
 use Rattle.laws.specs.Texts.{bytes}
 use Rattle.form.specs.Limits.{form}
 use Rattle.order.specs.Owners.{level}
-use Rattle.table.specs.Reading.{Outcome, refused, accepted, stated, reading}
-use Rattle.table.specs.Lent.{Lent, lent}
+use Rattle.table.specs.Reading.{stated, reading}
+use Rattle.table.specs.Lent.{Lent}
+use Rattle.tested.specs.inner.Lending.{lentBy}
 use Rattle.value.specs.declared.reading.Value.{Value}
 
 -- an ORU with two orders, in rows 3 and 14. Under the first, in this order: a number; a text that is none; a result of type ST; a value of two subfields; no
@@ -17,17 +18,9 @@ sent =
     bytes
     "H|~^\\&|||LAB||ORU\rP|1\rOBR|1\rOBX|1|NM|GLY||1.2\rOBX|2|NM|GLY||<5\rOBX|3|ST|GLY||7\rOBX|4|NM|GLY||1~2\rOBX|5|NM|GLY\rC|1\rOBX|6|NM|GLY||-.52\rOBX|7|NM|GLY||\rOBX|8|NM|GLY||0000000000000001\rOBX|9|NM~X|GLY||3\rOBR|2\rOBX|1|NM|GLY||40\rL|1\r"
 
--- what an outcome files, lent; a refusal files nothing
-unfoldable pub lentBy : Outcome → Lent
-lentBy (refused number place) = lent (record { separator = 0; context = 0; segments = 0; leaves = 0; text = 0 }) [] [] []
-lentBy (accepted t) = lent (t .card) (t .segmentRows) (t .leafRows) (t .text)
-
+-- the table that it reads to
 unfoldable pub sentTable : Lent
 sentTable = lentBy (reading form level (stated form) sent)
-
--- the same with a card that counts one segment less, to which no message reads
-unfoldable pub cutShort : Lent → Lent
-cutShort t = record { card = record { separator = t .card .separator; context = t .card .context; segments = t .card .segments - 1; leaves = t .card .leaves; text = t .card .text }; segmentRows = t .segmentRows; leafRows = t .leafRows; text = t .text }
 
 -- a number, and that there is none: no number at all, or one of too many digits
 abbrev pub number : ℤ → ℕ → Value

@@ -1,20 +1,22 @@
 -- How a report is judged row by row, and what the functions that do so ask.
 -- Assumes nothing.
 use mathlib.Core.Bool.{Bool, true, false}
-use mathlib.Core.List.{[]}
+use mathlib.Core.List.{List, []}
 use mathlib.Core.Path.{_≡_}
-use Prim.Native.Nat.{ℕ, _-_, _<_}
+use Prim.Native.Nat.{ℕ, _-_, _≤_, _<_}
 use lib.Dec.{eqb}
-use lib.ListN.{getD}
+use lib.ListN.{length, getD, take, drop}
 use Rattle.laws.specs.Tables.{passing}
 use Rattle.table.specs.Lent.{Lent}
 use Rattle.table.specs.Rows.{kindIn}
+use Rattle.look.specs.declared.leaf.Sought.{Sought}
+use Rattle.look.specs.declared.leaf.Sought.the-variants.{At, Empty, NotThere}
 use Rattle.tested.specs.inner.Searchable.{Searchable}
 use Rattle.tested.specs.inner.KnownOwners.{KnownOwners}
 use Rattle.screen.specs.declared.Verdict.{Verdict}
 use Rattle.screen.specs.Refusals.{firstRule}
 use Rattle.screen.specs.Rules.{Rule, once, rules}
-use Rattle.screen.specs.Meeting.{fails}
+use Rattle.screen.specs.Meeting.{soughtOf, fails}
 use Rattle.screen.specs.Verdicts.{reportContext, yes}
 
 -- the numbers from which on the rules are those of codes, and those of values; and the one past all rules
@@ -43,6 +45,16 @@ firstFailed t i from end = getD (passing (failsAt t i) from (end - from)) 0 end
 unfoldable pub verdictAt : (number place : ℕ) → Verdict
 verdictAt number place = elim (eqb number pastRules) [ true ↦ yes | false ↦ record { number = number; place = place } ]
 
+-- the bytes that a lookup found in a text; none where the leaf is empty or not there
+unfoldable pub textFound : List ℕ → Sought → List ℕ
+textFound text (At start n) = take n (drop start text)
+textFound text Empty = []
+textFound text NotThere = []
+
+-- the text of a leaf of row i by its name (S5)
+abbrev pub textIn : Lent → (i field subfield : ℕ) → List ℕ
+textIn t i field subfield = textFound (t .text) (soughtOf t i field subfield)
+
 -- what is known of a table whose context is that of a report, once it passed the table test
 pub record Report (t : Lent) : Type 0 where
   pub table : Searchable t
@@ -54,7 +66,12 @@ pub record ReportRow (t : Lent) (i : ℕ) : Type 0 where
   pub report : Report t
   pub counts : i < t .card .segments
 
--- and of a kind
+-- and a text that one of its leaves may have: it has a byte at least
+pub record AskedText (t : Lent) (i : ℕ) (wanted : List ℕ) : Type 0 where
+  pub row : ReportRow t i
+  pub some : 1 ≤ length wanted
+
+-- the row, of a kind
 pub record RowOfKind (t : Lent) (i kind : ℕ) : Type 0 where
   pub row : ReportRow t i
   pub of-kind : kindIn (t .segmentRows) i ≡ kind

@@ -1,10 +1,9 @@
 -- `screen::fields::first_unfilled` meets its contract. The loop's invariant: the rules of the fields so far are kept. The measure is the fields that
 -- are left. Assumes nothing.
 use denote.Ref.{now}
-use mathlib.Core.Path.{sym, _∙_}
+use mathlib.Core.Path.{sym, ap, _∙_}
 use Prim.Native.Nat.{_+_, _*_, _-_, _≤_}
 use native.Mathlib.Omega.{arith}
-use borrow.Author.Tests.{not-true, not-false}
 use lib.ListN.{length}
 use Rattle.table.specs.Lent.{Lent, lent}
 use Rattle.table.specs.Rows.{segmentRowSize}
@@ -12,7 +11,8 @@ use Rattle.screen.specs.Refusals.{firstRule}
 use Rattle.screen.specs.Rules.{wantedFields}
 use Rattle.screen.specs.inner.Rows.{firstCodeRule}
 use Rattle.tested.proofs.NamedLeaves.{row-inside}
-use Rattle.screen.proofs.RuleNumbers.{RulesTried, other-kind, field-filled, field-unfilled, fields-begin, field-on, field-found, fields-done}
+use Rattle.screen.proofs.LeafTexts.{some-byte, no-byte}
+use Rattle.screen.proofs.RuleNumbers.{fieldNamed, RulesTried, other-kind, field-filled, field-unfilled, fields-begin, field-on, field-found, fields-done}
 use Rattle.screen.proofs.fields.first_unfilled.Statement.{statement}
 use Rattle.screen.proofs.fields.first_unfilled.Tie as tie
 
@@ -53,8 +53,8 @@ mul-asked c = omega arith
 array-copy-out-asked : tie.Need-array-copy-out-asked Inv-loop μ-loop
 array-copy-out-asked c = omega arith
 
-is-filled-requires : tie.Need-is-filled-requires Inv-loop μ-loop
-is-filled-requires c κs = start-of (c .before .before .before .before .before) .pre
+leaf-text-requires : tie.Need-leaf-text-requires Inv-loop μ-loop
+leaf-text-requires c κs = start-of (c .before .before .before .before .before) .pre
 
 cast-result : tie.Need-cast-result Inv-loop μ-loop
 cast-result c = omega arith
@@ -70,9 +70,10 @@ returns c =
     let turn = of-kind .before .before .before in
     let at-loop = turn .before in
     let start = start-of (at-loop .before) in
+    let field-at = fieldNamed (at-loop .loop .next) in
     field-found (lent-here start) (start .args .row) (at-loop .loop .inv) (turn .loop-test .taken)
     (field-unfilled (lent-here start) (start .args .row) (at-loop .loop .next) (turn .loop-test .taken) (of-kind .if1 .taken)
-    (sym (asked .is-filled .ensures) ∙ not-true (asked .is-filled .result) (c .if2 .taken)))
+    (no-byte (lent-here start) (start .args .row) (field-at .field) (field-at .subfield) (sym (ap length (asked .leaf-text .ensures)) ∙ c .if2 .taken)))
 
 loop-less : tie.Need-loop-less Inv-loop μ-loop
 loop-less c = omega arith
@@ -84,9 +85,10 @@ loop-again c =
     let turn = asked .before .before .before .before in
     let at-loop = turn .before in
     let start = start-of (at-loop .before) in
+    let field-at = fieldNamed (at-loop .loop .next) in
     field-on (lent-here start) (start .args .row) (at-loop .loop .inv) (turn .loop-test .taken)
     (field-filled (lent-here start) (start .args .row) (at-loop .loop .next) (turn .loop-test .taken)
-    (sym (asked .is-filled .ensures) ∙ not-false (asked .is-filled .result) (c .if2 .left)))
+    (some-byte (lent-here start) (start .args .row) (field-at .field) (field-at .subfield) (λ e. c .if2 .left (ap length (asked .leaf-text .ensures) ∙ e))))
 
 loop-less-2 : tie.Need-loop-less-2 Inv-loop μ-loop
 loop-less-2 c = omega arith
@@ -109,5 +111,5 @@ returns-2 c =
 pub first-unfilled-spec : {M : Type 1} → statement M
 first-unfilled-spec =
     tie.close
-    (tie.spec Inv-loop μ-loop mul-kind mul-kind-2 shared-slice-read-kind loop-holds add-next mul-asked array-copy-out-asked is-filled-requires cast-result add-result
+    (tie.spec Inv-loop μ-loop mul-kind mul-kind-2 shared-slice-read-kind loop-holds add-next mul-asked array-copy-out-asked leaf-text-requires cast-result add-result
     returns loop-less loop-again loop-less-2 loop-again-2 returns-2)

@@ -1,0 +1,112 @@
+-- Worked examples of verdicts (R1 to R5), as one list: a message by its lines, and what is said of it.
+-- Assumes nothing.
+use mathlib.Core.List.{List, [], _∷_, _++_, map}
+use Prim.Native.Nat.{ℕ}
+use Prim.Native.String.{String}
+use Rattle.laws.specs.Lists.{concat}
+use Rattle.laws.specs.Texts.{bytes}
+use Rattle.form.specs.Limits.{form}
+use Rattle.order.specs.Owners.{level}
+use Rattle.table.specs.Reading.{stated, reading}
+use Rattle.table.specs.Lent.{Lent}
+use Rattle.tested.specs.inner.Lending.{lentBy}
+
+-- the table of a message of lines, each ended by CR
+unfoldable pub filedLines : List String → Lent
+filedLines lines = lentBy (reading form level (stated form) (concat (map (λ (line : String). bytes line ++ (13 ∷ [])) lines)))
+
+-- lines as a report, an ORU, and as an ORM
+unfoldable pub asReport : List String → List String
+asReport lines = "H|~^\\&|||LAB||ORU" ∷ (lines ++ ("L|1" ∷ []))
+
+unfoldable pub asOrders : List String → List String
+asOrders lines = "H|~^\\&|||LAB||ORM" ∷ (lines ++ ("L|1" ∷ []))
+
+-- a patient with all fields, one with an empty 8.6.1, one without 8.11.5; an order; the first two pseudo-analyses, and the last two
+abbrev pub patientLine : String
+patientLine = "P|1||||A~B|C||||~~~~75001||06"
+
+abbrev pub namelessLine : String
+namelessLine = "P|1||||~B|C||||~~~~75001||06"
+
+abbrev pub placelessLine : String
+placelessLine = "P|1||||A~B|C||||||06"
+
+abbrev pub orderLine : String
+orderLine = "OBR|1||~D||||20230430"
+
+abbrev pub paysLine : String
+paysLine = "OBX|1|CE|PAYS||F"
+
+abbrev pub typorLine : String
+typorLine = "OBX|2|CE|TYPOR||I"
+
+abbrev pub lastLines : List String
+lastLines = "OBX|3|CE|PROSS||U" ∷ "OBX|4|ST|FINGE||9" ∷ []
+
+-- the lines of a patient: its own, an order, some results, and the last two pseudo-analyses; then more
+abbrev pub patientLines : (patient : String) (results more : List String) → List String
+patientLines patient results more = patient ∷ orderLine ∷ (results ++ (lastLines ++ more))
+
+abbrev pub soundLines : List String → List String
+soundLines more = patientLines patientLine (paysLine ∷ typorLine ∷ []) more
+
+-- with another value of TYPOR, and with one result more
+abbrev pub withResidence : String → List String
+withResidence typor = patientLines patientLine (paysLine ∷ typor ∷ []) []
+
+abbrev pub withResult : String → List String
+withResult result = soundLines (result ∷ [])
+
+-- two patients, each with the four; one of the four under a second order
+abbrev pub twoPatients : List String
+twoPatients = soundLines (soundLines [])
+
+abbrev pub underSecondOrder : List String
+underSecondOrder = patientLines patientLine (typorLine ∷ []) (orderLine ∷ paysLine ∷ [])
+
+-- two PAYS; two for one patient and none for the next; one and none
+abbrev pub twoPays : List String
+twoPays = patientLines patientLine (paysLine ∷ paysLine ∷ typorLine ∷ []) []
+
+abbrev pub twoAndNone : List String
+twoAndNone = patientLines patientLine (paysLine ∷ paysLine ∷ typorLine ∷ []) (patientLines patientLine (typorLine ∷ []) [])
+
+abbrev pub oneAndNone : List String
+oneAndNone = soundLines (patientLines patientLine (typorLine ∷ []) [])
+
+-- an empty 8.6.1; a patient without 8.11.5, and behind it one with an empty 8.6.1, whose rule is lower
+abbrev pub emptyName : List String
+emptyName = patientLines namelessLine (paysLine ∷ typorLine ∷ []) []
+
+abbrev pub lowerLater : List String
+lowerLater = patientLines placelessLine (paysLine ∷ typorLine ∷ []) (patientLines namelessLine (paysLine ∷ typorLine ∷ []) [])
+
+-- an example: the lines of a report, and the number and the place of its verdict
+pub record ScreenedLines : Type 0 where
+  pub lines : List String
+  pub number : ℕ
+  pub place : ℕ
+
+abbrev pub expects : (number place : ℕ) → List String → ScreenedLines
+expects number place lines = record { lines = lines; number = number; place = place }
+
+unfoldable pub verdictExamples : List ScreenedLines
+verdictExamples =
+    expects 0 0 (soundLines [])
+    ∷ expects 0 0 twoPatients
+    ∷ expects 0 0 underSecondOrder
+    ∷ expects 39 2 twoPays
+    ∷ expects 39 2 twoAndNone
+    ∷ expects 39 8 oneAndNone
+    ∷ expects 31 2 emptyName
+    ∷ expects 31 8 lowerLater
+    -- a value of TYPOR that is another letter, two letters, or empty
+    ∷ expects 43 5 (withResidence "OBX|2|CE|TYPOR||X")
+    ∷ expects 43 5 (withResidence "OBX|2|CE|TYPOR||IH")
+    ∷ expects 43 5 (withResidence "OBX|2|CE|TYPOR||")
+    -- a result by LOINC, told in 10.4.3 or in 10.4.6, with another letter than the four; of another type than CE it may have any value
+    ∷ expects 45 8 (withResult "OBX|5|CE|1~x~LN||Q")
+    ∷ expects 45 8 (withResult "OBX|5|CE|G~x~L~1~y~LN||Q")
+    ∷ expects 0 0 (withResult "OBX|5|ST|1~x~LN||Q")
+    ∷ []
