@@ -14,7 +14,7 @@ use Rattle.look.specs.declared.leaf.Sought.the-variants.{At, Empty, NotThere}
 use Rattle.look.specs.Looking.{leafNamed, saysText}
 use Rattle.look.proofs.FirstMatch.{finds-exactly}
 use Rattle.tested.proofs.NamedLeaves.{named-inside}
-use Rattle.screen.specs.Meeting.{soughtOf, hasText, isLetter, saysLetter, says}
+use Rattle.screen.specs.Meeting.{soughtOf, hasText, isLetter, saysLetter, leafIs}
 use Rattle.screen.specs.inner.Rows.{textFound, textIn}
 
 -- a text of a byte or more
@@ -33,7 +33,7 @@ letter-says text letters Empty = refl
 letter-says text letters NotThere = refl
 
 module _ (t : Lent) (i field subfield : ℕ) where
-  pub leaf-says : (wanted : List ℕ) → 1 ≤ length wanted → same (textIn t i field subfield) wanted ≡ says t i field subfield wanted
+  pub leaf-says : (wanted : List ℕ) → 1 ≤ length wanted → same (textIn t i field subfield) wanted ≡ leafIs t i field subfield wanted
   leaf-says wanted = text-says (t .text) wanted (soughtOf t i field subfield)
 
   pub leaf-letter : (letters : List ℕ) → isLetter letters (textIn t i field subfield) ≡ saysLetter (t .text) letters (soughtOf t i field subfield)

@@ -17,7 +17,7 @@ use Rattle.look.specs.declared.leaf.Sought.{Sought}
 use Rattle.look.specs.declared.leaf.Sought.the-variants.{At, Empty, NotThere}
 use Rattle.look.specs.Looking.{patientKind, resultKind, leafNamed, saysText}
 use Rattle.look.proofs.FirstMatch.{finds-exactly}
-use Rattle.screen.specs.Meeting.{hasKind, soughtOf, hasText, isLetter, saysLetter, says, hasCode, patientOf, codedUnder, countUnder, isAbout, fails}
+use Rattle.screen.specs.Meeting.{hasKind, soughtOf, hasText, isLetter, saysLetter, leafIs, hasCode, patientOf, codedUnder, countUnder, isAbout, fails}
 use Rattle.screen.specs.Promises.{FoundText, CodedResult, RulesMean}
 use Rattle.screen.proofs.ExactlyOne.{one-passes, passes-once}
 
@@ -57,7 +57,7 @@ module _ (t : Lent) (i field subfield : ℕ) where
   unfolding hasText
   text-had w = ap hasText (sym (sought-at w))
 
-  says-found : (wanted : List ℕ) → says t i field subfield wanted ≡ true → FoundText t i field subfield wanted
+  says-found : (wanted : List ℕ) → leafIs t i field subfield wanted ≡ true → FoundText t i field subfield wanted
   unfolding saysText
   says-found wanted = by (soughtOf t i field subfield) refl
     where
@@ -72,7 +72,7 @@ module _ (t : Lent) (i field subfield : ℕ) where
       by Empty e h = absurd (never-both h refl)
       by NotThere e h = absurd (never-both h refl)
 
-  found-says : {wanted : List ℕ} → FoundText t i field subfield wanted → says t i field subfield wanted ≡ true
+  found-says : {wanted : List ℕ} → FoundText t i field subfield wanted → leafIs t i field subfield wanted ≡ true
   unfolding saysText
   found-says {wanted} w =
       ap (saysText (t .text) wanted) (sym (sought-at w)) ∙ ap (λ (s : List ℕ). same s wanted) (w .same) ∙ same-self wanted
@@ -166,17 +166,17 @@ rules-mean t =
       about-code = λ code i. (says-found t i 4 1 code, found-says t i 4 1);
       about-system = λ type system i. (
         λ h. (
-          says-found t i 3 1 type (and-first (says t i 3 1 type) (says t i 4 3 system || says t i 4 6 system) h),
-          by-system i system (or-cases (says t i 4 3 system) (says t i 4 6 system) (and-second (says t i 3 1 type) (says t i 4 3 system || says t i 4 6 system) h)),
+          says-found t i 3 1 type (and-first (leafIs t i 3 1 type) (leafIs t i 4 3 system || leafIs t i 4 6 system) h),
+          by-system i system (or-cases (leafIs t i 4 3 system) (leafIs t i 4 6 system) (and-second (leafIs t i 3 1 type) (leafIs t i 4 3 system || leafIs t i 4 6 system) h)),
         ),
         λ w. and-both (found-says t i 3 1 (w .0)) (either-system i system (w .1)),
       );
     }
   where
-    by-system : (i : ℕ) (system : List ℕ) → (says t i 4 3 system ≡ true) ⊎ (says t i 4 6 system ≡ true) → FoundText t i 4 3 system ⊎ FoundText t i 4 6 system
+    by-system : (i : ℕ) (system : List ℕ) → (leafIs t i 4 3 system ≡ true) ⊎ (leafIs t i 4 6 system ≡ true) → FoundText t i 4 3 system ⊎ FoundText t i 4 6 system
     by-system i system (inl h) = inl (says-found t i 4 3 system h)
     by-system i system (inr h) = inr (says-found t i 4 6 system h)
 
-    either-system : (i : ℕ) (system : List ℕ) → FoundText t i 4 3 system ⊎ FoundText t i 4 6 system → (says t i 4 3 system || says t i 4 6 system) ≡ true
-    either-system i system (inl w) = or-first (says t i 4 6 system) (found-says t i 4 3 w)
-    either-system i system (inr w) = or-second (says t i 4 3 system) (found-says t i 4 6 w)
+    either-system : (i : ℕ) (system : List ℕ) → FoundText t i 4 3 system ⊎ FoundText t i 4 6 system → (leafIs t i 4 3 system || leafIs t i 4 6 system) ≡ true
+    either-system i system (inl w) = or-first (leafIs t i 4 6 system) (found-says t i 4 3 w)
+    either-system i system (inr w) = or-second (leafIs t i 4 3 system) (found-says t i 4 6 w)

@@ -42,12 +42,12 @@ saysLetter text letters Empty = false
 saysLetter text letters NotThere = false
 
 -- whether a leaf of row i is there with just this text
-abbrev pub says : Lent → (i field subfield : ℕ) → (wanted : List ℕ) → Bool
-says t i field subfield wanted = saysText (t .text) wanted (soughtOf t i field subfield)
+abbrev pub leafIs : Lent → (i field subfield : ℕ) → (wanted : List ℕ) → Bool
+leafIs t i field subfield wanted = saysText (t .text) wanted (soughtOf t i field subfield)
 
 -- whether the code of row i, 10.4.1, is this one
 abbrev pub hasCode : Lent → (code : List ℕ) → ℕ → Bool
-hasCode t code i = says t i 4 1 code
+hasCode t code i = leafIs t i 4 1 code
 
 -- the row of the patient that result i belongs to: the owner of its order (O5)
 abbrev pub patientOf : Lent → ℕ → ℕ
@@ -64,7 +64,7 @@ countUnder t patient code = length (passing (codedUnder t patient code) 0 (t .ca
 -- whether a rule of values is about result i: by its code; or by its type, 10.3, and the system of its code, 10.4.3 or 10.4.6
 unfoldable pub isAbout : Lent → About → ℕ → Bool
 isAbout t (withCode code) i = hasCode t code i
-isAbout t (inSystem type system) i = says t i 3 1 type && (says t i 4 3 system || says t i 4 6 system)
+isAbout t (inSystem type system) i = leafIs t i 3 1 type && (leafIs t i 4 3 system || leafIs t i 4 6 system)
 
 -- whether row i fails a rule; the value of a result is 10.6.1
 unfoldable pub fails : Lent → Rule → ℕ → Bool

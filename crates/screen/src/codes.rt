@@ -12,13 +12,20 @@ ghost use Rattle.look.specs.Looking.{patientKind};
 ghost use Rattle.screen.specs.inner.Rows.{firstCodeRule, pastRules, firstFailed, ReportRow, RowOfKind};
 ghost use Rattle.screen.specs.inner.Counting.{codeOf, codeIn, CodesCounted, CountedRows};
 
-// How many codes there are.
+// How many codes there are; a result with none of them counts as this one.
 const CODES: usize = 4;
 
-// Two of the codes, counted from 0, whose values a rule is about (R3).
+// The codes, counted from 0 in the order of their rules.
+const PAYS: usize = 0;
+
 pub(crate) const TYPOR: usize = 1;
 
 pub(crate) const PROSS: usize = 2;
+
+const FINGE: usize = 3;
+
+// The field of a result that has its code, 10.4.
+pub(crate) const CODE: rows::Entry = 4;
 
 // The first of the rules of codes that a patient's row, counted from 0, fails: not exactly one of its results has the code.
 pub(crate) fn first_miscounted(
@@ -80,7 +87,7 @@ pub(crate) fn code_in(
     if segments[row * rows::SEGMENT_ROW] != Kind::OBX as rows::Entry {
         return CODES;
     }
-    code_of(leaf_text(card, segments, leaves, text, row, 4, 1))
+    code_of(leaf_text(card, segments, leaves, text, row, CODE, 1))
 }
 
 // Which of the codes, counted from 0, a text is; 4 where it is none.
@@ -88,7 +95,7 @@ fn code_of(text: &[u8]) -> usize
     ensures { λ r. ⌜ r ≡ codeOf (now (text .entry)) ⌝ }
 {
     if same_bytes(text, b"PAYS") {
-        return 0;
+        return PAYS;
     }
     if same_bytes(text, b"TYPOR") {
         return TYPOR;
@@ -97,7 +104,7 @@ fn code_of(text: &[u8]) -> usize
         return PROSS;
     }
     if same_bytes(text, b"FINGE") {
-        return 3;
+        return FINGE;
     }
     CODES
 }

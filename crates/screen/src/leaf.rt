@@ -7,7 +7,7 @@ use table::rows;
 ghost use mathlib.Core.Path.{_≡_};
 ghost use Rattle.laws.specs.Lists.{among};
 ghost use Rattle.table.specs.Lent.{lent};
-ghost use Rattle.screen.specs.Meeting.{says, isLetter};
+ghost use Rattle.screen.specs.Meeting.{leafIs, isLetter};
 ghost use Rattle.screen.specs.inner.Rows.{textIn, ReportRow, AskedText};
 
 // The text of a leaf of a segment row, counted from 0, by its field and subfield; no byte where the leaf is empty or not there. It is sought
@@ -53,7 +53,7 @@ pub(crate) fn leaf_says(
     wanted: &[u8],
 ) -> bool
     requires { ⌜ AskedText (lent card (now segments) (now leaves) (now text)) row (now wanted) ⌝ }
-    ensures { λ r. ⌜ r ≡ says (lent card (now (segments .entry)) (now (leaves .entry)) (now (text .entry))) row field subfield (now (wanted .entry)) ⌝ }
+    ensures { λ r. ⌜ r ≡ leafIs (lent card (now (segments .entry)) (now (leaves .entry)) (now (text .entry))) row field subfield (now (wanted .entry)) ⌝ }
 {
     same_bytes(
         leaf_text(card, segments, leaves, text, row, field, subfield),

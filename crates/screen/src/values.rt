@@ -1,4 +1,5 @@
 // The values that results take (R3).
+use crate::codes::CODE;
 use crate::codes::PROSS;
 use crate::codes::TYPOR;
 use crate::codes::code_in;
@@ -9,14 +10,18 @@ use crate::refusal::Refusal;
 use crate::rule::KEPT;
 use table::Card;
 use table::rows;
-ghost use mathlib.Core.Bool.{not, _&&_};
 ghost use mathlib.Core.Path.{_≡_};
 ghost use Rattle.laws.specs.Texts.{bytes};
 ghost use Rattle.table.specs.Lent.{lent};
 ghost use Rattle.look.specs.Looking.{resultKind};
 ghost use Rattle.screen.specs.Rules.{inSystem};
-ghost use Rattle.screen.specs.Meeting.{soughtOf, saysLetter, isAbout};
-ghost use Rattle.screen.specs.inner.Rows.{firstCodeRule, pastRules, firstFailed, ReportRow, RowOfKind};
+ghost use Rattle.screen.specs.Meeting.{isAbout};
+ghost use Rattle.screen.specs.inner.Rows.{firstCodeRule, pastRules, firstFailed, missesLetter, ReportRow, RowOfKind};
+
+// The fields of a result that have its type, 10.3, and its value, 10.6.
+const TYPE: rows::Entry = 3;
+
+const VALUE: rows::Entry = 6;
 
 // The first of the rules of values that a result's row, counted from 0, fails: its value is none that it may take.
 pub(crate) fn first_misvalued(
@@ -54,12 +59,15 @@ fn misses(
     letters: &[u8],
 ) -> bool
     requires { ⌜ ReportRow (lent card (now segments) (now leaves) (now text)) row ⌝ }
-    ensures { λ r. ⌜ r ≡ (must && not (saysLetter (now (text .entry)) (now (letters .entry)) (soughtOf (lent card (now (segments .entry)) (now (leaves .entry)) (now (text .entry))) row 6 1))) ⌝ }
+    ensures { λ r. ⌜ r ≡ missesLetter (lent card (now (segments .entry)) (now (leaves .entry)) (now (text .entry))) row must (now (letters .entry)) ⌝ }
 {
     if !must {
         return false;
     }
-    !is_letter(leaf_text(card, segments, leaves, text, row, 6, 1), letters)
+    !is_letter(
+        leaf_text(card, segments, leaves, text, row, VALUE, 1),
+        letters,
+    )
 }
 
 // Whether a result is of type CE, 10.3, and its code is one of LOINC's: 10.4.3 or 10.4.6 is LN.
@@ -73,11 +81,11 @@ fn is_coded(
     requires { ⌜ ReportRow (lent card (now segments) (now leaves) (now text)) row ⌝ }
     ensures { λ r. ⌜ r ≡ isAbout (lent card (now (segments .entry)) (now (leaves .entry)) (now (text .entry))) (inSystem (bytes "CE") (bytes "LN")) row ⌝ }
 {
-    if !leaf_says(card, segments, leaves, text, row, 3, 1, b"CE") {
+    if !leaf_says(card, segments, leaves, text, row, TYPE, 1, b"CE") {
         return false;
     }
-    if leaf_says(card, segments, leaves, text, row, 4, 3, b"LN") {
+    if leaf_says(card, segments, leaves, text, row, CODE, 3, b"LN") {
         return true;
     }
-    leaf_says(card, segments, leaves, text, row, 4, 6, b"LN")
+    leaf_says(card, segments, leaves, text, row, CODE, 6, b"LN")
 }

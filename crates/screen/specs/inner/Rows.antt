@@ -1,6 +1,6 @@
 -- How a report is judged row by row, and what the functions that do so ask.
 -- Assumes nothing.
-use mathlib.Core.Bool.{Bool, true, false}
+use mathlib.Core.Bool.{Bool, true, false, not, _&&_}
 use mathlib.Core.List.{List, []}
 use mathlib.Core.Path.{_≡_}
 use Prim.Native.Nat.{ℕ, _-_, _≤_, _<_}
@@ -16,7 +16,7 @@ use Rattle.tested.specs.inner.KnownOwners.{KnownOwners}
 use Rattle.screen.specs.declared.Verdict.{Verdict}
 use Rattle.screen.specs.Refusals.{firstRule}
 use Rattle.screen.specs.Rules.{Rule, once, rules}
-use Rattle.screen.specs.Meeting.{soughtOf, fails}
+use Rattle.screen.specs.Meeting.{soughtOf, saysLetter, fails}
 use Rattle.screen.specs.Verdicts.{reportContext, yes}
 
 -- the numbers from which on the rules are those of codes, and those of values; and the one past all rules
@@ -54,6 +54,10 @@ textFound text NotThere = []
 -- the text of a leaf of row i by its name (S5)
 abbrev pub textIn : Lent → (i field subfield : ℕ) → List ℕ
 textIn t i field subfield = textFound (t .text) (soughtOf t i field subfield)
+
+-- whether result i must take one of these letters and does not
+abbrev pub missesLetter : Lent → (i : ℕ) (must : Bool) (letters : List ℕ) → Bool
+missesLetter t i must letters = must && not (saysLetter (t .text) letters (soughtOf t i 6 1))
 
 -- what is known of a table whose context is that of a report, once it passed the table test
 pub record Report (t : Lent) : Type 0 where

@@ -10,7 +10,7 @@ use borrow.Author.Tests.{not-true, not-false}
 use Rattle.laws.specs.Texts.{bytes}
 use Rattle.laws.proofs.Tests.{and-fails-first, and-passed, or-first}
 use Rattle.table.specs.Lent.{lent}
-use Rattle.screen.specs.Meeting.{says, isAbout}
+use Rattle.screen.specs.Meeting.{leafIs, isAbout}
 use Rattle.screen.proofs.values.is_coded.Statement.{statement}
 use Rattle.screen.proofs.values.is_coded.Tie as tie
 
@@ -21,7 +21,7 @@ start-of c = c .before .before .before .before .before
 abbrev says-here : tie.Start → (field subfield : ℕ) → List ℕ → Bool
 says-here c field subfield wanted =
     let a = c .args in
-    says (lent (a .card) (now (a .segments)) (now (a .leaves)) (now (a .text))) (a .row) field subfield wanted
+    leafIs (lent (a .card) (now (a .segments)) (now (a .leaves)) (now (a .text))) (a .row) field subfield wanted
 
 -- the type is CE
 typed : (c : tie.Else1) → says-here (start-of (c .before)) 3 1 (bytes "CE") ≡ true
