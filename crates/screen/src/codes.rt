@@ -56,7 +56,7 @@ fn count_codes(
     leaves: &[rows::Entry],
     text: &[u8],
     from: usize,
-) -> [usize; 5]
+) -> [usize; CODES + 1]
     requires { ⌜ CountedRows (lent card (now segments) (now leaves) (now text)) from ⌝ }
     ensures { λ r. ⌜ CodesCounted (lent card (now (segments .entry)) (now (leaves .entry)) (now (text .entry))) from r ⌝ }
 {
