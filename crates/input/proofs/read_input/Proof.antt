@@ -1,4 +1,4 @@
--- `list::input::read_input` meets its contract. The loop's invariant: the bytes that came lie within the buffer, whose length stays.
+-- `input::read_input` meets its contract. The loop's invariant: the bytes that came lie within the buffer, whose length stays.
 -- The measure is the room that is left. Assumes nothing.
 use mathlib.Core.Path.{_≡_, sym}
 use mathlib.Core.List.{List}
@@ -7,8 +7,8 @@ use lib.ListN.{length}
 use lib.Seq.{length-take-le}
 use borrow.Author.Needs.{needs}
 use Rattle.io.specs.Counts.{Counts}
-use Rattle.list.proofs.input.read_input.Statement.{statement}
-use Rattle.list.proofs.input.read_input.Tie as tie
+use Rattle.input.proofs.read_input.Statement.{statement}
+use Rattle.input.proofs.read_input.Tie as tie
 
 abbrev Inv-loop : tie.InvT-loop
 Inv-loop buffer₀ bytes₀ buffer bytes = (bytes ≤ length buffer) × (length buffer₀ ≡ length buffer)

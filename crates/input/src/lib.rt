@@ -1,15 +1,15 @@
-// Standard input, read to its end or as far as a buffer reaches, and a fault told apart from the end.
+// Standard input, read to its end or as far as a buffer reaches, and a fault told apart from the end: what the programs for one message share.
 use libc::STDIN_FILENO;
 ghost use Rattle.io.specs.Counts.{Counts};
 
 // How many bytes came, and whether every read went well.
-pub(crate) struct Input {
+pub struct Input {
     pub bytes: usize,
     pub sound: bool,
 }
 
 // Fills a buffer from standard input, until it is full, the input ends or a read fails.
-pub(crate) fn read_input(buffer: &mut [u8]) -> Input
+pub fn read_input(buffer: &mut [u8]) -> Input
     ensures { λ r. ⌜ Counts (r .bytes) (now (buffer .exit)) ⌝ }
 {
     let mut bytes = 0;
