@@ -6,7 +6,7 @@ mod leaf;
 pub mod refusal;
 mod rule;
 mod values;
-mod wanted;
+pub mod wanted;
 
 use crate::refusal::Refusal;
 use crate::rule::KEPT;

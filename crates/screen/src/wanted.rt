@@ -10,10 +10,10 @@ pub struct Field {
 }
 
 // How many there are.
-pub(crate) const FIELDS: usize = 8;
+pub const FIELDS: usize = 8;
 
 // The fields, in the order of their rules.
-pub(crate) const WANTED: [Field; FIELDS] = [
+pub const WANTED: [Field; FIELDS] = [
     // 8.6.1, the name in use
     Field {
         kind: Kind::P as Entry,
