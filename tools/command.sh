@@ -1,10 +1,10 @@
 # What the commands at the front of the repository share: bringing a file up to date, running a program, and the exit status.
-# A command sets `repository` to the repository's folder and reads this file. One around a program is then a single line,
+# A command sets `repository` to the repository's folder and reads this file. One around a program is then a single call,
 #
-#     answer_by PROGRAM 'What it does.' "$@"
+#     answer_by PROGRAM 'What it does.' '0 what that means, 1 what that means' 'EVERY-ANSWER' 'YES' "$@"
 #
-# A program has no exit status of its own. It prints a listing with a line answer=N, N being 0 where it accepts, and prints nothing where its
-# input could not be read; the command turns that into a status.
+# A program has no exit status of its own, and prints nothing where its input could not be read. The command turns what is printed into a status:
+# EVERY-ANSWER is a pattern (of grep -E) that some line of every answer fits, and YES one that a line fits where the status is 0.
 
 set -u
 name=$(basename "$0")
@@ -17,9 +17,9 @@ trouble() { # WHAT
 }
 
 # A command around a program, from its arguments to its status.
-answer_by() { # PROGRAM PURPOSE [ARGUMENT..]
-    program=$keep/$1 crate=$1 purpose=$2
-    shift 2
+answer_by() { # PROGRAM PURPOSE STATUSES EVERY-ANSWER YES [ARGUMENT..]
+    program=$keep/$1 crate=$1 purpose=$2 statuses=$3 every_answer=$4 yes=$5
+    shift 5
     if [ "${1:-}" = --help ]; then
         print_help 2>/dev/null && exit 0
         trouble "the help could not be written"
@@ -28,7 +28,7 @@ answer_by() { # PROGRAM PURPOSE [ARGUMENT..]
     (: 3>&1) 2>/dev/null || trouble "standard output is closed"
     if [ $# -eq 1 ]; then expect_file "$1"; else expect_input; fi
     bring_up_to_date "$program" "$repository/target/bin/$crate" check "$crate"
-    if [ $# -eq 1 ]; then listing=$({ run "$program" <"$1"; } 2>&1); else listing=$(run "$program" 2>&1); fi
+    if [ $# -eq 1 ]; then answer=$({ run "$program" <"$1"; } 2>&1); else answer=$(run "$program" 2>&1); fi
     tell $? "${1:-standard input}"
 }
 
@@ -39,7 +39,7 @@ usage: $name [FILE]
 $purpose
 FILE holds one message; where no file is named it comes on standard input.
 
-Exit status: 0 accepted, 1 refused, 2 trouble, which one line on standard error tells. Nothing is listed where the input could not be read.
+Exit status: $statuses, 2 trouble, which one line on standard error tells. Nothing is printed where the input could not be read.
 
 The program is built where it is missing or a source has changed since: that proves the library, which takes some minutes and needs the
 Rattle toolchain's command rt. Once it is built rt is not needed, but on Arm the toolchain's emulator is.
@@ -57,17 +57,21 @@ expect_input() {
     (: 3<&0) 2>/dev/null || trouble "standard input is closed"
 }
 
-# Writes a listing out and ends with the status of its answer. A program writes nothing to standard error, so what stands in the place
-# of a listing is what the system said of one that did not run.
+# Writes an answer out and ends with its status. A program writes nothing to standard error, so what stands in the place of an answer is
+# what the system said of one that did not run.
 tell() { # PROGRAM'S-STATUS INPUT
-    first=$(printf '%s\n' "$listing" | head -n 1)
+    first=$(printf '%s\n' "$answer" | head -n 1)
     [ "$1" -eq 0 ] || trouble "the program did not run (status $1): $first"
-    [ -n "$listing" ] || trouble "$2: could not be read"
-    answer=$(printf '%s\n' "$listing" | sed -n 's/^answer=//p')
-    [ -n "$answer" ] || trouble "the program gave no answer: $first"
-    printf '%s\n' "$listing" 2>/dev/null || trouble "the listing could not be written"
-    [ "$answer" = 0 ] || exit 1
+    [ -n "$answer" ] || trouble "$2: could not be read"
+    answer_has "$every_answer" || trouble "the program gave no answer: $first"
+    printf '%s\n' "$answer" 2>/dev/null || trouble "the answer could not be written"
+    answer_has "$yes" || exit 1
     exit 0
+}
+
+# Whether some line of the answer fits a pattern.
+answer_has() { # PATTERN
+    [ -n "$(printf '%s\n' "$answer" | grep -E "$1")" ]
 }
 
 # Programs are for x86-64. Another processor runs them by the toolchain's emulator and libraries, whose folder was noted at building.
