@@ -31,11 +31,13 @@ use Rattle.abi.specs.Writing.{writeNumbers, TellsWriting, WroteInto}
 use Rattle.abi.specs.Looking.{leafNumbers, TellsSought}
 use Rattle.abi.specs.Lines.{FoundLine}
 use Rattle.abi.specs.Watching.{watcherBytes, watcherOf, saysYes, Watched}
+use Rattle.abi.specs.Screening.{ScreenedInto}
 use Rattle.abi.proofs.Puts.{put-short, put-whole}
 use Rattle.abi.proofs.ReadAnswers.{read-short}
 use Rattle.abi.proofs.WriteAnswers.{write-short}
 use Rattle.abi.proofs.LineAnswers.{line-short}
 use Rattle.abi.proofs.WatcherBytes.{watch-short}
+use Rattle.abi.proofs.ScreenAnswers.{screen-short}
 use Rattle.abi.proofs.OnlyOne as only
 
 -- `sargaceu_read` into an answer that is short: 1, and every buffer is kept
@@ -111,3 +113,8 @@ watch-no-kept bytes kind g =
 pub watch-short-no : (bytes : List ℕ) (kind : ℕ) {r : Bool} {bytes′ : List ℕ} → Watched bytes kind r bytes′ → length bytes < 2
     → (r ≡ false) × (bytes′ ≡ bytes)
 watch-short-no bytes kind g h = only.watch bytes kind g (watch-short bytes kind h)
+
+-- `sargaceu_screen` into an answer of no number: 1, and the answer is kept
+pub screen-short-kept : (table : Lent) (answer : List ℕ) {r : ℕ} {answer′ : List ℕ} → ScreenedInto table answer r answer′ → length answer < 1
+    → (r ≡ 1) × (answer′ ≡ answer)
+screen-short-kept table answer screened h = only.screen table answer screened (screen-short table answer h)

@@ -12,3 +12,4 @@ pub mod CardBack
 pub mod WalkEnd
 pub mod ValueAnswers
 pub mod ValuesKept
+pub mod ScreenAnswers

@@ -19,6 +19,7 @@ use Rattle.abi.specs.Looking.{FoundLeaf, FoundLeafInSegment}
 use Rattle.abi.specs.Lines.{FoundLine}
 use Rattle.abi.specs.Watching.{Watched}
 use Rattle.abi.specs.Values.{ReadValueInto, WroteValueInto, ReadValuesInto}
+use Rattle.abi.specs.Screening.{ScreenedInto}
 
 pub read : (message text segments leaves answer : List ℕ) {r s : ℕ} {text₁ segments₁ leaves₁ answer₁ text₂ segments₂ leaves₂ answer₂ : List ℕ}
     → ReadInto message text segments leaves answer r text₁ segments₁ leaves₁ answer₁
@@ -93,3 +94,7 @@ order-values t order numbers wholes decimals answer g h = (
   only-one (g .decimals-put) (h .decimals-put),
   only-one (g .answers) (h .answers),
 )
+
+pub screen : (table : Lent) (answer : List ℕ) {r s : ℕ} {answer₁ answer₂ : List ℕ} → ScreenedInto table answer r answer₁ → ScreenedInto table answer s answer₂
+    → (r ≡ s) × (answer₁ ≡ answer₂)
+screen table answer g h = (only-one (g .number) (h .number), only-one (g .answers) (h .answers))

@@ -1,5 +1,6 @@
 -- What the contracts rule out: a reader that fills an answer although it is short, a lookup that leaves an old start and length beside an empty
--- leaf or tells it as one that has text or is not there, a watcher that goes on after a no, one that takes a single byte for a watcher.
+-- leaf or tells it as one that has text or is not there, a watcher that goes on after a no, one that takes a single byte for a watcher, a check
+-- of reports that looks at the table before the answer, one that puts its number where the place belongs.
 -- Assumes nothing.
 use mathlib.Core.Bool.{Bool, true, true≢false}
 use mathlib.Core.List.{List, [], _∷_}
@@ -10,13 +11,15 @@ use lib.Dec.{lit≤}
 use lib.ListN.{getD}
 use Rattle.order.specs.Contexts.{isContext}
 use Rattle.order.specs.inner.Telling.{allows, allowsNext, tellBy, tellOf}
+use Rattle.table.specs.Lent.{Lent}
 use Rattle.look.specs.declared.leaf.Sought.the-variants.{Empty}
 use Rattle.look.specs.Looking.{soughtNumber}
 use Rattle.abi.specs.Putting.{putAll}
 use Rattle.abi.specs.Looking.{leafNumbers, TellsSought}
 use Rattle.abi.specs.Reading.{ReadInto}
 use Rattle.abi.specs.Watching.{watcherBytes, watcherOf, Watched}
-use Rattle.abi.proofs.Kept.{read-short-kept, watch-short-no}
+use Rattle.abi.specs.Screening.{TellsVerdict, ScreenedInto}
+use Rattle.abi.proofs.Kept.{read-short-kept, watch-short-no, screen-short-kept}
 
 -- what comes back from a reader in five numbers, whatever it was lent: they are as they were
 module _ (message text segments leaves : List ℕ) {r : ℕ} {text′ segments′ leaves′ answer′ : List ℕ}
@@ -56,3 +59,20 @@ module _ (says : List ℕ → ℕ → Bool) (after : List ℕ → ℕ → List �
   -- a single byte is no watcher, though H may begin a message of its context
   pub yes-to-one-byte : says (1 ∷ []) 1 ≡ true → ⊥
   yes-to-one-byte said = true≢false (sym said ∙ watch-short-no (1 ∷ []) 1 (meets (1 ∷ []) 1) (lit≤ tt) .0)
+
+-- what comes back of a report whose second row lacks a name, from `sargaceu_screen` into one number
+module _ {r : ℕ} {answer′ : List ℕ} (tells : TellsVerdict (record { number = 31; place = 2 }) (7 ∷ []) r answer′) where
+  pub number-as-place : getD answer′ 0 0 ≡ r → ⊥
+  unfolding putAll
+  number-as-place same =
+      let place : _≡_ {A = ℕ} (getD answer′ 0 0) 2 = ap (λ (l : List ℕ). getD l 0 0) (tells .answers) in
+      let number : _≡_ {A = ℕ} r 31 = tells .number in
+      let z : _≡_ {A = ℕ} 2 31 = sym place ∙ same ∙ number in
+      omega arith
+
+-- what comes back from it into no number, whatever it was lent
+module _ (table : Lent) {r : ℕ} {answer′ : List ℕ} (screened : ScreenedInto table [] r answer′) where
+  pub looks-at-the-table-first : r ≡ 13 → ⊥
+  looks-at-the-table-first said =
+      let z : _≡_ {A = ℕ} 1 13 = sym (screen-short-kept table [] screened (lit≤ tt) .0) ∙ said in
+      omega arith

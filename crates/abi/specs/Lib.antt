@@ -6,3 +6,4 @@ pub mod Looking
 pub mod Lines
 pub mod Watching
 pub mod Values
+pub mod Screening

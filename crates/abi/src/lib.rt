@@ -5,6 +5,7 @@ mod card;
 pub mod lines;
 pub mod looking;
 pub mod reading;
+pub mod screening;
 pub mod showing;
 pub mod values;
 pub mod watching;
