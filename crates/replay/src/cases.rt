@@ -10,6 +10,7 @@ use crate::looking;
 use crate::order_values;
 use crate::pieces::take_in;
 use crate::reading;
+use crate::screening;
 use crate::seeking;
 use crate::value_writing;
 use crate::values;
@@ -30,6 +31,7 @@ fn pieces_of(operation: usize) -> usize {
         6 => 0xB,
         7 => 0xA1,
         101 => 0x5BAA5,
+        104 => 0xBAA5,
         1021 => 0xB,
         1022 => 0x2C,
         1023 => 0x2BAA5,
@@ -88,6 +90,7 @@ fn run(
         6 => walking::run(numbers, bytes),
         7 => watching::run(numbers),
         101 => seeking::run(numbers, bytes),
+        104 => screening::run(numbers, bytes),
         1021 => values::run(numbers, bytes),
         1022 => value_writing::run(numbers, bytes, text),
         1023 => order_values::run(numbers, bytes, answer_numbers, wholes, decimals),

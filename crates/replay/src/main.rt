@@ -17,6 +17,7 @@ mod order_values;
 mod output;
 mod pieces;
 mod reading;
+mod screening;
 mod seeking;
 mod tables;
 mod value_writing;
