@@ -1,7 +1,7 @@
 /*
- * The baseline: reader, writer, leaf lookup and values by the rules of docs/RULES.md in plain C, written for speed and with every refusal. The
- * library is measured against it. Same parameters, same answers and same buffers as the functions of include/sargaceu.h that begin with sargaceu_
- * in place of base_, on every input.
+ * The baseline: reader, writer, leaf lookup, values and screening check by the rules of docs/RULES.md in plain C, written for speed and with every
+ * refusal. The library is measured against it. Same parameters, same answers and same buffers as the functions of include/sargaceu.h that begin with
+ * sargaceu_ in place of base_, on every input.
  */
 #ifndef BASELINE_H
 #define BASELINE_H
@@ -48,5 +48,11 @@ uint8_t base_order_values(const size_t *card, size_t card_numbers,
                           int64_t *wholes, size_t wholes_numbers,
                           uint8_t *decimals, size_t decimals_bytes,
                           size_t *answer, size_t answer_numbers);
+
+uint8_t base_screen(const size_t *card, size_t card_numbers,
+                    const uint16_t *segments, size_t segments_numbers,
+                    const uint16_t *leaves, size_t leaves_numbers,
+                    const uint8_t *text, size_t text_bytes,
+                    size_t *answer, size_t answer_numbers);
 
 #endif

@@ -1,7 +1,6 @@
 /*
- * What the reader, the writer and the values of the baseline share: the limits, the header rule, the order of the segments, and the test that tells
- * whether some message reads to a table. Each file that includes it has a compiled copy of its own, so what one of them does with it costs the
- * others nothing.
+ * What the baseline's files share: the limits, the header rule, the order of the segments, and the test that tells whether some message reads to a
+ * table. Each file that includes it has a compiled copy of its own, so what one of them does with it costs the others nothing.
  */
 #ifndef BASELINE_TABLE_H
 #define BASELINE_TABLE_H
@@ -293,6 +292,20 @@ static bool is_table(struct table *t, uint8_t field)
         && stated_context(t->leaves, t->segments[3], t->text) == t->context
         && misplaced(t->context, kinds, t->many) == 0
         && owners_agree(t, kinds);
+}
+
+/* The same of what a caller lends: the card is held to the form and to the buffers first. */
+static inline bool is_lent_table(const size_t *card, size_t card_numbers,
+                                 const uint16_t *segments, size_t segments_numbers,
+                                 const uint16_t *leaves, size_t leaves_numbers,
+                                 const uint8_t *text, size_t text_bytes)
+{
+    if (card_numbers < 5 || card[0] > 255 || card[1] > 255 || card[2] > SEGMENTS || card[3] > LEAVES || card[4] > BYTES)
+        return false;
+    if (card[2] * SEGMENT_ROW > segments_numbers || card[3] * LEAF_ROW > leaves_numbers || card[4] > text_bytes)
+        return false;
+    struct table t = { card[1], card[2], card[3], card[4], segments, leaves, text, { 0 } };
+    return is_table(&t, card[0]);
 }
 
 #endif

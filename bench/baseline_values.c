@@ -119,12 +119,7 @@ bool base_is_table(const size_t *card, size_t card_numbers,
                    const uint16_t *leaves, size_t leaves_numbers,
                    const uint8_t *text, size_t text_bytes)
 {
-    if (card_numbers < 5 || card[0] > 255 || card[1] > 255 || card[2] > SEGMENTS || card[3] > LEAVES || card[4] > BYTES)
-        return false;
-    if (card[2] * SEGMENT_ROW > segments_numbers || card[3] * LEAF_ROW > leaves_numbers || card[4] > text_bytes)
-        return false;
-    struct table t = { card[1], card[2], card[3], card[4], segments, leaves, text, { 0 } };
-    return is_table(&t, card[0]);
+    return is_lent_table(card, card_numbers, segments, segments_numbers, leaves, leaves_numbers, text, text_bytes);
 }
 
 /* The fields of a result's type and of its value. */

@@ -9,6 +9,8 @@
  *   driver order-values|order-values-just|is-table library|baseline FILE N
  *                                                 N times the values of a message's middle order, in places that do for any order or in
  *                                                 just enough, or tests of its table
+ *   driver screen|is-table library|baseline FILE N
+ *                                                 N screening checks of a report, or tests of its table
  *   driver time FILE...                           times of both, interleaved, the least of nine, on x86-64
  *
  * Both are called by pointers that the compiler cannot see through, so no call is folded away.
@@ -552,6 +554,7 @@ static void compare_tables(const struct message *m, size_t damaged, bool all)
         show("what was written reads to another table", m);
     compare_lookups(&held, all, m);
     compare_orders(&held, whole, all, m);
+    compare_screening(&held, whole, m);
     for (size_t i = 0; i < damaged; i++) {
         struct lent lent = some_lent();
         tables[0] = held;
@@ -560,6 +563,7 @@ static void compare_tables(const struct message *m, size_t damaged, bool all)
         same_writing(&tables[0], lent, m);
         compare_damaged_lookups(&held, &tables[0], lent, m);
         compare_orders(&tables[0], lent, false, m);
+        compare_screening(&tables[0], lent, m);
     }
 }
 
@@ -607,6 +611,10 @@ static int compare(int files, char **file)
         invent_orders(&m);
         compare_one(&m, 4);
     }
+    for (size_t n = 0; n < 8000; n++) {
+        invent_report(&m);
+        compare_one(&m, 1);
+    }
     compare_values();
     printf("library and baseline agree on %zu messages, %zu of them accepted, on %zu tables, %zu of them written, "
            "and on %zu lookups, %zu of them within the segment too\n",
@@ -616,6 +624,7 @@ static int compare(int files, char **file)
     printf("\nlookups: %zu found, %zu found empty, %zu not there\n", sought[SARGACEU_FOUND], sought[SARGACEU_FOUND_EMPTY],
            sought[SARGACEU_NOT_THERE]);
     report_values();
+    report_screening();
     return 0;
 }
 
@@ -715,6 +724,13 @@ double seconds(void)
     return (double)t.tv_sec + 1e-9 * (double)t.tv_nsec;
 }
 
+void keep_least(double *least, double began, size_t times)
+{
+    double took = (seconds() - began) / (double)times;
+    if (took < *least)
+        *least = took;
+}
+
 /* Nanoseconds a byte, of the library and of the baseline. */
 static void time_one(bool writing, const struct message *m)
 {
@@ -724,9 +740,7 @@ static void time_one(bool writing, const struct message *m)
         for (int which = 0; which < 2; which++) {
             double began = seconds();
             repeat(writing, which, m, times);
-            double took = (seconds() - began) / (double)times;
-            if (took < least[which])
-                least[which] = took;
+            keep_least(&least[which], began, times);
         }
     }
     double bytes = (double)m->length;
@@ -743,9 +757,7 @@ static void time_lookups(const char *path)
         for (int which = 0; which < FINDERS; which++) {
             double began = seconds();
             repeat_lookup(which, row, TIMES);
-            double took = (seconds() - began) / TIMES;
-            if (took < least[which])
-                least[which] = took;
+            keep_least(&least[which], began, TIMES);
         }
     }
     printf("%-12s %8.1f %10.1f %8.1f %6.2f\n", name_in(path), 1e9 * least[BY_LIBRARY], 1e9 * least[IN_SEGMENT], 1e9 * least[BY_BASELINE],
@@ -757,7 +769,7 @@ static int time_all(int files, char **file)
     static struct message m;
     printf("%-10s %26s %26s\n", "ns a byte", "reading: library, baseline", "writing: library, baseline");
     for (int i = 0; i < files; i++) {
-        if (is_for_lookups(file[i]) || is_for_orders(file[i]))
+        if (is_for_lookups(file[i]) || is_for_orders(file[i]) || is_for_screening(file[i]))
             continue;
         load(&m, file[i]);
         if (read_by(1, &m, &held, whole) != 0)
@@ -776,6 +788,10 @@ static int time_all(int files, char **file)
     for (int i = 0; i < files; i++)
         if (is_for_orders(file[i]))
             time_orders(file[i]);
+    printf("\n%-14s %8s %8s %8s %8s %6s\n", "ns a report", "library", "its test", "baseline", "its test", "ratio");
+    for (int i = 0; i < files; i++)
+        if (is_for_screening(file[i]))
+            time_screening(file[i]);
     return 0;
 }
 
@@ -789,11 +805,13 @@ int main(int words, char **word)
         return run(word[1][0] == 'w', word[2], word[3], strtoul(word[4], NULL, 10));
     if (words == 5 && strcmp(word[1], "find") == 0)
         return run_lookups(word[2], word[3], strtoul(word[4], NULL, 10));
+    if (words == 5 && is_for_screening(word[3]) && run_screening(word[1], word[2], word[3], strtoul(word[4], NULL, 10)) == 0)
+        return 0;
     if (words == 5 && run_values(word[1], word[2], word[3], strtoul(word[4], NULL, 10)) == 0)
         return 0;
     fprintf(stderr, "usage: driver compare FILE... | driver read|write library|baseline FILE N | driver find library|segment|baseline FILE N"
                     " | driver read-value|write-value library|baseline SAMPLE N | driver order-values|order-values-just|is-table"
-                    " library|baseline FILE N"
+                    "|screen library|baseline FILE N"
                     " | driver time FILE...\n");
     return 2;
 }

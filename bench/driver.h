@@ -1,6 +1,6 @@
 /*
- * What the driver's two files share: driver.c has messages, tables and leaf lookups, values.c has values. Both implementations are called by number,
- * 0 the library and 1 the baseline.
+ * What the driver's three files share: driver.c has messages, tables and leaf lookups, values.c has values, screening.c has the screening check. Both
+ * implementations are called by number, 0 the library and 1 the baseline.
  */
 #ifndef DRIVER_H
 #define DRIVER_H
@@ -66,6 +66,9 @@ const char *name_in(const char *path);
 
 double seconds(void);
 
+/* Keeps the lesser time of one call. */
+void keep_least(double *least, double began, size_t times);
+
 /* ---- values.c ---- */
 
 /* Compares values of many texts, and texts of many values. */
@@ -83,9 +86,30 @@ void report_values(void);
 /* Repeats: the mode's name, who, what and how many times. Answers the program's exit status. */
 int run_values(const char *mode, const char *who, const char *what, size_t times);
 
+/* Repeats the test of the table that is held. */
+void repeat_test(int which, size_t times);
+
 /* Times of values, and of the orders of these messages. */
 bool is_for_orders(const char *path);
 void time_values(void);
 void time_orders(const char *path);
+
+/* ---- screening.c ---- */
+
+/* Compares the verdicts on a table. */
+void compare_screening(const struct table *t, struct lent lent, const struct message *m);
+
+/* A screening report that keeps most rules. */
+void invent_report(struct message *m);
+
+/* Says how much was compared. */
+void report_screening(void);
+
+/* Repeats: the mode's name, who, which report and how many times. Answers the program's exit status. */
+int run_screening(const char *mode, const char *who, const char *path, size_t times);
+
+/* Times of these reports. */
+bool is_for_screening(const char *path);
+void time_screening(const char *path);
 
 #endif

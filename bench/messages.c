@@ -199,6 +199,20 @@ static void of_orders(size_t results, size_t count)
     add("L|1\r");
 }
 
+/* A report that keeps all rules for screening: patients of one order, with the four pseudo-analyses and so many results, in turn coded and not. */
+static void of_patients(int patients, int results)
+{
+    begin();
+    header("ORU");
+    for (int n = 1; n <= patients; n++) {
+        add("P|%d||||ESSAI~PATIENT%d|ESSAI||||~~~~00000||0100000000\rOBR|1||T%05d~L%05d|BIO|||202401020304\r", n, n, n, n);
+        add("OBX|1|CE|PAYS||FR\rOBX|2|CE|TYPOR||I\rOBX|3|CE|PROSS||N\rOBX|4|ST|FINGE||990000025\r");
+        for (int i = 0; i < results; i++)
+            add(i % 2 ? "OBX|%d|NM|CT||25.3\r" : "OBX|%d|CE|94500-6~~LN||N\r", i + 5);
+    }
+    add("L|1\r");
+}
+
 /* One shape at a size: orders of seven results, the last result's text as long as is needed. */
 static void of_size(size_t size)
 {
@@ -255,6 +269,14 @@ int main(int words, char **word)
     save(word[1], "order-20-300");
     of_orders(20, 2048);
     save(word[1], "order-20-2048");
+    static const struct { const char *name; int patients, results; } reports[] = {
+        { "report-30-1", 1, 22 },  { "report-100-1", 1, 92 }, { "report-250-1", 1, 242 },
+        { "report-34-4", 4, 2 },   { "report-98-12", 12, 2 }, { "report-250-31", 31, 2 },
+    };
+    for (size_t i = 0; i < sizeof reports / sizeof *reports; i++) {
+        of_patients(reports[i].patients, reports[i].results);
+        save(word[1], reports[i].name);
+    }
     for (size_t size = 1; size <= 16; size *= 2) {
         char name[16];
         snprintf(name, sizeof name, "grow-%02zu", size);

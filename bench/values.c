@@ -414,7 +414,7 @@ static void repeat_order(int which, uint16_t row, size_t many, size_t times)
         order_by(which, &held, whole, row, &places[0], room, SARGACEU_ORDER_ANSWER);
 }
 
-static void repeat_test(int which, size_t times)
+void repeat_test(int which, size_t times)
 {
     for (size_t i = 0; i < times; i++)
         test_by(which, &held, whole);
@@ -449,14 +449,6 @@ int run_values(const char *mode, const char *who, const char *what, size_t times
 }
 
 /* ---- times ---- */
-
-/* Keeps the lesser time of one call. */
-static void keep_least(double *least, double began, size_t times)
-{
-    double took = (seconds() - began) / (double)times;
-    if (took < *least)
-        *least = took;
-}
 
 static void time_sample(const char *what, const struct sample *s, void (*repeat)(int, const struct sample *, size_t))
 {
