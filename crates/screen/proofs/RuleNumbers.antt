@@ -41,6 +41,19 @@ field-rule (suc (suc (suc (suc (suc (suc zero)))))) h = refl
 field-rule (suc (suc (suc (suc (suc (suc (suc zero))))))) h = refl
 field-rule (suc (suc (suc (suc (suc (suc (suc (suc k)))))))) h = absurd (omega (arith, h))
 
+-- none of them is a field of results
+not-of-results : (k : ℕ) → k < fieldCount → fieldNamed k .kind ≡ resultKind → ⊥
+unfolding wantedFields
+not-of-results zero h e = omega (arith, e)
+not-of-results (suc zero) h e = omega (arith, e)
+not-of-results (suc (suc zero)) h e = omega (arith, e)
+not-of-results (suc (suc (suc zero))) h e = omega (arith, e)
+not-of-results (suc (suc (suc (suc zero)))) h e = omega (arith, e)
+not-of-results (suc (suc (suc (suc (suc zero))))) h e = omega (arith, e)
+not-of-results (suc (suc (suc (suc (suc (suc zero)))))) h e = omega (arith, e)
+not-of-results (suc (suc (suc (suc (suc (suc (suc zero))))))) h e = omega (arith, e)
+not-of-results (suc (suc (suc (suc (suc (suc (suc (suc k)))))))) h e = omega (arith, h)
+
 code-rule : (k : ℕ) → k < codeCount → ruleNumbered (firstCodeRule + k) ≡ once (codeNamed k)
 unfolding rules wantedFields codes
 code-rule zero h = refl
@@ -80,6 +93,12 @@ module _ (t : Lent) (i : ℕ) where
     pub field-unfilled : fieldNamed k .kind ≡ kindIn (t .segmentRows) i → hasText (soughtOf t i (fieldNamed k .field) (fieldNamed k .subfield)) ≡ false
         → failsAt t i (firstRule + k) ≡ true
     field-unfilled e q = by-field ∙ and-both (eq-eqb (kindIn (t .segmentRows) i) (fieldNamed k .kind) (sym e)) (ap not q)
+
+  -- no field is one of results, so a result keeps all of them
+  pub fields-kept : kindIn (t .segmentRows) i ≡ resultKind → (n : ℕ) → firstRule ≤ n → n < firstCodeRule → failsAt t i n ≡ false
+  fields-kept kind n g h =
+      ap (failsAt t i) (let e : n ≡ firstRule + (n - firstRule) = omega (arith, g) in e)
+      ∙ other-kind (n - firstRule) (omega (arith, g, h)) (λ e. not-of-results (n - firstRule) (omega (arith, g, h)) (e ∙ kind))
 
   -- the rules of codes: a row that is no patient's keeps them, and of a patient the count decides
   by-code : (k : ℕ) → k < codeCount → failsAt t i (firstCodeRule + k) ≡ (hasKind t patientKind i && not (eqb (countUnder t (suc i) (codeNamed k)) 1))
@@ -130,6 +149,12 @@ module _ (t : Lent) (i : ℕ) where
   -- the rules from one on are tried in turn: before that with number n
   abbrev pub RulesTried : (from end n : ℕ) → Type 0
   RulesTried from end n = Passing (failsAt t i) from end n
+
+  -- of a result those of fields are passed over
+  pub past-fields : kindIn (t .segmentRows) i ≡ resultKind → RulesTried firstRule pastRules firstCodeRule
+  past-fields kind =
+      passing-over (failsAt t i) firstCodeRule (passing-begins (failsAt t i) firstRule pastRules (omega arith)) (omega arith) (omega arith)
+      (λ k g h. fields-kept kind k g h)
 
   -- of a row that is no patient's those of codes are passed over, and of one that is no result's those of values
   pub past-codes : {from : ℕ} → RulesTried from pastRules firstCodeRule → (kindIn (t .segmentRows) i ≡ patientKind → ⊥)

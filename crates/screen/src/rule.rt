@@ -1,4 +1,4 @@
-// Which rule a row fails first: by its fields, and then by its results' codes where it is a patient, by its value where it is a result.
+// Which rule a row fails first: a result by its value; any other row by its fields, and then a patient by the codes of its results.
 use crate::codes::first_miscounted;
 use crate::fields::first_unfilled;
 use crate::refusal::Refusal;
@@ -26,15 +26,16 @@ pub(crate) fn first_failed(
     ensures { λ r. ⌜ r ≡ firstFailed (lent card (now (segments .entry)) (now (leaves .entry)) (now (text .entry))) row firstRule pastRules ⌝ }
 {
     let kind = segments[row * rows::SEGMENT_ROW];
+    // most rows are results, and no field is asked of them
+    if kind == Kind::OBX as rows::Entry {
+        return first_misvalued(card, segments, leaves, text, row);
+    }
     let field = first_unfilled(card, segments, leaves, text, row);
     if field < Refusal::NOT_ONE_PAYS {
         return field;
     }
     if kind == Kind::P as rows::Entry {
         return first_miscounted(card, segments, leaves, text, row);
-    }
-    if kind == Kind::OBX as rows::Entry {
-        return first_misvalued(card, segments, leaves, text, row);
     }
     KEPT
 }
