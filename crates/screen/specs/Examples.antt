@@ -44,43 +44,37 @@ typorLine = "OBX|2|CE|TYPOR||I"
 abbrev pub lastLines : List String
 lastLines = "OBX|3|CE|PROSS||U" ∷ "OBX|4|ST|FINGE||9" ∷ []
 
--- the lines of a patient: its own, an order, some results, and the last two pseudo-analyses; then more
-abbrev pub patientLines : (patient : String) (results more : List String) → List String
-patientLines patient results more = patient ∷ orderLine ∷ (results ++ (lastLines ++ more))
-
-abbrev pub soundLines : List String → List String
-soundLines more = patientLines patientLine (paysLine ∷ typorLine ∷ []) more
-
--- with another value of TYPOR, and with one result more
-abbrev pub withResidence : String → List String
-withResidence typor = patientLines patientLine (paysLine ∷ typor ∷ []) []
+-- a patient with all that is asked for, and one result more
+abbrev pub soundLines : List String
+soundLines = patientLine ∷ orderLine ∷ paysLine ∷ typorLine ∷ lastLines
 
 abbrev pub withResult : String → List String
-withResult result = soundLines (result ∷ [])
+withResult result = soundLines ++ (result ∷ [])
 
--- two patients, each with the four; one of the four under a second order
-abbrev pub twoPatients : List String
-twoPatients = soundLines (soundLines [])
+-- another value of TYPOR
+abbrev pub withResidence : String → List String
+withResidence typor = patientLine ∷ orderLine ∷ paysLine ∷ typor ∷ lastLines
 
-abbrev pub underSecondOrder : List String
-underSecondOrder = patientLines patientLine (typorLine ∷ []) (orderLine ∷ paysLine ∷ [])
+-- two patients with a PAYS each, and no TYPOR; one with two of them; one with two and one with none
+abbrev pub paysEach : List String
+paysEach = patientLine ∷ orderLine ∷ paysLine ∷ patientLine ∷ orderLine ∷ paysLine ∷ []
 
--- two PAYS; two for one patient and none for the next; one and none
 abbrev pub twoPays : List String
-twoPays = patientLines patientLine (paysLine ∷ paysLine ∷ typorLine ∷ []) []
+twoPays = patientLine ∷ orderLine ∷ paysLine ∷ paysLine ∷ []
 
 abbrev pub twoAndNone : List String
-twoAndNone = patientLines patientLine (paysLine ∷ paysLine ∷ typorLine ∷ []) (patientLines patientLine (typorLine ∷ []) [])
+twoAndNone = patientLine ∷ orderLine ∷ paysLine ∷ paysLine ∷ patientLine ∷ orderLine ∷ typorLine ∷ []
 
-abbrev pub oneAndNone : List String
-oneAndNone = soundLines (patientLines patientLine (typorLine ∷ []) [])
+-- PAYS under a second order, and no PROSS
+abbrev pub underSecondOrder : List String
+underSecondOrder = patientLine ∷ orderLine ∷ typorLine ∷ orderLine ∷ paysLine ∷ []
 
 -- an empty 8.6.1; a patient without 8.11.5, and behind it one with an empty 8.6.1, whose rule is lower
 abbrev pub emptyName : List String
-emptyName = patientLines namelessLine (paysLine ∷ typorLine ∷ []) []
+emptyName = namelessLine ∷ orderLine ∷ paysLine ∷ []
 
 abbrev pub lowerLater : List String
-lowerLater = patientLines placelessLine (paysLine ∷ typorLine ∷ []) (patientLines namelessLine (paysLine ∷ typorLine ∷ []) [])
+lowerLater = placelessLine ∷ orderLine ∷ paysLine ∷ namelessLine ∷ orderLine ∷ paysLine ∷ []
 
 -- an example: the lines of a report, and the number and the place of its verdict
 pub record ScreenedLines : Type 0 where
@@ -93,20 +87,16 @@ expects number place lines = record { lines = lines; number = number; place = pl
 
 unfoldable pub verdictExamples : List ScreenedLines
 verdictExamples =
-    expects 0 0 (soundLines [])
-    ∷ expects 0 0 twoPatients
-    ∷ expects 0 0 underSecondOrder
+    expects 0 0 soundLines
+    ∷ expects 40 2 paysEach
     ∷ expects 39 2 twoPays
     ∷ expects 39 2 twoAndNone
-    ∷ expects 39 8 oneAndNone
+    ∷ expects 41 2 underSecondOrder
     ∷ expects 31 2 emptyName
-    ∷ expects 31 8 lowerLater
-    -- a value of TYPOR that is another letter, two letters, or empty
+    ∷ expects 31 5 lowerLater
+    -- a value of TYPOR that is another letter, or empty
     ∷ expects 43 5 (withResidence "OBX|2|CE|TYPOR||X")
-    ∷ expects 43 5 (withResidence "OBX|2|CE|TYPOR||IH")
     ∷ expects 43 5 (withResidence "OBX|2|CE|TYPOR||")
-    -- a result by LOINC, told in 10.4.3 or in 10.4.6, with another letter than the four; of another type than CE it may have any value
-    ∷ expects 45 8 (withResult "OBX|5|CE|1~x~LN||Q")
+    -- a result by LOINC, which 10.4.6 tells, with another letter than the four
     ∷ expects 45 8 (withResult "OBX|5|CE|G~x~L~1~y~LN||Q")
-    ∷ expects 0 0 (withResult "OBX|5|ST|1~x~LN||Q")
     ∷ []
