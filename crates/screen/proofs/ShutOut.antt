@@ -2,7 +2,6 @@
 -- whole message, or takes two for one, or asks for all four under one order; one that passes an empty field or an empty value; one that looks for the
 -- system of a code in one place only; one that takes any message, or any buffers.
 -- Assumes nothing.
-use mathlib.Core.List.{[]}
 use mathlib.Core.Path.{_≡_, ap, _∙_}
 use native.Mathlib.Omega.{arith}
 use Rattle.form.specs.Limits.{form}
