@@ -1,6 +1,6 @@
 pub mod HeaderRule
 pub mod LineCount
 pub mod Names
-pub mod Spelling
-pub mod Packing
+pub mod Recognising
 pub mod RoundedUp
+pub mod ShutOut

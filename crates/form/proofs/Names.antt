@@ -4,22 +4,24 @@ use mathlib.Core.Bool.{Bool, true, false}
 use mathlib.Core.List.{List, [], _∷_}
 use mathlib.Core.Logic.{⊎-elim}
 use mathlib.Core.Path.{_≡_, refl, sym, ap, subst⁻¹, _∙_}
-use Prim.Native.Nat.{ℕ, _≤_, _<_}
+use Prim.Native.Nat.{ℕ, zero, suc, _≤_, _<_}
 use native.Mathlib.Numerals.{one-add}
 use native.Mathlib.Omega.{arith}
 use lib.Dec.{leb, eqb}
-use lib.ListN.{length, getD, take}
-use borrow.Author.Tests.{leb-true, leb-false, eqb-true, eqb-false, le-leb, lt-leb}
+use lib.ListN.{length, getD, take, List·getD-eq-default}
+use borrow.Author.Tests.{leb-true, eqb-true, eqb-false}
 use Rattle.laws.specs.Lists.{same, firstFrom}
 use Rattle.laws.specs.inner.Tests.{everyFrom}
+use Rattle.laws.specs.Tables.{values}
 use Rattle.laws.specs.Texts.{bytes}
-use Rattle.laws.proofs.Lists.{every, every-element, same-self, same-equal, different-same, Found, first-none, first-some, first-found}
-use Rattle.laws.proofs.Tables.{every-at}
-use Rattle.laws.proofs.Tests.{either}
+use Rattle.laws.proofs.Cases.{less-or-not}
+use Rattle.laws.proofs.Lists.{every, every-element, same-self, same-equal, different-same, among-at, Absent, absent-among, Found, first-none, first-some, first-found}
+use Rattle.laws.proofs.Tables.{length-values, getD-values-zero, every-at}
+use Rattle.laws.proofs.Tests.{either, never-both}
 use Rattle.form.specs.Header.{within}
 use Rattle.form.proofs.HeaderRule.{within-bounds}
-use Rattle.form.specs.Names.{kindNames, contextNames, numberAmong, kindOf, contextOf}
-use Rattle.form.specs.inner.Spelling.{spelledAmong}
+use Rattle.form.specs.Names.{kindNames, contextNames, numberAmong, kindOf, contextOf, nameOf}
+use Rattle.form.specs.inner.Lettering.{nameIn, lettersOf, spelled}
 
 -- whether a text has at most three letters, and whether it has capital letters alone
 unfoldable pub short : List ℕ → Bool
@@ -36,13 +38,13 @@ short-length : (t : List ℕ) → short t ≡ true → length t ≤ 3
 unfolding short
 short-length t h = leb-true (length t) 3 h
 
--- the letters of a text of at most three are the text
-letters-text : (t : List ℕ) → length t ≤ 3 → take (length t) (getD t 0 0 ∷ getD t 1 0 ∷ getD t 2 0 ∷ []) ≡ t
-letters-text [] h = refl
-letters-text (a ∷ []) h = refl
-letters-text (a ∷ b ∷ []) h = refl
-letters-text (a ∷ b ∷ c ∷ []) h = refl
-letters-text (a ∷ b ∷ c ∷ d ∷ t) h = absurd (let z : ⊥ = omega arith in z)
+-- what is put out of a short text is the text
+pub spelled-whole : (t : List ℕ) → length t ≤ 3 → take (spelled t .0) (spelled t .1) ≡ t
+spelled-whole [] h = refl
+spelled-whole (a ∷ []) h = refl
+spelled-whole (a ∷ b ∷ []) h = refl
+spelled-whole (a ∷ b ∷ c ∷ []) h = refl
+spelled-whole (a ∷ b ∷ c ∷ d ∷ t) h = absurd (omega arith)
 
 module _ (names : List (List ℕ)) where
   -- a text that differs from every name has no number
@@ -74,6 +76,21 @@ module _ (names : List (List ℕ)) where
       let w = first-found (same t) [] 1 names h in
       rw (w .number, one-add) (sym (same-equal t (getD names (w .place) []) (w .passes)))
 
+  -- a number that counts none of them has no name
+  pub nameless : (n : ℕ) → Absent n (values suc 0 (length names)) → nameOf names n ≡ []
+  unfolding nameOf
+  nameless zero h = refl
+  nameless (suc n) h =
+      ⊎-elim
+      (λ (l : n < length names).
+      let numbers = values suc 0 (length names) in
+      absurd
+      (never-both
+      (among-at numbers (suc n) n (rw (length-values suc 0 (length names)) l) (sym (getD-values-zero suc (length names) n 0 l)))
+      (absent-among h)))
+      (λ (l : length names ≤ n). List·getD-eq-default names [] l)
+      (less-or-not n (length names))
+
   found-within : (t : List ℕ) → Found (same t) [] 1 names → numberAmong names t ≤ length names
   unfolding numberAmong
   found-within t w = omega (arith, w .number, w .inside)
@@ -93,28 +110,30 @@ module _ (names : List (List ℕ)) where
       eqb-true (numberAmong names (getD ([] ∷ names) k [])) k
       (every-at (λ k. eqb (numberAmong names (getD ([] ∷ names) k [])) k) 1 (length names) own k l (omega arith))
 
-  -- a text known by its length and letters: the step equations
-  pub spelled-short : (n a b c : ℕ) → n ≤ 3 → spelledAmong names n a b c ≡ numberAmong names (take n (a ∷ b ∷ c ∷ []))
-  unfolding spelledAmong
-  spelled-short n a b c h = rw (le-leb n 3 h, spelledAmong)
+  -- a text of more than three letters has no number, where no name has so many
+  module _ (all-short : every short names ≡ true) where
+    pub long-unknown : (t : List ℕ) → 3 < length t → numberAmong names t ≡ 0
+    long-unknown t h =
+        unknown t (λ k l q. let z : ⊥ = omega (arith, ap length q, short-length (getD names k []) (every-element short names [] all-short k l)) in z)
 
-  pub spelled-long : (n a b c : ℕ) → 3 < n → spelledAmong names n a b c ≡ 0
-  unfolding spelledAmong
-  spelled-long n a b c h = rw (lt-leb n 3 h, spelledAmong)
+    -- so its length and first three letters tell its number
+    pub known-number : (t : List ℕ) → numberAmong names (nameIn (lettersOf t)) ≡ numberAmong names t
+    known-number [] = refl
+    known-number (a ∷ []) = refl
+    known-number (a ∷ b ∷ []) = refl
+    known-number (a ∷ b ∷ c ∷ []) = refl
+    known-number (a ∷ b ∷ c ∷ d ∷ t) =
+        long-unknown (a ∷ b ∷ c ∷ 0 ∷ take (length t) []) (omega arith) ∙ sym (long-unknown (a ∷ b ∷ c ∷ d ∷ t) (omega arith))
 
-  -- it is known so, where no name has more than three letters
-  pub spelled-letters : every short names ≡ true → (t : List ℕ)
-      → spelledAmong names (length t) (getD t 0 0) (getD t 1 0) (getD t 2 0) ≡ numberAmong names t
-  spelled-letters all-short t =
-      ⊎-elim
-      (λ (e : leb (length t) 3 ≡ true). spelled-short (length t) (getD t 0 0) (getD t 1 0) (getD t 2 0) (leb-true (length t) 3 e)
-      ∙ ap (numberAmong names) (letters-text t (leb-true (length t) 3 e)))
-      (λ (e : leb (length t) 3 ≡ false). spelled-long (length t) (getD t 0 0) (getD t 1 0) (getD t 2 0) (leb-false (length t) 3 e)
-      ∙ sym (unknown t (λ k l q. longer k l q (leb-false (length t) 3 e))))
-      (either (leb (length t) 3))
-    where
-      longer : (k : ℕ) → k < length names → t ≡ getD names k [] → 3 < length t → ⊥
-      longer k l q h = omega (arith, ap length q, short-length (getD names k []) (every-element short names [] all-short k l))
+    -- and the name of a number has three at most
+    pub name-short : (n : ℕ) → length (nameOf names n) ≤ 3
+    unfolding nameOf
+    name-short zero = omega arith
+    name-short (suc n) =
+        ⊎-elim
+        (λ (l : n < length names). short-length (getD names n []) (every-element short names [] all-short n l))
+        (λ (l : length names ≤ n). omega (arith, ap length (List·getD-eq-default names [] l)))
+        (less-or-not n (length names))
 
 -- the names of both lists are short and different: computed once
 pub kinds-short : every short kindNames ≡ true
@@ -147,10 +166,6 @@ unfolding capitals
 capital-at t h i l = within-bounds 65 90 (getD t i 0) (every-element (within 65 90) t 0 h i l)
 
 -- what follows for kinds
-pub kind-letters : (t : List ℕ) → spelledAmong kindNames (length t) (getD t 0 0) (getD t 1 0) (getD t 2 0) ≡ kindOf t
-unfolding kindOf
-kind-letters t = spelled-letters kindNames kinds-short t
-
 pub kind-within : (t : List ℕ) → kindOf t ≤ 12
 unfolding kindOf kindNames
 kind-within t = number-within kindNames t
@@ -172,10 +187,6 @@ pub known-no-addendum : (t : List ℕ) → (kindOf t ≡ 0 → ⊥) → t ≡ 65
 known-no-addendum t h e = h (rw e addendum-unknown)
 
 -- the same for contexts
-pub context-letters : (t : List ℕ) → spelledAmong contextNames (length t) (getD t 0 0) (getD t 1 0) (getD t 2 0) ≡ contextOf t
-unfolding contextOf
-context-letters t = spelled-letters contextNames contexts-short t
-
 pub context-within : (t : List ℕ) → contextOf t ≤ 7
 unfolding contextOf contextNames
 context-within t = number-within contextNames t

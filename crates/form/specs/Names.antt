@@ -1,7 +1,8 @@
 -- Kinds and contexts by name and number (rules S1 and C1).
 -- Assumes nothing.
 use mathlib.Core.List.{List, [], _∷_, map}
-use Prim.Native.Nat.{ℕ}
+use Prim.Native.Nat.{ℕ, zero, suc}
+use lib.ListN.{getD}
 use Rattle.laws.specs.Lists.{same, firstFrom}
 use Rattle.laws.specs.Texts.{bytes}
 
@@ -23,3 +24,8 @@ kindOf t = numberAmong kindNames t
 
 unfoldable pub contextOf : List ℕ → ℕ
 contextOf t = numberAmong contextNames t
+
+-- the name with a number among names, counted from 1; nothing where none has it
+unfoldable pub nameOf : List (List ℕ) → ℕ → List ℕ
+nameOf names zero = []
+nameOf names (suc n) = getD names n []

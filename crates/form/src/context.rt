@@ -1,9 +1,9 @@
-// The seven contexts (C1): their numbers, and the number of a name.
+// The seven contexts (C1): their numbers, the number of a name, and the name of a number.
 ghost use mathlib.Core.Path.{_≡_};
-ghost use mathlib.Core.List.{[], _∷_};
-ghost use Rattle.form.specs.Names.{contextNames, contextOf};
-ghost use Rattle.form.specs.inner.Spelling.{spelledAmong, packedAmong};
-use crate::letters;
+ghost use Rattle.form.specs.Names.{contextNames, contextOf, nameOf};
+ghost use Rattle.form.specs.inner.Lettering.{nameBy, spelled};
+use crate::letters::Letters;
+use crate::letters::Spelled;
 
 // A context is its number, from 1 to 7; 0 is no context.
 pub struct Context {}
@@ -23,31 +23,28 @@ impl Context {
 
     pub const FAC: u8 = 7;
 
-    // The context of a name of so many letters, by its first three, as `named` takes them from a text. 0 where no context has
-    // that name.
-    pub fn spelled(length: usize, first: u8, second: u8, third: u8) -> u8
-        ensures { λ r. ⌜ r ≡ spelledAmong contextNames length first second third ⌝ }
+    // The context by the length of its name first, then by its letters, as `Kind::of` has it; 0 where no context has that name.
+    pub fn of(length: usize, first: u8, second: u8, third: u8) -> u8
+        ensures { λ r. ⌜ r ≡ contextOf (nameBy length first second third) ⌝ }
     {
-        if length == 3 {
-            three_letters(first, second, third)
-        } else {
-            0
-        }
-    }
-
-    // The context of a name that was packed into one number: 1 and then its letters, as digits to base 256. A reader packs a name as it
-    // goes over the lines that the name may be cut across (A3). 0 where no context has it.
-    pub fn packed(name: u32) -> u8
-        ensures { λ r. ⌜ r ≡ packedAmong contextNames name ⌝ }
-    {
-        match name {
-            21054541 => Context::ADM,
-            21975629 => Context::ORM,
-            21975617 => Context::ORA,
-            22168903 => Context::REG,
-            21320274 => Context::ERR,
-            21975637 => Context::ORU,
-            21381443 => Context::FAC,
+        match length {
+            3 => if (first == b'A') & (second == b'D') & (third == b'M') {
+                Context::ADM
+            } else if (first == b'O') & (second == b'R') & (third == b'M') {
+                Context::ORM
+            } else if (first == b'O') & (second == b'R') & (third == b'A') {
+                Context::ORA
+            } else if (first == b'R') & (second == b'E') & (third == b'G') {
+                Context::REG
+            } else if (first == b'E') & (second == b'R') & (third == b'R') {
+                Context::ERR
+            } else if (first == b'O') & (second == b'R') & (third == b'U') {
+                Context::ORU
+            } else if (first == b'F') & (second == b'A') & (third == b'C') {
+                Context::FAC
+            } else {
+                0
+            },
             _ => 0,
         }
     }
@@ -56,40 +53,23 @@ impl Context {
     pub fn named(text: &[u8]) -> u8
         ensures { λ r. ⌜ r ≡ contextOf (now (text .entry)) ⌝ }
     {
-        Context::spelled(
-            text.len(),
-            letters::letter(text, 0),
-            letters::letter(text, 1),
-            letters::letter(text, 2),
-        )
+        let name = Letters::of(text);
+        Context::of(name.length, name.first, name.second, name.third)
     }
-}
 
-// Every context's name has three letters.
-fn three_letters(first: u8, second: u8, third: u8) -> u8
-    ensures { λ r. ⌜ r ≡ contextOf (first ∷ second ∷ third ∷ []) ⌝ }
-{
-    match first {
-        b'A' => letters::ended(second, third, b'D', b'M', Context::ADM),
-        b'O' => order(second, third),
-        b'R' => letters::ended(second, third, b'E', b'G', Context::REG),
-        b'E' => letters::ended(second, third, b'R', b'R', Context::ERR),
-        b'F' => letters::ended(second, third, b'A', b'C', Context::FAC),
-        _ => 0,
-    }
-}
-
-// ORM, ORA, ORU, by what follows the O.
-fn order(second: u8, third: u8) -> u8
-    ensures { λ r. ⌜ r ≡ contextOf (79 ∷ second ∷ third ∷ []) ⌝ }
-{
-    if second != b'R' {
-        return 0;
-    }
-    match third {
-        b'M' => Context::ORM,
-        b'A' => Context::ORA,
-        b'U' => Context::ORU,
-        _ => 0,
+    // The name of a context by its number; no letters where no context has it.
+    pub fn name(context: usize) -> Spelled
+        ensures { λ r. ⌜ r ≡ spelled (nameOf contextNames context) ⌝ }
+    {
+        match context {
+            1 => Spelled(3, [b'A', b'D', b'M']),
+            2 => Spelled(3, [b'O', b'R', b'M']),
+            3 => Spelled(3, [b'O', b'R', b'A']),
+            4 => Spelled(3, [b'R', b'E', b'G']),
+            5 => Spelled(3, [b'E', b'R', b'R']),
+            6 => Spelled(3, [b'O', b'R', b'U']),
+            7 => Spelled(3, [b'F', b'A', b'C']),
+            _ => Spelled(0, [0, 0, 0]),
+        }
     }
 }

@@ -1,9 +1,9 @@
-// The twelve kinds of segment (S1): their numbers, and the number of a name.
+// The twelve kinds of segment (S1): their numbers, the number of a name, and the name of a number.
 ghost use mathlib.Core.Path.{_≡_};
-ghost use mathlib.Core.List.{[], _∷_};
-ghost use Rattle.form.specs.Names.{kindNames, kindOf};
-ghost use Rattle.form.specs.inner.Spelling.{spelledAmong, packedAmong};
-use crate::letters;
+ghost use Rattle.form.specs.Names.{kindNames, kindOf, nameOf};
+ghost use Rattle.form.specs.inner.Lettering.{nameBy, spelled};
+use crate::letters::Letters;
+use crate::letters::Spelled;
 
 // A kind is its number, from 1 to 12; 0 is no kind.
 pub struct Kind {}
@@ -33,37 +33,41 @@ impl Kind {
 
     pub const C: u8 = 12;
 
-    // The kind of a name of so many letters, by its first three, as `named` takes them from a text. 0 where no kind has that
-    // name; letters past the length do not count.
-    pub fn spelled(length: usize, first: u8, second: u8, third: u8) -> u8
-        ensures { λ r. ⌜ r ≡ spelledAmong kindNames length first second third ⌝ }
+    // The kind by the length of its name first, then by its letters (S7); 0 where no kind has that name. A alone is none: it marks a line that
+    // carries a segment on (A1). Letters past the length do not count, and no kind has a fourth.
+    pub fn of(length: usize, first: u8, second: u8, third: u8) -> u8
+        ensures { λ r. ⌜ r ≡ kindOf (nameBy length first second third) ⌝ }
     {
         match length {
-            1 => one_letter(first),
-            2 => two_letters(first, second),
-            3 => three_letters(first, second, third),
-            _ => 0,
-        }
-    }
-
-    // The kind of a name that was packed into one number: 1 and then its letters, as digits to base 256. A reader packs a name as it goes
-    // over the lines that the name may be cut across (A3). 0 where no kind has it.
-    pub fn packed(name: u32) -> u8
-        ensures { λ r. ⌜ r ≡ packedAmong kindNames name ⌝ }
-    {
-        match name {
-            328 => Kind::H,
-            336 => Kind::P,
-            82256 => Kind::AP,
-            82243 => Kind::AC,
-            21971538 => Kind::OBR,
-            21971544 => Kind::OBX,
-            21381443 => Kind::FAC,
-            22168903 => Kind::REG,
-            21054292 => Kind::ACT,
-            21320274 => Kind::ERR,
-            332 => Kind::L,
-            323 => Kind::C,
+            1 => match first {
+                b'H' => Kind::H,
+                b'P' => Kind::P,
+                b'L' => Kind::L,
+                b'C' => Kind::C,
+                _ => 0,
+            },
+            2 => if (first == b'A') & (second == b'P') {
+                Kind::AP
+            } else if (first == b'A') & (second == b'C') {
+                Kind::AC
+            } else {
+                0
+            },
+            3 => if (first == b'O') & (second == b'B') & (third == b'R') {
+                Kind::OBR
+            } else if (first == b'O') & (second == b'B') & (third == b'X') {
+                Kind::OBX
+            } else if (first == b'F') & (second == b'A') & (third == b'C') {
+                Kind::FAC
+            } else if (first == b'R') & (second == b'E') & (third == b'G') {
+                Kind::REG
+            } else if (first == b'A') & (second == b'C') & (third == b'T') {
+                Kind::ACT
+            } else if (first == b'E') & (second == b'R') & (third == b'R') {
+                Kind::ERR
+            } else {
+                0
+            },
             _ => 0,
         }
     }
@@ -72,66 +76,28 @@ impl Kind {
     pub fn named(text: &[u8]) -> u8
         ensures { λ r. ⌜ r ≡ kindOf (now (text .entry)) ⌝ }
     {
-        Kind::spelled(
-            text.len(),
-            letters::letter(text, 0),
-            letters::letter(text, 1),
-            letters::letter(text, 2),
-        )
+        let name = Letters::of(text);
+        Kind::of(name.length, name.first, name.second, name.third)
     }
-}
 
-// H, P, L, C.
-fn one_letter(first: u8) -> u8
-    ensures { λ r. ⌜ r ≡ kindOf (first ∷ []) ⌝ }
-{
-    match first {
-        b'H' => Kind::H,
-        b'P' => Kind::P,
-        b'L' => Kind::L,
-        b'C' => Kind::C,
-        _ => 0,
-    }
-}
-
-// AP, AC.
-fn two_letters(first: u8, second: u8) -> u8
-    ensures { λ r. ⌜ r ≡ kindOf (first ∷ second ∷ []) ⌝ }
-{
-    if first != b'A' {
-        return 0;
-    }
-    match second {
-        b'P' => Kind::AP,
-        b'C' => Kind::AC,
-        _ => 0,
-    }
-}
-
-// OBR, OBX, FAC, REG, ACT, ERR.
-fn three_letters(first: u8, second: u8, third: u8) -> u8
-    ensures { λ r. ⌜ r ≡ kindOf (first ∷ second ∷ third ∷ []) ⌝ }
-{
-    match first {
-        b'O' => order(second, third),
-        b'F' => letters::ended(second, third, b'A', b'C', Kind::FAC),
-        b'R' => letters::ended(second, third, b'E', b'G', Kind::REG),
-        b'A' => letters::ended(second, third, b'C', b'T', Kind::ACT),
-        b'E' => letters::ended(second, third, b'R', b'R', Kind::ERR),
-        _ => 0,
-    }
-}
-
-// OBR, OBX, by what follows the O.
-fn order(second: u8, third: u8) -> u8
-    ensures { λ r. ⌜ r ≡ kindOf (79 ∷ second ∷ third ∷ []) ⌝ }
-{
-    if second != b'B' {
-        return 0;
-    }
-    match third {
-        b'R' => Kind::OBR,
-        b'X' => Kind::OBX,
-        _ => 0,
+    // The name of a kind by its number; no letters where no kind has it.
+    pub fn name(kind: usize) -> Spelled
+        ensures { λ r. ⌜ r ≡ spelled (nameOf kindNames kind) ⌝ }
+    {
+        match kind {
+            1 => Spelled(1, [b'H', 0, 0]),
+            2 => Spelled(1, [b'P', 0, 0]),
+            3 => Spelled(2, [b'A', b'P', 0]),
+            4 => Spelled(2, [b'A', b'C', 0]),
+            5 => Spelled(3, [b'O', b'B', b'R']),
+            6 => Spelled(3, [b'O', b'B', b'X']),
+            7 => Spelled(3, [b'F', b'A', b'C']),
+            8 => Spelled(3, [b'R', b'E', b'G']),
+            9 => Spelled(3, [b'A', b'C', b'T']),
+            10 => Spelled(3, [b'E', b'R', b'R']),
+            11 => Spelled(1, [b'L', 0, 0]),
+            12 => Spelled(1, [b'C', 0, 0]),
+            _ => Spelled(0, [0, 0, 0]),
+        }
     }
 }

@@ -2,7 +2,7 @@
 // kinds and contexts, and the numbers that reader and writer answer.
 pub mod context;
 pub mod kind;
-mod letters;
+pub mod letters;
 pub mod limits;
 pub mod number;
 pub mod separators;

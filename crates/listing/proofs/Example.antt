@@ -1,7 +1,7 @@
 -- The listing of the worked example K1 as it is printed, closed by computation; and listings that the contract shuts out.
 -- Assumes nothing.
 use mathlib.Core.List.{List, _++_}
-use mathlib.Core.Path.{_≡_, refl, sym, ap, _∙_, subst}
+use mathlib.Core.Path.{_≡_, refl, ap, _∙_}
 use Prim.Native.Nat.{ℕ, _≤_, _<_}
 use native.Mathlib.Omega.{arith}
 use lib.ListN.{length}
@@ -11,7 +11,7 @@ use Rattle.laws.specs.Texts.{bytes}
 use Rattle.laws.specs.Tables.{values}
 use Rattle.form.specs.Limits.{form, lineCount, roundedUp}
 use Rattle.form.specs.Header.{splitting}
-use Rattle.form.specs.Names.{kindNames, contextNames}
+use Rattle.form.specs.Names.{kindNames, contextNames, nameOf}
 use Rattle.line.specs.Cutting.{pieces, addenda, cut, cuts, unlines}
 use Rattle.order.specs.Owners.{level}
 use Rattle.table.specs.Leaves.{onto, split}
@@ -20,7 +20,7 @@ use Rattle.table.specs.inner.Back.{leafAt, leavesOf, separatorsAt, between, uns
 use Rattle.table.specs.Examples.{filed, k1}
 use Rattle.read.proofs.ShutOut.{K1, k1-read}
 use Rattle.listing.specs.Decimal.{digitsWithin, decimal}
-use Rattle.listing.specs.Listing.{entryOf, entry, nameOf, andNumber, columns, rowLine, rowLines, answerLines, contextLine, countLines, listing, listingSize, Lists}
+use Rattle.listing.specs.Listing.{entryOf, entry, andNumber, columns, rowLine, rowLines, answerLines, contextLine, countLines, listing, listingSize, Lists}
 use Rattle.listing.proofs.Listed.{listed-short, listed-roomy}
 
 -- the whole listing of K1 (G1)

@@ -1,6 +1,6 @@
 pub mod Decimal
-pub mod Names
 pub mod Putting
+pub mod Names
 pub mod RowLines
 pub mod Filed
 pub mod Listed

@@ -3,16 +3,16 @@
 use mathlib.Core.Bool.{true, false}
 use mathlib.Core.List.{List, [], _∷_, _++_}
 use mathlib.Core.Path.{_≡_}
-use Prim.Native.Nat.{ℕ, zero, suc, _+_, _*_}
+use Prim.Native.Nat.{ℕ, _+_, _*_}
 use Prim.Native.String.{String}
 use lib.Dec.{ltb}
-use lib.ListN.{length, getD}
+use lib.ListN.{length}
 use lib.Seq.{sets}
 use Rattle.laws.specs.Lists.{concat}
 use Rattle.laws.specs.Tables.{values}
 use Rattle.laws.specs.Texts.{bytes}
 use Rattle.form.specs.declared.limits.Limits.{Limits}
-use Rattle.form.specs.Names.{kindNames, contextNames}
+use Rattle.form.specs.Names.{kindNames, contextNames, nameOf}
 use Rattle.form.specs.Numbers.{shortBuffer}
 use Rattle.table.specs.declared.Card.{Card}
 use Rattle.table.specs.Rows.{kindIn, ownerIn, firstIn, countIn}
@@ -28,11 +28,6 @@ entryOf name value = name ++ (value ++ (10 ∷ []))
 -- the same, the name written as text
 unfoldable pub entry : String → List ℕ → List ℕ
 entry name value = entryOf (bytes name) value
-
--- the name with a number among names, counted from 1; nothing where none has it
-unfoldable pub nameOf : List (List ℕ) → ℕ → List ℕ
-nameOf names zero = []
-nameOf names (suc n) = getD names n []
 
 -- a comma and a number
 unfoldable pub andNumber : ℕ → List ℕ

@@ -1,13 +1,10 @@
 -- The fields of a segment, byte by byte: what one more byte in front does to the first field and to later ones.
 -- Assumes nothing.
 use mathlib.Core.List.{List, [], _∷_}
-use mathlib.Core.Logic.{⊎-elim}
-use mathlib.Core.Path.{_≡_, refl, ap, _∙_, subst⁻¹}
-use Prim.Native.Nat.{ℕ, zero, suc, _<_}
+use mathlib.Core.Path.{_≡_, refl, ap, _∙_}
+use Prim.Native.Nat.{ℕ, zero, suc}
 use lib.ListN.{getD}
 use borrow.Author.Tests.{eq-eqb, ne-eqb}
-use Rattle.laws.specs.Every.{All, none, also}
-use Rattle.laws.proofs.Cases.{equal-or-not}
 use Rattle.table.specs.Leaves.{split, onto}
 
 -- the field of a number among those of a segment that begins with the byte b
@@ -47,17 +44,3 @@ module _ (field b : ℕ) (s : List ℕ) where
 
   pub later-same : (n : ℕ) → (b ≡ field → ⊥) → getD (split field (b ∷ s)) (suc n) [] ≡ getD (split field s) (suc n) []
   later-same n h = ap (λ (ts : List (List ℕ)). getD ts (suc n) []) (split-letter field b s h) ∙ onto-later b (split field s) n
-
--- of bytes alone, every field is of bytes alone
-pub field-bytes : (field : ℕ) {s : List ℕ} → All (λ (b : ℕ). b < 256) s → (n : ℕ) → All (λ (b : ℕ). b < 256) (getD (split field s) n [])
-field-bytes field none n = subst⁻¹ (All (λ (b : ℕ). b < 256)) (no-fields field n) none
-field-bytes field (also {a = b} {s = s} h w) zero =
-    ⊎-elim
-    (λ (e : b ≡ field). subst⁻¹ (All (λ (a : ℕ). a < 256)) (first-cut field b s e) none)
-    (λ (e : b ≡ field → ⊥). subst⁻¹ (All (λ (a : ℕ). a < 256)) (first-more field b s e) (also h (field-bytes field w 0)))
-    (equal-or-not b field)
-field-bytes field (also {a = b} {s = s} h w) (suc n) =
-    ⊎-elim
-    (λ (e : b ≡ field). subst⁻¹ (All (λ (a : ℕ). a < 256)) (later-cut field b s n e) (field-bytes field w n))
-    (λ (e : b ≡ field → ⊥). subst⁻¹ (All (λ (a : ℕ). a < 256)) (later-same field b s n e) (field-bytes field w (suc n)))
-    (equal-or-not b field)

@@ -5,24 +5,23 @@ use mathlib.Core.Bool.{Bool, not}
 use mathlib.Core.List.{List, [], _∷_, _++_}
 use mathlib.Core.Logic.{⊎-elim}
 use mathlib.Core.Path.{_≡_, refl, sym, ap, ap₂, _∙_}
-use Prim.Native.Nat.{ℕ, suc, _+_, _≤_, _<_}
+use Prim.Native.Nat.{ℕ, suc, _+_, _≤_}
 use native.Mathlib.Omega.{arith}
 use lib.Dec.{eqb}
-use lib.ListN.{length, getD, drop, length-append, length-map}
-use lib.Seq.{drop-append-le}
+use lib.ListN.{length, getD, take, drop, length-append, length-take, length-map, take-append-drop}
+use lib.Seq.{drop-append-le, take-append-le}
 use borrow.Author.Tests.{eq-eqb, ne-eqb}
 use Rattle.laws.specs.Lists.{same, among, count, firstFrom}
 use Rattle.laws.specs.inner.First.{firstHeld}
 use Rattle.laws.specs.Texts.{bytes}
 use Rattle.laws.specs.inner.Sums.{sumOf}
-use Rattle.laws.specs.Every.{All, none}
 use Rattle.laws.proofs.Cases.{equal-or-not}
-use Rattle.laws.proofs.Every.{all-append}
 use Rattle.laws.proofs.Lists.{map-append, count-append, first-append}
 use Rattle.laws.proofs.Sums.{sumOf-nil, sumOf-cons, sumOf-append}
 use Rattle.form.specs.declared.separators.Separators.{Separators}
 use Rattle.form.specs.Header.{splitting}
-use Rattle.form.specs.Names.{contextNames, kindNames, numberAmong, contextOf}
+use Rattle.form.specs.Names.{contextNames, kindNames, numberAmong, kindOf, contextOf}
+use Rattle.form.specs.inner.Lettering.{nameIn}
 use Rattle.order.specs.inner.Followers.{followers}
 use Rattle.order.specs.Watcher.{begun, watched}
 use Rattle.order.specs.inner.Telling.{followsBy, tellBy, tellOf}
@@ -41,21 +40,22 @@ use Rattle.table.specs.Reading.{firstUnknown}
 use Rattle.table.proofs.Counting.{length-allSegments}
 use Rattle.read.specs.declared.name.Name.{Name}
 use Rattle.read.specs.declared.survey.Survey.{Survey}
-use Rattle.read.specs.inner.Naming.{fresh, withBytes}
-use Rattle.read.specs.inner.Seeing.{nothingSeen, contextWith, textJoined, kindSeen, contextSeen, watching, toldNow, segmentShut, segmentBegun}
+use Rattle.read.specs.inner.Naming.{fresh, withBytes, gathered}
+use Rattle.read.specs.inner.Seeing.{nothingSeen, textJoined, kindSeen, contextSeen, watching, toldNow, segmentShut, segmentBegun}
 use Rattle.read.specs.inner.Surveying.{placeSeen, SegmentsKnown}
-use Rattle.read.specs.inner.Underway.{Seen}
-use Rattle.read.proofs.Naming.{numberPacked, letter-kept, byte-separator, byte-letter, bytes-none, bytes-more, bytes-settled, bytes-append, segment-kind, header-context}
+use Rattle.read.specs.inner.Underway.{nameSoFar, Seen}
+use Rattle.read.proofs.FieldLaws.{first-cut, first-more}
+use Rattle.read.proofs.Naming.{bytes-none, bytes-append, segment-kind, header-context}
 
--- the context's letters, and the watcher: only the first segment matters
+-- kind and watcher: the first segment is an H, and begins the watcher
 module _ (s : Survey) where
-  pub context-first : (f : ℕ) (t : List ℕ) → s .segments ≡ 1 → contextWith f s t ≡ withBytes f (s .context) t
-  unfolding contextWith
-  context-first f t h = rw (eq-eqb (s .segments) 1 h, contextWith)
+  pub kind-first : s .segments ≡ 1 → kindSeen s ≡ 1
+  unfolding kindSeen
+  kind-first h = rw (eq-eqb (s .segments) 1 h, kindSeen)
 
-  pub context-later : (f : ℕ) (t : List ℕ) → (s .segments ≡ 1 → ⊥) → contextWith f s t ≡ s .context
-  unfolding contextWith
-  context-later f t h = rw (ne-eqb (s .segments) 1 h, contextWith)
+  pub kind-later : (s .segments ≡ 1 → ⊥) → kindSeen s ≡ kindOf (nameIn (s .name .letters))
+  unfolding kindSeen
+  kind-later h = rw (ne-eqb (s .segments) 1 h, kindSeen)
 
   pub watching-first : s .segments ≡ 1 → watching s ≡ begun (contextSeen s)
   unfolding watching
@@ -65,27 +65,7 @@ module _ (s : Survey) where
   unfolding watching
   watching-later h = rw (ne-eqb (s .segments) 1 h, watching)
 
--- the struct that a step makes, from what its calls answer
-module _ (s : Survey) (f : ℕ) (t : List ℕ) (n : ℕ) where
-  abbrev textStruct : Name → Name → Survey
-  textStruct kind context =
-      record {
-        segments = s .segments;
-        separators = s .separators + n;
-        unknown = s .unknown;
-        misplaced = s .misplaced;
-        watcher = s .watcher;
-        kind = kind;
-        context = context;
-      }
-
-  pub text-first : {kind context : Name} → s .segments ≡ 1 → kind ≡ withBytes f (s .kind) t → context ≡ withBytes f (s .context) t
-      → textStruct kind context ≡ textJoined f s t n
-  text-first h k x = ap₂ textStruct k (x ∙ sym (context-first s f t h))
-
-  pub text-later : {kind : Name} → (s .segments ≡ 1 → ⊥) → kind ≡ withBytes f (s .kind) t → textStruct kind (s .context) ≡ textJoined f s t n
-  text-later h k = ap₂ textStruct k (sym (context-later s f t h))
-
+-- the struct that closing a segment makes, from what its calls answer
 module _ (s : Survey) (may : ℕ → ℕ → ℕ → Bool) where
   abbrev closedStruct : ℕ → ℕ → Watcher → Survey
   closedStruct unknown misplaced watcher =
@@ -95,8 +75,7 @@ module _ (s : Survey) (may : ℕ → ℕ → ℕ → Bool) where
         unknown = unknown;
         misplaced = misplaced;
         watcher = watcher;
-        kind = s .kind;
-        context = s .context;
+        name = s .name;
       }
 
   pub closed-as : {kind : ℕ} {watcher : Watcher} {told : Told} {unknown misplaced : ℕ}
@@ -151,31 +130,33 @@ module _ (ps : Separators) where
       (arith, length-allSegments ps h ((ds ++ last ∷ []) ++ [] ∷ []), length-allSegments ps h (ds ++ last ∷ []), leafSum-last (ds ++ last ∷ []) [])
 
 -- a text joined to the open segment
-module _ (ps : Separators) (s : Survey) (t : List ℕ) (n : ℕ) (all : n ≡ count (among (splitting ps)) t) (b : All (λ (a : ℕ). a < 256) t) where
+name-text : (ps : Separators) (t : List ℕ) (done : List (List ℕ)) (last : List ℕ) → 7 ≤ length (getD (done ++ last ∷ []) 0 [])
+    → withBytes (ps .field) (nameSoFar ps done last) t ≡ nameSoFar ps done (last ++ t)
+unfolding nameSoFar
+name-text ps t [] last long =
+    sym (bytes-append (ps .field) (fresh 5) (drop 7 last) t) ∙ ap (withBytes (ps .field) (fresh 5)) (sym (drop-append-le 7 last t long))
+name-text ps t (h ∷ ds) last long = sym (bytes-append (ps .field) (fresh 1) last t)
+
+header-text : (t : List ℕ) (done : List (List ℕ)) (last : List ℕ) → 7 ≤ length (getD (done ++ last ∷ []) 0 [])
+    → take 7 (getD (done ++ (last ++ t) ∷ []) 0 []) ≡ take 7 (getD (done ++ last ∷ []) 0 [])
+header-text t [] last long = take-append-le 7 last t long
+header-text t (h ∷ ds) last long = refl
+
+long-header : (ps : Separators) (t : List ℕ) → take 7 t ≡ headerBytes ps → 7 ≤ length t
+unfolding headerBytes
+long-header ps t h = omega (arith, ap length h, length-take 7 t)
+
+module _ (ps : Separators) (s : Survey) (t : List ℕ) (n : ℕ) (all : n ≡ count (among (splitting ps)) t) where
   pub seen-text : (done : List (List ℕ)) (last : List ℕ) → Seen ps done last s → Seen ps done (last ++ t) (textJoined (ps .field) s t n)
-  seen-text [] last w =
+  seen-text done last w =
+      let long = long-header ps (getD (done ++ last ∷ []) 0 []) (w .header) in
       record {
         count = w .count;
-        leaves = omega (arith, w .leaves, leaves-text ps [] last t (w .header));
+        leaves = omega (arith, w .leaves, leaves-text ps done last t long);
         judged = record { unknown = w .judged .unknown; misplaced = w .judged .misplaced; watcher = w .judged .watcher };
-        kind = ap (λ (l : Name). withBytes (ps .field) l t) (w .kind) ∙ sym (bytes-append (ps .field) (fresh 1) last t);
-        context =
-            context-first s (ps .field) t (w .count)
-            ∙ ap (λ (l : Name). withBytes (ps .field) l t) (w .context)
-            ∙ sym (bytes-append (ps .field) (fresh 5) (drop 7 last) t)
-            ∙ ap (withBytes (ps .field) (fresh 5)) (sym (drop-append-le 7 last t (w .header)));
-        header = omega (arith, length-append last t, w .header);
-        bytes = all-append (w .bytes) b;
-      }
-  seen-text (h ∷ ds) last w =
-      record {
-        count = w .count;
-        leaves = omega (arith, w .leaves, leaves-text ps (h ∷ ds) last t (w .header));
-        judged = record { unknown = w .judged .unknown; misplaced = w .judged .misplaced; watcher = w .judged .watcher };
-        kind = ap (λ (l : Name). withBytes (ps .field) l t) (w .kind) ∙ sym (bytes-append (ps .field) (fresh 1) last t);
-        context = context-later s (ps .field) t (λ e. omega (arith, w .count)) ∙ w .context;
-        header = w .header;
-        bytes = all-append (w .bytes) b;
+        name = ap (λ (l : Name). withBytes (ps .field) l t) (w .name) ∙ name-text ps t done last long;
+        header = header-text t done last long ∙ w .header;
+        no-letter = w .no-letter;
       }
 
 -- the first segment, whatever follows
@@ -183,9 +164,30 @@ first-stays : (done : List (List ℕ)) (last : List ℕ) (more : List (List ℕ)
 first-stays [] last more = refl
 first-stays (h ∷ ds) last more = refl
 
+-- a segment that begins with the header bytes is an H
+header-kind : (ps : Separators) → (72 ≡ ps .field → ⊥) → (t : List ℕ) → kindOfSegment ps (headerBytes ps ++ t) ≡ 1
+unfolding headerBytes kindOfSegment kindOf numberAmong kindNames firstFrom same bytes
+header-kind ps other t =
+    let rest : List ℕ = drop 2 (headerBytes ps) ++ t in
+    ap kindOf
+    (first-more (ps .field) 72 (ps .field ∷ rest) other ∙ ap (λ (u : List ℕ). 72 ∷ u) (first-cut (ps .field) (ps .field) rest refl))
+
 -- the letters gathered of the open segment spell its kind
 pub kind-seen : (ps : Separators) (s : Survey) (done : List (List ℕ)) (last : List ℕ) → Seen ps done last s → kindSeen s ≡ kindOfSegment ps last
-kind-seen ps s done last w = ap (numberPacked kindNames) (w .kind) ∙ segment-kind ps (w .bytes)
+unfolding nameSoFar
+kind-seen ps s [] last w =
+    kind-first s (w .count)
+    ∙ sym (header-kind ps (w .no-letter) (drop 7 last))
+    ∙ ap (λ (t : List ℕ). kindOfSegment ps (t ++ drop 7 last)) (sym (w .header))
+    ∙ ap (kindOfSegment ps) (take-append-drop 7 last)
+kind-seen ps s (h ∷ ds) last w =
+    kind-later s (λ e. omega (arith, w .count)) ∙ ap (λ (l : Name). kindOf (nameIn (l .letters))) (w .name) ∙ segment-kind ps last
+
+-- nothing is gathered of the next segment's kind yet
+name-next : (ps : Separators) (done : List (List ℕ)) (last : List ℕ) → fresh 1 ≡ nameSoFar ps (done ++ last ∷ []) []
+unfolding nameSoFar
+name-next ps [] last = sym (bytes-none (ps .field) (fresh 1))
+name-next ps (h ∷ ds) last = sym (bytes-none (ps .field) (fresh 1))
 
 -- closing the open segment
 module _ (ps : Separators) (s : Survey) (table : List ℕ) (is : table ≡ followers) where
@@ -205,9 +207,9 @@ module _ (ps : Separators) (s : Survey) (table : List ℕ) (is : table ≡ follo
 
   -- what has been told to the watcher that the message's context begins
   watching-seen : (done : List (List ℕ)) (last : List ℕ) → Seen ps done last s → watching s ≡ watched (watcherOf done last) (kindsOf ps done)
-  unfolding kindsOf watched contextIn
+  unfolding kindsOf watched contextIn nameSoFar
   watching-seen [] last w =
-      watching-first s (w .count) ∙ ap begun (ap (numberPacked contextNames) (w .context) ∙ header-context ps (w .bytes))
+      watching-first s (w .count) ∙ ap begun (ap (λ (l : Name). contextOf (gathered l)) (w .name) ∙ header-context ps last)
   watching-seen (h ∷ ds) last w = watching-later s (λ e. omega (arith, w .count)) ∙ w .judged .watcher
 
   misplaced-seen : (done : List (List ℕ)) (last : List ℕ) → Seen ps done last s → s .misplaced ≡ firstNo 1 (watcherOf done last) (kindsOf ps done)
@@ -261,10 +263,9 @@ module _ (ps : Separators) (s : Survey) (table : List ℕ) (is : table ≡ follo
           count = omega (arith, w .count, length-append done (last ∷ []));
           leaves = omega (arith, w .leaves, leaves-next ps done last);
           judged = record { unknown = unknown-closed; misplaced = misplaced-closed; watcher = watcher-closed };
-          kind = sym (bytes-none (ps .field) (fresh 1));
-          context = w .context ∙ ap (λ (h : List ℕ). withBytes (ps .field) (fresh 5) (drop 7 h)) (sym (first-stays done last ([] ∷ [])));
+          name = name-next ps done last;
           header = rw (first-stays done last ([] ∷ [])) (w .header);
-          bytes = none;
+          no-letter = w .no-letter;
         }
 
     place-closed : placeSeen (segmentShut (followsBy table) s) ≡ misplaced (contextIn ps (segmentsOf done last)) (kindsOf ps (segmentsOf done last))
@@ -298,27 +299,14 @@ no-context : (ps : Separators) → contextIn ps [] ≡ 0
 unfolding contextIn contextOfHeader split contextOf numberAmong contextNames firstFrom same bytes
 no-context ps = refl
 
-header-kind : (ps : Separators) → (72 ≡ ps .field → ⊥) → withBytes (ps .field) (fresh 1) (headerBytes ps) ≡ nothingSeen .kind
-unfolding headerBytes fresh
-header-kind ps other =
-    let one : Name = record { left = 1; packed = 328 } in
-    let rest : List ℕ = drop 2 (headerBytes ps) in
-    bytes-more (ps .field) (fresh 1) 72 (ps .field ∷ rest)
-    ∙ ap (λ (l : Name). withBytes (ps .field) l (ps .field ∷ rest))
-    (byte-letter (ps .field) (fresh 1) 72 (λ e. omega arith) other refl ∙ letter-kept (fresh 1) 72 (omega arith))
-    ∙ bytes-more (ps .field) one (ps .field) rest
-    ∙ ap (λ (l : Name). withBytes (ps .field) l rest) (byte-separator (ps .field) one (ps .field) (λ e. omega arith) refl)
-    ∙ bytes-settled (ps .field) (nothingSeen .kind) rest refl
-
-pub seen-begins : (ps : Separators) → (72 ≡ ps .field → ⊥) → All (λ (b : ℕ). b < 256) (headerBytes ps) → Seen ps [] (headerBytes ps) nothingSeen
-unfolding headerBytes count sumOf firstUnknown kindsOf firstFrom firstNo watched
-seen-begins ps other b =
+pub seen-begins : (ps : Separators) → (72 ≡ ps .field → ⊥) → Seen ps [] (headerBytes ps) nothingSeen
+unfolding headerBytes count sumOf firstUnknown kindsOf firstFrom firstNo watched nameSoFar
+seen-begins ps other =
     record {
       count = refl;
       leaves = sym (length-allSegments ps (headerBytes ps) []);
       judged = record { unknown = refl; misplaced = refl; watcher = ap begun (sym (no-context ps)) };
-      kind = sym (header-kind ps other);
-      context = sym (bytes-none (ps .field) (fresh 5));
-      header = omega arith;
-      bytes = b;
+      name = sym (bytes-none (ps .field) (fresh 5));
+      header = refl;
+      no-letter = other;
     }

@@ -7,15 +7,20 @@ use Prim.Native.Nat.{ℕ, _+_, _*_, _<_}
 use native.Mathlib.Omega.{arith}
 use lib.Dec.{lit≤}
 use lib.ListN.{getD, replicate}
-use Rattle.laws.specs.Lists.{concat}
+use Rattle.laws.specs.Lists.{same, among, concat, firstFrom}
 use Rattle.laws.specs.Texts.{bytes}
 use Rattle.form.specs.Limits.{form}
-use Rattle.form.specs.Numbers.{longLine}
+use Rattle.form.specs.Header.{within, allowed, allAllowed, different, separatorsOf, five, soundHeader, headerOf}
+use Rattle.form.specs.Names.{kindNames, contextNames, numberAmong, kindOf, contextOf}
+use Rattle.form.specs.Numbers.{longLine, noContext}
+use Rattle.line.specs.Lines.{inside, walkFrom, walk, texts, faultNumber}
+use Rattle.line.specs.Joining.{addendum, carried, joined}
 use Rattle.order.specs.Owners.{level}
 use Rattle.table.specs.declared.Card.{Card}
-use Rattle.table.specs.Rows.{segmentRowSize, leafRowSize, ownerIn, Table}
+use Rattle.table.specs.Leaves.{onto, split, kindOfSegment, contextOfHeader}
+use Rattle.table.specs.Rows.{segmentRowSize, leafRowSize, ownerIn, kindsOf, contextIn, Table}
 use Rattle.table.specs.inner.Columns.{segmentIn}
-use Rattle.table.specs.Reading.{roomOf, Room, Outcome, refused, accepted, short, reading, stated}
+use Rattle.table.specs.Reading.{roomOf, Room, Outcome, refused, accepted, refuseIf, refuseAt, short, firstUnknown, judged, ofMessage, reading, stated}
 use Rattle.table.specs.Examples.{Example, Says, refuses, files, says, read, filed, examples, k1, k6, k10}
 use Rattle.table.proofs.Accepting.{refuse-passed}
 use Rattle.table.proofs.Examples.{examples-hold}
@@ -53,6 +58,10 @@ K7 = bytes "H|~^\\&|||LAB||ORU\rP|1||||DUPONT~JEAN\rOB\rA|R|1\rOBX|1|NM|GLY||1.2
 unfoldable pub K10 : List ℕ
 K10 = bytes "H|~^\\&|||LAB||ADM\rP|1\rC|1\rAP|1\rAC|1\rL|1\r"
 
+-- no example: the header ends before its field 7, and a field before that is ADM
+unfoldable pub shortHeader : List ℕ
+shortHeader = bytes "H|~^\\&|ADM\rP|1\rL|1\r"
+
 -- and their outcomes
 example : (i : ℕ) → getD (map (λ (e : Example). read (e .message)) examples) i (refuses 0 0) ≡ getD (map (λ (e : Example). e .expected) examples) i (refuses 0 0)
 example i = ap (λ (ss : List Says). getD ss i (refuses 0 0)) examples-hold
@@ -76,6 +85,12 @@ k7-read = says-accepted (reading form level (stated form) K7) (example 8)
 pub k10-read : reading form level (stated form) K10 ≡ accepted k10
 unfolding K10 examples read
 k10-read = says-accepted (reading form level (stated form) K10) (example 12)
+
+pub short-header-read : reading form level (stated form) shortHeader ≡ refused noContext 0
+unfolding shortHeader same among firstFrom bytes within allowed allAllowed different separatorsOf five soundHeader headerOf kindNames contextNames
+    numberAmong kindOf contextOf inside walkFrom walk texts faultNumber addendum carried joined onto split kindOfSegment contextOfHeader kindsOf
+    contextIn refuseIf refuseAt short stated firstUnknown judged ofMessage reading
+short-header-read = refl
 
 -- buffers that are not short are as good as those of the stated sizes
 stated-roomy : short form (stated form) ≡ false
@@ -165,4 +180,11 @@ module _ (text segments leaves : List ℕ) {text′ segments′ leaves′ : List
   unfolding answerOf k10 filed
   takes-AP-for-an-addendum g h =
       let is : r .card .segments ≡ 6 = ap (λ (a : Answer). a .card .segments) (given K10 k10-read g .answer) in
+      omega arith
+
+  -- one that takes the text of an earlier field for the context (C1): ADM stands in field 3, and there is no field 7
+  pub takes-an-earlier-field : ReadAs form level shortHeader text segments leaves r text′ segments′ leaves′ → r .number ≡ 0 → ⊥
+  unfolding answerOf
+  takes-an-earlier-field g h =
+      let is : r .number ≡ 9 = ap (λ (a : Answer). a .number) (given shortHeader short-header-read g .answer) in
       omega arith

@@ -228,8 +228,7 @@ module _ {L : Limits} {ps : Separators} {m : List ℕ} {at from : ℕ} {s : Surv
           last = q .begun .last ++ take (e - from) (drop from m);
           seen =
               seen-text ps s (take (e - from) (drop from m)) separators
-              (all-marked ∙ ap (λ (k : ℕ). count (among (splitting ps)) (take (k - from) (drop from m))) (sym here))
-              (all-take (e - from) (all-drop from (q .bytes))) (q .begun .done) (q .begun .last) (q .begun .seen);
+              (all-marked ∙ ap (λ (k : ℕ). count (among (splitting ps)) (take (k - from) (drop from m))) (sym here)) (q .begun .done) (q .begun .last) (q .begun .seen);
           left = q .begun .joins (e - from) (walkFrom L n (drop n m)) walked;
           few-segments = omega (arith, q .begun .few-segments);
           few-separators = omega (arith, few-marked);
@@ -255,7 +254,7 @@ message-begins L ps m b wide h =
       done = [];
       last = take 7 m;
       seen = subst⁻¹ (λ (t : List ℕ). Seen ps [] t nothingSeen) starts
-          (seen-begins ps (λ e. field .noCapital (omega arith) (omega arith)) (subst Bytes starts (all-take 7 b)));
+          (seen-begins ps (λ e. field .noCapital (omega arith) (omega arith)));
       joins = λ k ls e.
           left-first (ps .field) (walk L m) (take 7 m ++ take k (drop 7 m)) ls e
           (ap (λ (r : List ℕ). addendum (ps .field) (r ++ take k (drop 7 m))) starts

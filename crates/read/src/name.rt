@@ -1,17 +1,15 @@
-// The name in one field of a segment, packed into one number as its lines come: a name may be cut anywhere (A3).
+// The name in one field of a segment, gathered letter by letter as its lines come: a name may be cut anywhere (A3).
+use form::letters::Letters;
 ghost use mathlib.Core.Path.{_≡_};
 ghost use Prim.Native.Nat.{_≤_, _-_};
 ghost use lib.ListN.{length, take, drop};
-ghost use Rattle.read.specs.inner.Naming.{fresh, withLetter, withByte, withBytes};
-
-// Fields of more than three letters are not told apart, since no kind and no context has so many: this number stands for them all.
-const TOO_MANY: u32 = 33554432;
+ghost use Rattle.read.specs.inner.Naming.{fresh, withBytes};
 
 pub struct Name {
     // field separators that are to come up to the one that ends the field: 1 in the field itself, 0 once it has ended
     pub left: usize,
-    // 1 and then the letters that the field has so far, as digits to base 256, or TOO_MANY
-    pub packed: u32,
+    // of the field that the last byte stood in, or of the field sought once that has ended
+    pub letters: Letters,
 }
 
 impl Name {
@@ -19,55 +17,41 @@ impl Name {
     pub fn fresh(left: usize) -> Name
         ensures { λ r. ⌜ r ≡ fresh left ⌝ }
     {
-        Name { left, packed: 1 }
-    }
-
-    // The name with one more letter, which is any byte but a field separator: three are kept, and a fourth makes it TOO_MANY for good.
-    pub fn with_letter(self, b: u8) -> Name
-        ensures { λ r. ⌜ r ≡ withLetter self b ⌝ }
-    {
-        let mut next = self;
-        if self.packed < 16777216 {
-            next.packed = self.packed * 256 + b as u32;
-            return next;
+        Name {
+            left,
+            letters: Letters {
+                length: 0,
+                first: 0,
+                second: 0,
+                third: 0,
+            },
         }
-        next.packed = TOO_MANY;
-        next
-    }
-
-    // The name once one more byte of the segment has come.
-    pub fn with_byte(self, field: u8, b: u8) -> Name
-        ensures { λ r. ⌜ r ≡ withByte field self b ⌝ }
-    {
-        let mut next = self;
-        if self.left == 0 {
-            return next;
-        }
-        if b == field {
-            next.left = self.left - 1;
-            return next;
-        }
-        if self.left == 1 {
-            return self.with_letter(b);
-        }
-        next
     }
 }
 
-// The name once the bytes from `from` up to `end` have come. It stops where the field has ended; in a field of too many letters it goes on
-// to that end, though the number changes no more.
+// The name once the bytes from `from` up to `end` have come; it stops where the field has ended. In an earlier field letters are gathered, too,
+// and given up at its end: that takes less than to ask at each letter which field it is.
 pub(crate) fn gather(name: Name, field: u8, message: &[u8], from: usize, end: usize) -> Name
     requires { ⌜ (from ≤ end) × (end ≤ length (now message)) ⌝ }
     ensures { λ r. ⌜ r ≡ withBytes field name (take (end - from) (drop from (now (message .entry)))) ⌝ }
 {
-    let mut gathered = name;
+    let mut left = name.left;
+    let mut letters = name.letters;
     let mut i = from;
     while i < end {
-        if gathered.left == 0 {
-            return gathered;
+        if left == 0 {
+            break;
         }
-        gathered = gathered.with_byte(field, message[i]);
+        let b = message[i];
         i += 1;
+        if b == field {
+            left -= 1;
+            if left != 0 {
+                letters.length = 0;
+            }
+        } else {
+            letters = letters.with(b);
+        }
     }
-    gathered
+    Name { left, letters }
 }

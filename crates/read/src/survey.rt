@@ -17,7 +17,7 @@ ghost use Prim.Native.Nat.{_+_, _-_, _≤_, _<_};
 ghost use lib.ListN.{length, set, take, drop};
 ghost use Rattle.laws.specs.inner.First.{firstHeld};
 ghost use Rattle.order.specs.inner.Telling.{followsBy};
-ghost use Rattle.read.specs.inner.Seeing.{nothingSeen, textJoined, kindSeen, watching, segmentShut, segmentBegun};
+ghost use Rattle.read.specs.inner.Seeing.{nothingSeen, textJoined, kindSeen, contextSeen, watching, segmentShut, segmentBegun};
 ghost use Rattle.read.specs.inner.Underway.{Seeable, StepOf};
 ghost use Rattle.read.specs.inner.Surveying.{Ready, SurveyOf};
 
@@ -33,9 +33,9 @@ pub struct Survey {
     pub misplaced: usize,
     // told the kinds of the closed segments
     pub watcher: Watcher,
-    // the name of the open segment's kind (S1), and that of the context in field 7 of the first segment (C1), as far as they have come
-    pub kind: Name,
-    pub context: Name,
+    // the name of the context in field 7 where the first segment is open (C1), of the open segment's kind where any other is (S1), as far as it
+    // has come
+    pub name: Name,
 }
 
 // What one line comes to: the survey with its text and where the next line begins, or a fault.
@@ -61,13 +61,8 @@ impl Survey {
             unknown: 0,
             misplaced: 0,
             watcher: Watcher::begin(0),
-            // 1 and the letter H, which is 72; the field has ended
-            kind: Name {
-                left: 0,
-                packed: 328,
-            },
             // field 3 begins behind the header bytes, and the fifth field separator ends field 7
-            context: Name::fresh(5),
+            name: Name::fresh(5),
         }
     }
 
@@ -83,24 +78,35 @@ impl Survey {
         requires { ⌜ (from ≤ end) × (end ≤ length (now message)) × (self .separators + separators ≤ end) ⌝ }
         ensures { λ r. ⌜ r ≡ textJoined field self (take (end - from) (drop from (now (message .entry)))) separators ⌝ }
     {
-        let kind = self.kind;
+        let name = self.name;
         let mut next = self;
         next.separators = self.separators + separators;
-        next.kind = gather(kind, field, message, from, end);
-        if self.segments == 1 {
-            let context = self.context;
-            next.context = gather(context, field, message, from, end);
-            return next;
-        }
+        next.name = gather(name, field, message, from, end);
         next
     }
 
-    // The kind of the open segment by number, from the name gathered.
+    // The kind of the open segment by number. The first is an H by its header bytes.
     fn kind_number(self) -> u8
         ensures { λ r. ⌜ r ≡ kindSeen self ⌝ }
     {
-        let name = self.kind;
-        Kind::packed(name.packed)
+        if self.segments == 1 {
+            return Kind::H;
+        }
+        let name = self.name;
+        let letters = name.letters;
+        Kind::of(letters.length, letters.first, letters.second, letters.third)
+    }
+
+    // The context by number, where the first segment is open: 0 where its field 7 has not come.
+    fn context_number(self) -> u8
+        ensures { λ r. ⌜ r ≡ contextSeen self ⌝ }
+    {
+        let name = self.name;
+        if 1 < name.left {
+            return 0;
+        }
+        let letters = name.letters;
+        Context::of(letters.length, letters.first, letters.second, letters.third)
     }
 
     // The open segment is closed: its kind is noted and judged, and the watcher told.
@@ -126,8 +132,7 @@ impl Survey {
         ensures { λ r. ⌜ r ≡ watching self ⌝ }
     {
         if self.segments == 1 {
-            let name = self.context;
-            return Watcher::begin(Context::packed(name.packed));
+            return Watcher::begin(self.context_number());
         }
         self.watcher
     }
@@ -139,7 +144,7 @@ impl Survey {
     {
         let mut next = self;
         next.segments = self.segments + 1;
-        next.kind = Name::fresh(1);
+        next.name = Name::fresh(1);
         next
     }
 }

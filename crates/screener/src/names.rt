@@ -2,28 +2,24 @@
 use crate::output::put;
 use form::context::Context;
 use form::kind::Kind;
+use form::letters::Spelled;
 
-// The name of a kind that some rule is about.
+// The name of a kind; nothing where no kind has the number.
 pub fn put_kind(kind: u8) {
-    match kind {
-        Kind::H => put(b"H"),
-        Kind::P => put(b"P"),
-        Kind::OBR => put(b"OBR"),
-        Kind::OBX => put(b"OBX"),
-        _ => put(b"?"),
-    }
+    put_name(Kind::name(kind as usize));
 }
 
-// The name of a context.
+// The name of a context; nothing where no context has the number.
 pub fn put_context(context: u8) {
-    match context {
-        Context::ADM => put(b"ADM"),
-        Context::ORM => put(b"ORM"),
-        Context::ORA => put(b"ORA"),
-        Context::REG => put(b"REG"),
-        Context::ERR => put(b"ERR"),
-        Context::ORU => put(b"ORU"),
-        Context::FAC => put(b"FAC"),
-        _ => put(b"?"),
+    put_name(Context::name(context as usize));
+}
+
+// The letters of a name; nothing where it counts more than it has, as no name of a kind or a context does.
+fn put_name(name: Spelled) {
+    let length = name.0;
+    let array = name.1;
+    let letters = &array[..];
+    if length <= letters.len() {
+        put(&letters[0..length]);
     }
 }

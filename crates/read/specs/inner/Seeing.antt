@@ -5,15 +5,14 @@ use mathlib.Core.List.{List}
 use Prim.Native.Nat.{ℕ, _+_}
 use lib.Dec.{eqb}
 use Rattle.laws.specs.inner.First.{firstHeld}
-use Rattle.form.specs.Names.{kindNames, contextNames}
-use Rattle.form.specs.inner.Spelling.{packedAmong}
+use Rattle.form.specs.Names.{kindOf, contextOf}
+use Rattle.form.specs.inner.Lettering.{nameIn}
 use Rattle.order.specs.Watcher.{begun}
 use Rattle.order.specs.inner.Telling.{tellBy}
 use Rattle.order.specs.declared.watcher.Watcher.{Watcher}
 use Rattle.order.specs.declared.watcher.Told.{Told}
-use Rattle.read.specs.declared.name.Name.{Name}
 use Rattle.read.specs.declared.survey.Survey.{Survey}
-use Rattle.read.specs.inner.Naming.{fresh, withBytes}
+use Rattle.read.specs.inner.Naming.{fresh, withBytes, gathered}
 
 -- before the first line: its seven header bytes are known, so the open segment is an H
 abbrev pub nothingSeen : Survey
@@ -24,14 +23,10 @@ nothingSeen =
       unknown = 0;
       misplaced = 0;
       watcher = begun 0;
-      kind = record { left = 0; packed = 328 };
-      context = fresh 5;
+      name = fresh 5;
     }
 
--- a text with so many separators joined to the open segment; only the first segment's goes to the context
-unfoldable pub contextWith : ℕ → Survey → List ℕ → Name
-contextWith field s t = elim (eqb (s .segments) 1) [ true ↦ withBytes field (s .context) t | false ↦ s .context ]
-
+-- a text with so many separators joined to the open segment
 abbrev pub textJoined : ℕ → Survey → List ℕ → ℕ → Survey
 textJoined field s t separators =
     record {
@@ -40,16 +35,15 @@ textJoined field s t separators =
       unknown = s .unknown;
       misplaced = s .misplaced;
       watcher = s .watcher;
-      kind = withBytes field (s .kind) t;
-      context = contextWith field s t;
+      name = withBytes field (s .name) t;
     }
 
--- the kind of the open segment, and the context that the first segment names, by what was packed of their names
-abbrev pub kindSeen : Survey → ℕ
-kindSeen s = packedAmong kindNames (s .kind .packed)
+-- the kind of the open segment: the first is an H; and the context that the first segment names
+unfoldable pub kindSeen : Survey → ℕ
+kindSeen s = elim (eqb (s .segments) 1) [ true ↦ 1 | false ↦ kindOf (nameIn (s .name .letters)) ]
 
 abbrev pub contextSeen : Survey → ℕ
-contextSeen s = packedAmong contextNames (s .context .packed)
+contextSeen s = contextOf (gathered (s .name))
 
 -- the watcher that is told the open segment's kind: field 7 of the first segment begins it (C1)
 unfoldable pub watching : Survey → Watcher
@@ -67,8 +61,7 @@ segmentShut may s =
       unknown = firstHeld (s .unknown) (eqb (kindSeen s) 0) (s .segments);
       misplaced = firstHeld (s .misplaced) (not (toldNow may s .yes)) (s .segments);
       watcher = toldNow may s .watcher;
-      kind = s .kind;
-      context = s .context;
+      name = s .name;
     }
 
 -- the next one begun behind it
@@ -80,6 +73,5 @@ segmentBegun s =
       unknown = s .unknown;
       misplaced = s .misplaced;
       watcher = s .watcher;
-      kind = fresh 1;
-      context = s .context;
+      name = fresh 1;
     }

@@ -4,7 +4,6 @@ use mathlib.Core.List.{List, [], _∷_, _++_}
 use mathlib.Core.Path.{_≡_}
 use Prim.Native.Nat.{ℕ, suc, _+_, _-_, _≤_, _<_}
 use lib.ListN.{length, getD, take, drop}
-use Rattle.laws.specs.Every.{All}
 use Rattle.form.specs.declared.limits.Limits.{Limits}
 use Rattle.form.specs.declared.separators.Separators.{Separators}
 use Rattle.line.specs.Lines.{Lines, line, walkFrom, walk, faultNumber, faultPlace}
@@ -14,7 +13,9 @@ use Rattle.order.specs.Watcher.{begun, watched}
 use Rattle.order.specs.inner.Refusing.{firstNo}
 use Rattle.table.specs.Rows.{kindsOf, contextIn, allLeaves}
 use Rattle.table.specs.inner.Classes.{classTable}
+use Rattle.table.specs.inner.Filed.{headerBytes}
 use Rattle.table.specs.Reading.{firstUnknown}
+use Rattle.read.specs.declared.name.Name.{Name}
 use Rattle.read.specs.declared.survey.Survey.{Survey}
 use Rattle.read.specs.declared.survey.Step.{Step}
 use Rattle.read.specs.declared.survey.Step.the-variants.{On, Fault}
@@ -26,15 +27,20 @@ pub record JudgedSoFar (ps : Separators) (segments : List (List ℕ)) (s : Surve
   pub misplaced : s .misplaced ≡ firstNo 1 (begun (contextIn ps segments)) (kindsOf ps segments)
   pub watcher : s .watcher ≡ watched (begun (contextIn ps segments)) (kindsOf ps segments)
 
--- what is known with the segments `done` closed and the open one having the text `last` so far
+-- the name gathered with the segments `done` closed and the open one having the text `last` so far: of the first segment the context, behind the
+-- seven header bytes, of any other the kind
+unfoldable pub nameSoFar : Separators → List (List ℕ) → List ℕ → Name
+nameSoFar ps [] last = withBytes (ps .field) (fresh 5) (drop 7 last)
+nameSoFar ps (s ∷ done) last = withBytes (ps .field) (fresh 1) last
+
+-- what is known then
 pub record Seen (ps : Separators) (done : List (List ℕ)) (last : List ℕ) (s : Survey) : Type 0 where
   pub count : s .segments ≡ suc (length done)
   pub leaves : s .separators + s .segments + 2 ≡ length (allLeaves ps (done ++ last ∷ []))
   pub judged : JudgedSoFar ps done s
-  pub kind : s .kind ≡ withBytes (ps .field) (fresh 1) last
-  pub context : s .context ≡ withBytes (ps .field) (fresh 5) (drop 7 (getD (done ++ last ∷ []) 0 []))
-  pub header : 7 ≤ length (getD (done ++ last ∷ []) 0 [])
-  pub bytes : All (λ (b : ℕ). b < 256) last
+  pub name : s .name ≡ nameSoFar ps done last
+  pub header : take 7 (getD (done ++ last ∷ []) 0 []) ≡ headerBytes ps
+  pub no-letter : 72 ≡ ps .field → ⊥
 
 -- the survey of the message m has come to the place `at`, where a line may begin
 pub record Underway (L : Limits) (ps : Separators) (m : List ℕ) (at : ℕ) (s : Survey) : Type 0 where

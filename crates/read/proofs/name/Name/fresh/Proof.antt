@@ -1,12 +1,10 @@
 -- `Name::fresh` meets its contract.
 -- Assumes nothing.
 use mathlib.Core.Path.{refl}
-use Rattle.read.specs.inner.Naming.{fresh}
 use Rattle.read.proofs.name.Name.fresh.Statement.{statement}
 use Rattle.read.proofs.name.Name.fresh.Tie as tie
 
 returns : tie.Need-returns
-unfolding fresh
 returns c = refl
 
 pub fresh-spec : {M : Type 1} → statement M

@@ -1,11 +1,10 @@
 -- `Survey::begin` meets its contract: the watcher begins with no context, and the name in field 7 of the first segment with no letter.
 -- Assumes nothing.
-use borrow.Author.Needs.{needs}
 use mathlib.Core.Path.{ap₂}
+use borrow.Author.Needs.{needs}
 use Rattle.order.specs.declared.watcher.Watcher.{Watcher}
 use Rattle.read.specs.declared.name.Name.{Name}
 use Rattle.read.specs.declared.survey.Survey.{Survey}
-use Rattle.read.specs.inner.Seeing.{nothingSeen}
 use Rattle.read.proofs.survey.Survey.begin.Statement.{statement}
 use Rattle.read.proofs.survey.Survey.begin.Tie as tie
 
@@ -17,11 +16,9 @@ fresh-requires c κs = search needs
 
 returns : tie.Need-returns
 returns c =
-    let at-begin = c .before .begin in
-    let at-fresh = c .fresh in
     ap₂ {C = Survey}
-    (λ (w : Watcher) (l : Name). record { segments = 1; separators = 0; unknown = 0; misplaced = 0; watcher = w; kind = nothingSeen .kind; context = l })
-    (at-begin .ensures) (at-fresh .ensures)
+    (λ (w : Watcher) (l : Name). record { segments = 1; separators = 0; unknown = 0; misplaced = 0; watcher = w; name = l })
+    (c .before .begin .ensures) (c .fresh .ensures)
 
 pub begin-spec : {M : Type 1} → statement M
 begin-spec = tie.close (tie.spec begin-requires fresh-requires returns)

@@ -1,4 +1,4 @@
--- `Survey::next_segment` meets its contract: one segment more, and no letter of its kind yet.
+-- `Survey::next_segment` meets its contract: one segment more, and no letter of its name yet.
 -- Assumes nothing.
 use borrow.Author.Needs.{needs}
 use mathlib.Core.Path.{ap}
@@ -27,8 +27,7 @@ returns c =
       unknown = a .self .unknown;
       misplaced = a .self .misplaced;
       watcher = a .self .watcher;
-      kind = l;
-      context = a .self .context;
+      name = l;
     })
     (at-fresh .ensures)
 

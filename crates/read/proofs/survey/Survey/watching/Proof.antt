@@ -1,31 +1,27 @@
 -- `Survey::watching` meets its contract: only the first segment begins the watcher.
 -- Assumes nothing.
-use borrow.Author.Needs.{needs}
 use mathlib.Core.Path.{sym, ap, _∙_}
+use borrow.Author.Needs.{needs}
 use Rattle.order.specs.Watcher.{begun}
 use Rattle.read.proofs.Seeing.{watching-first, watching-later}
 use Rattle.read.proofs.survey.Survey.watching.Statement.{statement}
 use Rattle.read.proofs.survey.Survey.watching.Tie as tie
 
-packed-requires : tie.Need-packed-requires
-packed-requires c κs = search needs
+context-number-requires : tie.Need-context-number-requires
+context-number-requires c κs = search needs
 
 begin-requires : tie.Need-begin-requires
 begin-requires c κs = search needs
 
 returns : tie.Need-returns
 returns c =
-    let at-begin = c .begin in
-    let at-packed = c .before .packed in
-    let at-args = c .before .before .before .before .before .args in
-    let at-if1 = c .before .before .before .if1 in
-    at-begin .ensures ∙ ap begun (at-packed .ensures) ∙ sym (watching-first (at-args .self) (at-if1 .taken))
+    let asked = c .before .before in
+    c .begin .ensures
+    ∙ ap begun (c .before .context-number .ensures)
+    ∙ sym (watching-first (asked .before .before .args .self) (asked .if1 .taken))
 
 returns-2 : tie.Need-returns-2
-returns-2 c =
-    let at-args = c .before .before .before .args in
-    let at-if1 = c .before .if1 in
-    sym (watching-later (at-args .self) (at-if1 .left))
+returns-2 c = sym (watching-later (c .before .before .before .args .self) (c .before .if1 .left))
 
 pub watching-spec : {M : Type 1} → statement M
-watching-spec = tie.close (tie.spec packed-requires begin-requires returns returns-2)
+watching-spec = tie.close (tie.spec context-number-requires begin-requires returns returns-2)
