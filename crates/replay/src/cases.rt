@@ -7,6 +7,7 @@ use crate::finding;
 use crate::input::ROOM;
 use crate::input::number;
 use crate::looking;
+use crate::naming;
 use crate::order_values;
 use crate::pieces::take_in;
 use crate::reading;
@@ -32,6 +33,7 @@ fn pieces_of(operation: usize) -> usize {
         7 => 0xA1,
         101 => 0x5BAA5,
         104 => 0xBAA5,
+        105 => 0xB,
         1021 => 0xB,
         1022 => 0x2C,
         1023 => 0x2BAA5,
@@ -91,6 +93,7 @@ fn run(
         7 => watching::run(numbers),
         101 => seeking::run(numbers, bytes),
         104 => screening::run(numbers, bytes),
+        105 => naming::run(numbers, bytes),
         1021 => values::run(numbers, bytes),
         1022 => value_writing::run(numbers, bytes, text),
         1023 => order_values::run(numbers, bytes, answer_numbers, wholes, decimals),

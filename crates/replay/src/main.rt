@@ -13,6 +13,7 @@ mod comparing;
 mod finding;
 mod input;
 mod looking;
+mod naming;
 mod order_values;
 mod output;
 mod pieces;
