@@ -10,12 +10,12 @@ use native.Mathlib.Omega.{arith}
 use lib.Dec.{eqb}
 use lib.ListN.{length, getD, length-take}
 use lib.Seq.{length-take-le}
-use borrow.Author.Tests.{eqb-false}
+use borrow.Author.Tests.{eqb-true, eqb-false}
 use Rattle.laws.specs.Every.{All, also}
 use Rattle.laws.specs.Lists.{same, among, firstFrom}
 use Rattle.laws.proofs.Cases.{less-or-not}
 use Rattle.laws.proofs.Lists.{every, every-element, same-equal, different-same, Absent, absent-among, first-miss}
-use Rattle.laws.proofs.Tests.{never-both}
+use Rattle.laws.proofs.Tests.{never-both, and-first, and-second}
 use Rattle.form.specs.declared.letters.Letters.{Letters}
 use Rattle.form.specs.Names.{numberAmong}
 use Rattle.form.specs.inner.Lettering.{nameBy, nameIn}
@@ -73,6 +73,9 @@ module _ (l : Letters) where
   pub one-other : (a : ℕ) → (l .first ≡ a → ⊥) → same (l .first ∷ []) (a ∷ []) ≡ false
   one-other a h = different-same (λ q. h (ap (λ (t : List ℕ). getD t 0 0) q))
 
+  pub apart-other : (a : ℕ) → l .length ≡ 1 → (eqb (l .length) 1 && eqb (l .first) a) ≡ false → same (l .first ∷ []) (a ∷ []) ≡ false
+  apart-other a e h = one-other a (eqb-false (l .first) a (ap (λ (n : ℕ). eqb n 1 && eqb (l .first) a) (sym e) ∙ h))
+
   pub two-other : (a b : ℕ) → (eqb (l .first) a && eqb (l .second) b) ≡ false → same (l .first ∷ l .second ∷ []) (a ∷ b ∷ []) ≡ false
   two-other a b h = sym (two-same (l .first) (l .second) a b) ∙ h
 
@@ -87,6 +90,11 @@ module _ (l : Letters) where
     -- it has the letters of a name
     pub one-letter : (a : ℕ) → l .length ≡ 1 → l .first ≡ a → numberAmong names (a ∷ []) ≡ numberBy
     one-letter a e h = rw (e, h)
+
+    pub letter-apart : (a : ℕ) → (eqb (l .length) 1 && eqb (l .first) a) ≡ true → numberAmong names (a ∷ []) ≡ numberBy
+    letter-apart a h =
+        one-letter a (eqb-true (l .length) 1 (and-first (eqb (l .length) 1) (eqb (l .first) a) h))
+        (eqb-true (l .first) a (and-second (eqb (l .length) 1) (eqb (l .first) a) h))
 
     pub two-letters : (a b : ℕ) → l .length ≡ 2 → (eqb (l .first) a && eqb (l .second) b) ≡ true → numberAmong names (a ∷ b ∷ []) ≡ numberBy
     two-letters a b e h =

@@ -28,18 +28,18 @@ impl Context {
         ensures { λ r. ⌜ r ≡ contextOf (nameBy length first second third) ⌝ }
     {
         match length {
-            3 => if (first == b'A') & (second == b'D') & (third == b'M') {
+            3 => if (first == b'E') & (second == b'R') & (third == b'R') {
+                Context::ERR
+            } else if (first == b'A') & (second == b'D') & (third == b'M') {
                 Context::ADM
+            } else if (first == b'O') & (second == b'R') & (third == b'U') {
+                Context::ORU
             } else if (first == b'O') & (second == b'R') & (third == b'M') {
                 Context::ORM
             } else if (first == b'O') & (second == b'R') & (third == b'A') {
                 Context::ORA
             } else if (first == b'R') & (second == b'E') & (third == b'G') {
                 Context::REG
-            } else if (first == b'E') & (second == b'R') & (third == b'R') {
-                Context::ERR
-            } else if (first == b'O') & (second == b'R') & (third == b'U') {
-                Context::ORU
             } else if (first == b'F') & (second == b'A') & (third == b'C') {
                 Context::FAC
             } else {

@@ -33,17 +33,19 @@ impl Kind {
 
     pub const C: u8 = 12;
 
-    // The kind by the length of its name first, then by its letters (S7); 0 where no kind has that name. A alone is none: it marks a line that
-    // carries a segment on (A1). Letters past the length do not count, and no kind has a fourth.
+    // The kind by the length of its name first, then by its letters (S7); 0 where no kind has that name. C, which may stand anywhere, is asked
+    // for by itself. A alone is none: it marks a line that carries a segment on (A1). Letters past the length do not count, and no kind has a fourth.
     pub fn of(length: usize, first: u8, second: u8, third: u8) -> u8
         ensures { λ r. ⌜ r ≡ kindOf (nameBy length first second third) ⌝ }
     {
+        if (length == 1) & (first == b'C') {
+            return Kind::C;
+        }
         match length {
             1 => match first {
                 b'H' => Kind::H,
                 b'P' => Kind::P,
                 b'L' => Kind::L,
-                b'C' => Kind::C,
                 _ => 0,
             },
             2 => if (first == b'A') & (second == b'P') {
@@ -53,18 +55,18 @@ impl Kind {
             } else {
                 0
             },
-            3 => if (first == b'O') & (second == b'B') & (third == b'R') {
-                Kind::OBR
+            3 => if (first == b'E') & (second == b'R') & (third == b'R') {
+                Kind::ERR
             } else if (first == b'O') & (second == b'B') & (third == b'X') {
                 Kind::OBX
+            } else if (first == b'O') & (second == b'B') & (third == b'R') {
+                Kind::OBR
             } else if (first == b'F') & (second == b'A') & (third == b'C') {
                 Kind::FAC
             } else if (first == b'R') & (second == b'E') & (third == b'G') {
                 Kind::REG
             } else if (first == b'A') & (second == b'C') & (third == b'T') {
                 Kind::ACT
-            } else if (first == b'E') & (second == b'R') & (third == b'R') {
-                Kind::ERR
             } else {
                 0
             },
