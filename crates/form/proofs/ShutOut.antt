@@ -1,4 +1,4 @@
--- Wrong recognisers: what no function with the contract of `Kind::of`, `Kind::named` or `Context::of` answers.
+-- Wrong recognisers and wrong names: what no function with the contract of those that kinds, contexts and letters have answers.
 -- Assumes nothing.
 use mathlib.Core.Bool.{true}
 use mathlib.Core.List.{List, [], _∷_}
@@ -8,9 +8,10 @@ use native.Mathlib.Omega.{arith}
 use lib.ListN.{getD, take}
 use Rattle.laws.specs.Lists.{same, firstFrom}
 use Rattle.laws.specs.Texts.{bytes}
+use Rattle.form.specs.declared.letters.Letters.{Letters}
 use Rattle.form.specs.declared.letters.Spelled.{Spelled}
 use Rattle.form.specs.Names.{kindNames, contextNames, numberAmong, kindOf, contextOf, nameOf}
-use Rattle.form.specs.inner.Lettering.{nameBy, spelled}
+use Rattle.form.specs.inner.Lettering.{nameBy, lettersOf, spelled, withLetter}
 use Rattle.form.proofs.Names.{capitals, known-passes, spelled-whole, name-short, kinds-short, kinds-capitals, kind-name, name-kind}
 
 -- by a length and three letters
@@ -67,6 +68,12 @@ module _ (f : ℕ → ℕ → ℕ → ℕ → ℕ) (meets : (n a b c : ℕ) → 
   context-behind =
       (λ h. let z : ⊥ = omega (arith, sym h ∙ meets 4 79 82 85) in z, λ h. let z : ⊥ = omega (arith, sym h ∙ meets 3 79 82 86) in z)
 
+module _ (f : List ℕ → ℕ) (meets : (t : List ℕ) → f t ≡ contextOf t) where
+  pub context-text-behind : (f (bytes "ORUX") ≡ 6 → ⊥) × (f (bytes "oru") ≡ 6 → ⊥)
+  unfolding contextOf contextNames bytes numberAmong firstFrom same
+  context-text-behind =
+      (λ h. let z : ⊥ = omega (arith, sym h ∙ meets (bytes "ORUX")) in z, λ h. let z : ⊥ = omega (arith, sym h ∙ meets (bytes "oru")) in z)
+
 -- the name of a number
 module _ (f : ℕ → Spelled) (meets : (n : ℕ) → f n ≡ spelled (nameOf kindNames n)) where
   -- recognised again, it gives that number
@@ -81,7 +88,41 @@ module _ (f : ℕ → Spelled) (meets : (n : ℕ) → f n ≡ spelled (nameOf ki
       name-at zero = refl
       name-at (suc n) = refl
 
-  -- AC put out for an ACT
-  pub other-name : f 9 ≡ spelled (bytes "AC") → ⊥
+  -- AC put out for an ACT, and a name past the last number
+  pub other-name : (f 9 ≡ spelled (bytes "AC") → ⊥) × (f 13 ≡ spelled (bytes "C") → ⊥)
   unfolding nameOf kindNames bytes
-  other-name h = let z : ⊥ = omega (arith, ap (λ (s : Spelled). s .0) (sym h ∙ meets 9)) in z
+  other-name = (
+    λ h. let z : ⊥ = omega (arith, ap (λ (s : Spelled). s .0) (sym h ∙ meets 9)) in z,
+    λ h. let z : ⊥ = omega (arith, ap (λ (s : Spelled). s .0) (sym h ∙ meets 13)) in z,
+  )
+
+-- of a context: ORA put out for an ORU, and a name for 0
+module _ (f : ℕ → Spelled) (meets : (n : ℕ) → f n ≡ spelled (nameOf contextNames n)) where
+  pub other-context : (f 6 ≡ spelled (bytes "ORA") → ⊥) × (f 0 ≡ spelled (bytes "ADM") → ⊥)
+  unfolding nameOf contextNames bytes
+  other-context = (
+    λ h. let z : ⊥ = omega (arith, ap (λ (s : Spelled). getD (s .1) 2 0) (sym h ∙ meets 6)) in z,
+    λ h. let z : ⊥ = omega (arith, ap (λ (s : Spelled). s .0) (sym h ∙ meets 0)) in z,
+  )
+
+-- the letters of a text: a fourth not counted, and a letter where there is none
+module _ (f : List ℕ → Letters) (meets : (t : List ℕ) → f t ≡ lettersOf t) where
+  pub fourth-uncounted : f (bytes "ACTX") .length ≡ 3 → ⊥
+  unfolding bytes
+  fourth-uncounted h = let z : ⊥ = omega (arith, sym h ∙ ap (λ (l : Letters). l .length) (meets (bytes "ACTX"))) in z
+
+  pub letter-too-many : f (bytes "A") .second ≡ 65 → ⊥
+  unfolding bytes
+  letter-too-many h = let z : ⊥ = omega (arith, sym h ∙ ap (λ (l : Letters). l .second) (meets (bytes "A"))) in z
+
+-- one letter more: put in the place of the one before it, and a fifth counted
+module _ (f : Letters → ℕ → Letters) (meets : (l : Letters) (b : ℕ) → f l b ≡ withLetter l b) where
+  pub letter-replaced : f (record { length = 1; first = 65; second = 0; third = 0 }) 67 .first ≡ 67 → ⊥
+  unfolding withLetter
+  letter-replaced h =
+      let z : ⊥ = omega (arith, sym h ∙ ap (λ (l : Letters). l .first) (meets (record { length = 1; first = 65; second = 0; third = 0 }) 67)) in z
+
+  pub fifth-counted : f (record { length = 4; first = 65; second = 67; third = 84 }) 88 .length ≡ 5 → ⊥
+  unfolding withLetter
+  fifth-counted h =
+      let z : ⊥ = omega (arith, sym h ∙ ap (λ (l : Letters). l .length) (meets (record { length = 4; first = 65; second = 67; third = 84 }) 88)) in z
