@@ -33,8 +33,9 @@ impl Kind {
 
     pub const C: u8 = 12;
 
-    // The kind by the length of its name first, then by its letters (S7); 0 where no kind has that name. C, which may stand anywhere, is asked
-    // for by itself. A alone is none: it marks a line that carries a segment on (A1). Letters past the length do not count, and no kind has a fourth.
+    // The kind by the length of its name first, then by its letters (S7); 0 where no kind has that name. A alone is none: it marks a line that
+    // carries a segment on (A1). Letters past the length do not count, and no kind has a fourth. C is asked for by itself, so that the rest is
+    // small enough for the compiler to put it in place in reader and writer; ERR comes first, since it stands in the shortest messages.
     pub fn of(length: usize, first: u8, second: u8, third: u8) -> u8
         ensures { λ r. ⌜ r ≡ kindOf (nameBy length first second third) ⌝ }
     {

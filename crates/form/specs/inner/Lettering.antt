@@ -12,6 +12,7 @@ use Rattle.form.specs.declared.letters.Spelled.{Spelled}
 abbrev pub nameBy : ℕ → ℕ → ℕ → ℕ → List ℕ
 nameBy n a b c = take n (a ∷ b ∷ c ∷ 0 ∷ [])
 
+-- the same of letters that are held together
 abbrev pub nameIn : Letters → List ℕ
 nameIn l = nameBy (l .length) (l .first) (l .second) (l .third)
 
