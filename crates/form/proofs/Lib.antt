@@ -4,3 +4,4 @@ pub mod Names
 pub mod Recognising
 pub mod RoundedUp
 pub mod ShutOut
+pub mod TwoForms

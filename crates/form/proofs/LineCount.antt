@@ -1,16 +1,13 @@
--- Line counts (rule W2): the step equations of `lineCount`, and that the form's limits are lawful.
+-- Line counts (rule W2): the step equations of `lineCount`, and the lines under any limits.
 -- Assumes nothing.
 use mathlib.Core.Bool.{Bool, true, false}
-use mathlib.Core.Path.{_≡_, refl, ap}
+use mathlib.Core.Path.{_≡_, ap}
 use Prim.Native.Nat.{ℕ, _+_, _-_, _≤_, _<_}
-use lib.Dec.{leb, lit≤}
+use lib.Dec.{leb}
 use borrow.Author.Tests.{le-leb, lt-leb, eq-eqb, ne-eqb}
 use Rattle.laws.proofs.Tests.{and-both, and-fails-second}
-use Rattle.form.specs.Limits.{form, Lawful, lineCount, linesUnder, roundedUp}
+use Rattle.form.specs.Limits.{lineCount, linesUnder, roundedUp}
 use Rattle.form.specs.declared.limits.Limits.{Limits}
-
-pub form-lawful : Lawful form
-form-lawful = record { addendum = refl; header = lit≤ tt }
 
 module _ (L : Limits) (n : ℕ) where
   pub one-line : n ≤ L .line → lineCount L n ≡ 1

@@ -1,4 +1,5 @@
 pub mod Limits
+pub mod Forms
 pub mod Header
 pub mod Names
 pub mod Numbers

@@ -1,5 +1,5 @@
--- The limits of a message form (rules L3, L5 and T6) and its line counts (rule W2). Definitions and laws take the limits as a parameter;
--- what the contract of a public function cites is at `form`.
+-- What is asked of the limits of a message form (rules L3, L5 and T6), and its line counts (rule W2). Definitions and laws take the limits as a
+-- parameter; the two forms that the contracts of public functions cite stand in Forms.antt.
 -- Assumes nothing.
 use mathlib.Core.Bool.{true, false, _&&_}
 use mathlib.Core.Path.{_≡_}
@@ -7,14 +7,18 @@ use Prim.Native.Nat.{ℕ, _+_, _-_, _/_, _≤_}
 use lib.Dec.{leb, eqb}
 use Rattle.form.specs.declared.limits.Limits.{Limits}
 
--- the limits in force (T6): `line` counts the bytes of a line's text, `more` those that an addendum carries
-abbrev pub form : Limits
-form = record { line = 219; more = 217; segments = 256; leaves = 2048; bytes = 16384 }
-
 -- what laws ask of a form: an addendum line is as long as a line, `A` and separator counted, and a line holds the header
 pub record Lawful (L : Limits) : Type 0 where
   pub addendum : L .more + 2 ≡ L .line
   pub header : 7 ≤ L .line
+
+-- limits L by which no less is allowed than by K, in lines of the same rule
+pub record NoLess (K L : Limits) : Type 0 where
+  pub line : K .line ≡ L .line
+  pub more : K .more ≡ L .more
+  pub segments : K .segments ≤ L .segments
+  pub leaves : K .leaves ≤ L .leaves
+  pub bytes : K .bytes ≤ L .bytes
 
 -- a divided by b, rounded up
 unfoldable pub roundedUp : ℕ → ℕ → ℕ

@@ -1,6 +1,6 @@
 // The limits of a message form (L3, L5, T6), and how many lines a segment takes under them (W2).
 ghost use mathlib.Core.Path.{_≡_};
-ghost use Rattle.form.specs.Limits.{form, lineCount, linesUnder, Lawful};
+ghost use Rattle.form.specs.Limits.{lineCount, linesUnder, Lawful};
 
 // A form's limits, by value: inner functions take these, and only the public layer names a form. The reader's `fill` takes them for its
 // contract alone, which says by which limits the table is that of the message.
@@ -15,45 +15,9 @@ pub struct Limits {
     pub bytes: usize,
 }
 
-// The form in force: H.PR.I.M. Santé 2.4 with the limits of T6.
-pub struct Form {}
-
-impl Form {
-    pub const LINE: usize = 219;
-
-    pub const MORE: usize = 217;
-
-    pub const SEGMENTS: usize = 256;
-
-    pub const LEAVES: usize = 2048;
-
-    pub const BYTES: usize = 16384;
-
-    // The form's limits as one value.
-    pub fn limits() -> Limits
-        ensures { λ r. ⌜ r ≡ form ⌝ }
-    {
-        Limits {
-            line: Form::LINE,
-            more: Form::MORE,
-            segments: Form::SEGMENTS,
-            leaves: Form::LEAVES,
-            bytes: Form::BYTES,
-        }
-    }
-
-    // How many lines a segment of so many bytes takes, for every number of bytes (W2). The writer, which has its limits by value, goes by
-    // `Limits::lines`.
-    pub fn lines(bytes: usize) -> usize
-        ensures { λ r. ⌜ r ≡ lineCount form bytes ⌝ }
-    {
-        line_count(Form::limits(), bytes)
-    }
-}
-
 impl Limits {
-    // The same under any limits: of these it reads `line` and `more` alone. 0 where they are not lawful: a line has no room for the seven
-    // header bytes, or an addendum with its two bytes more is not as long as a line.
+    // How many lines a segment of so many bytes takes, for every number of bytes (W2): of the limits it reads `line` and `more` alone. 0 where
+    // they are not lawful: a line has no room for the seven header bytes, or an addendum with its two bytes more is not as long as a line.
     pub fn lines(self, bytes: usize) -> usize
         ensures { λ r. ⌜ r ≡ linesUnder self bytes ⌝ }
     {

@@ -10,7 +10,7 @@ use lib.ListN.{take, drop}
 use denote.Ref.{RefT, ptr, now}
 use Rattle.laws.specs.Parts.{Part}
 use Rattle.form.specs.declared.limits.Limits.{Limits}
-use Rattle.form.specs.Limits.{form}
+use Rattle.form.specs.Forms.{smallForm}
 use Rattle.line.specs.Lines.{Lines, end, fault, line, walkFrom, walk}
 use Rattle.line.specs.Finding.{foundAt, partFound, partAt, nextOf}
 use Rattle.line.specs.inner.Ending.{handedOut}
@@ -106,16 +106,16 @@ module _ (s : RefT (List ℕ)) where
   walkAfter-message zero = refl
   walkAfter-message (suc k) = walkAfter-message k
 
-  pub walkAfter-place : (k : ℕ) → walkAfter s k .at ≡ placeAfter form (now s) k
+  pub walkAfter-place : (k : ℕ) → walkAfter s k .at ≡ placeAfter smallForm (now s) k
   unfolding walkAfter placeAfter
   walkAfter-place zero = refl
   walkAfter-place (suc k) =
-      ap₂ (λ (x : RefT (List ℕ)) (p : ℕ). nextOf p (foundAt form (now x) p)) (walkAfter-message k) (walkAfter-place k)
+      ap₂ (λ (x : RefT (List ℕ)) (p : ℕ). nextOf p (foundAt smallForm (now x) p)) (walkAfter-message k) (walkAfter-place k)
 
   -- Opening and going on k times gives the k-th line of the message, and then its end or fault for ever: `look` and `part` answer so.
   pub walkAfter-lines :
       (k : ℕ)
-      → handedOut form (now s) (walkAfter s k .at) (foundAt form (now (walkAfter s k .message)) (walkAfter s k .at)) ≡ after k (walk form (now s))
+      → handedOut smallForm (now s) (walkAfter s k .at) (foundAt smallForm (now (walkAfter s k .message)) (walkAfter s k .at)) ≡ after k (walk smallForm (now s))
   walkAfter-lines k =
-      ap₂ (λ (x : RefT (List ℕ)) (p : ℕ). handedOut form (now s) p (foundAt form (now x) p)) (walkAfter-message k) (walkAfter-place k)
-      ∙ handed-after form (now s) (lit≤ tt) k
+      ap₂ (λ (x : RefT (List ℕ)) (p : ℕ). handedOut smallForm (now s) p (foundAt smallForm (now x) p)) (walkAfter-message k) (walkAfter-place k)
+      ∙ handed-after smallForm (now s) (lit≤ tt) k

@@ -8,6 +8,7 @@ pub mod Runs
 pub mod Finding
 pub mod Handing
 pub mod Going
+pub mod BothForms
 pub mod WalkApart
 pub mod Written
 pub mod FirstLine

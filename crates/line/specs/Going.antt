@@ -4,7 +4,7 @@ use mathlib.Core.List.{List}
 use Prim.Native.Nat.{ℕ, zero, suc}
 use denote.Ref.{RefT, now}
 use Rattle.form.specs.declared.limits.Limits.{Limits}
-use Rattle.form.specs.Limits.{form}
+use Rattle.form.specs.Forms.{smallForm}
 use Rattle.line.specs.Lines.{Lines, end, fault, line}
 use Rattle.line.specs.Finding.{foundAt, nextOf}
 use Rattle.line.specs.declared.walk.Walk.{Walk}
@@ -15,7 +15,7 @@ walkOpened message = record { message = message; at = 0 }
 
 -- the same walk at the next line; at an end or a fault it stays
 abbrev pub goneOn : Walk → Walk
-goneOn w = record { message = w .message; at = nextOf (w .at) (foundAt form (now (w .message)) (w .at)) }
+goneOn w = record { message = w .message; at = nextOf (w .at) (foundAt smallForm (now (w .message)) (w .at)) }
 
 -- a walk that was opened over a message and went on k times
 unfoldable pub walkAfter : RefT (List ℕ) → ℕ → Walk

@@ -1,10 +1,10 @@
 // Where the line lies that begins at a place of a message (L1 to L4, L6, P1).
-use form::limits::Form;
+use form::forms::SmallForm;
 use form::number::Number;
 ghost use mathlib.Core.Path.{_≡_};
 ghost use Prim.Native.Nat.{_+_, _-_, _≤_, min};
 ghost use lib.ListN.{length, drop};
-ghost use Rattle.form.specs.Limits.{form};
+ghost use Rattle.form.specs.Forms.{smallForm};
 ghost use Rattle.laws.specs.Parts.{wholeOf};
 ghost use Rattle.line.specs.Finding.{textRun, lowRun, foundFrom, foundAt, nextOf, partAt};
 ghost use Rattle.line.specs.inner.Ending.{endedLine};
@@ -25,11 +25,12 @@ pub enum Found {
     Fault { number: u8, place: usize },
 }
 
-// What stands at any place of any message, by the rules of a message that begins there: a control byte there, a CR too, is fault 4 (P2).
+// What stands at any place of any message, by the rules of a message that begins there: a control byte there, a CR too, is fault 4 (P2). Of
+// a form's limits a line is judged by `line` alone, which is the same in both forms.
 pub fn line_at(message: &[u8], at: usize) -> Found
-    ensures { λ r. ⌜ r ≡ foundAt form (now (message .entry)) at ⌝ }
+    ensures { λ r. ⌜ r ≡ foundAt smallForm (now (message .entry)) at ⌝ }
 {
-    find_line(Form::LINE, message, at)
+    find_line(SmallForm::LINE, message, at)
 }
 
 // The same for lines of any number of bytes.
@@ -116,7 +117,7 @@ pub fn low_end(message: &[u8], from: usize) -> usize
 
 // The place of the next line, and `at` itself where there is an end or a fault (P1).
 pub fn next_place(message: &[u8], at: usize) -> usize
-    ensures { λ r. ⌜ r ≡ nextOf at (foundAt form (now (message .entry)) at) ⌝ }
+    ensures { λ r. ⌜ r ≡ nextOf at (foundAt smallForm (now (message .entry)) at) ⌝ }
 {
     match line_at(message, at) {
         Found::Line { end: _, next } => next,
@@ -131,7 +132,7 @@ pub fn next_place(message: &[u8], at: usize) -> usize
 // The part of the message that is the line at a place, without its CR (P1): the lent bytes themselves, by block, offset and bytes. At an end or
 // a fault it is the empty part at the message's start.
 pub fn line_part(message: &[u8], at: usize) -> &[u8]
-    ensures { λ r. ⌜ wholeOf r ≡ partAt form (message .entry) at ⌝ }
+    ensures { λ r. ⌜ wholeOf r ≡ partAt smallForm (message .entry) at ⌝ }
 {
     match line_at(message, at) {
         Found::Line { end, next: _ } => &message[at..end],

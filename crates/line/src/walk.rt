@@ -4,7 +4,7 @@ use crate::finder::line_at;
 use crate::finder::line_part;
 use crate::finder::next_place;
 ghost use mathlib.Core.Path.{_≡_};
-ghost use Rattle.form.specs.Limits.{form};
+ghost use Rattle.form.specs.Forms.{smallForm};
 ghost use Rattle.laws.specs.Parts.{wholeOf};
 ghost use Rattle.line.specs.Finding.{foundAt, partAt};
 ghost use Rattle.line.specs.Going.{walkOpened, goneOn};
@@ -24,14 +24,14 @@ pub fn open<'a>(message: &'a [u8]) -> Walk<'a>
 
 // Where the line lies that the walk stands at; or the end; or the fault with its number and place (P1).
 pub fn look<'a>(walk: Walk<'a>) -> Found
-    ensures { λ r. ⌜ r ≡ foundAt form (now (walk .entry .message)) (walk .entry .at) ⌝ }
+    ensures { λ r. ⌜ r ≡ foundAt smallForm (now (walk .entry .message)) (walk .entry .at) ⌝ }
 {
     line_at(walk.message, walk.at)
 }
 
 // The line itself, the part of the lent message without its CR (P1); at the end or a fault the empty part at the message's start.
 pub fn part<'a>(walk: Walk<'a>) -> &'a [u8]
-    ensures { λ r. ⌜ wholeOf r ≡ partAt form (walk .entry .message) (walk .entry .at) ⌝ }
+    ensures { λ r. ⌜ wholeOf r ≡ partAt smallForm (walk .entry .message) (walk .entry .at) ⌝ }
 {
     line_part(walk.message, walk.at)
 }

@@ -5,7 +5,7 @@ ghost use Prim.Native.Nat.{_≤_};
 ghost use Rattle.order.specs.inner.Owning.{levelPlace, noRows, Owned};
 
 // The number of a row, or 0: one number of a table's rows, which takes its width from here.
-pub type Row = u16;
+pub type Row = u32;
 
 // What is known of the rows so far has a place for each level from 0 to 7, and one above all levels.
 pub const PLACES: usize = 9;

@@ -23,7 +23,8 @@ use Rattle.line.specs.Lines.{walk, texts, faultNumber, faultPlace}
 use Rattle.line.specs.Joining.{joined}
 use Rattle.order.specs.inner.Place.{misplaced}
 use Rattle.table.specs.Rows.{Table, kindsOf, contextIn, allLeaves, tableOf}
-use Rattle.table.specs.Reading.{Room, Outcome, refused, accepted, refuseIf, refuseAt, short, firstUnknown, judged, ofMessage, reading}
+use Rattle.table.specs.Reading.{Room, Outcome, refused, accepted, refuseIf, refuseAt, short, firstUnknown, judged, ofMessage, reading, stated}
+use Rattle.table.proofs.Room.{stated-roomy}
 
 -- the step laws of the two forms of test: what an accepted outcome says of a test, and that a test passed leaves what follows
 module _ (number : ℕ) {else : Outcome} {t : Table} where
@@ -49,6 +50,12 @@ refuse-passed number else h = rw h
 pub refuse-at-passed : {place : ℕ} (number : ℕ) (else : Outcome) → place ≡ 0 → refuseAt place number else ≡ else
 unfolding refuseAt
 refuse-at-passed {place} number else h = rw (eq-eqb place 0 h, refuseAt)
+
+-- buffers that are not short are as good as those of the stated sizes
+pub any-room : (L : Limits) (levels : ℕ → ℕ → ℕ) (room : Room) (message : List ℕ) → short L room ≡ false
+    → reading L levels room message ≡ reading L levels (stated L) message
+unfolding reading
+any-room L levels room message h = refuse-passed _ _ h ∙ sym (refuse-passed _ _ (stated-roomy L))
 
 -- that no kind is unknown
 abbrev pub Known : List ℕ → Type 0

@@ -12,6 +12,7 @@ pub mod SoundTables
 pub mod Examples
 pub mod Closing
 pub mod Accepting
+pub mod LargerLimits
 pub mod RowNumbers
 pub mod HeaderBytes
 pub mod Filing

@@ -1,12 +1,13 @@
--- The worked examples K1 to K12: each message and what reading it gives, as one list. Where an example names no place, the place is the
--- one that N1 gives to its number.
+-- The worked examples K1 to K12: each message and what reading it gives, in either form, as one list. Where an example names no place, the
+-- place is the one that N1 gives to its number.
 -- Assumes nothing.
 use mathlib.Core.List.{List, [], _∷_, _++_, map}
 use Prim.Native.Nat.{ℕ}
 use lib.ListN.{length, replicate}
 use Rattle.laws.specs.Lists.{concat}
 use Rattle.laws.specs.Texts.{bytes}
-use Rattle.form.specs.Limits.{form}
+use Rattle.form.specs.declared.forms.Form.{Form}
+use Rattle.form.specs.Forms.{limitsOf}
 use Rattle.line.specs.Cutting.{cut}
 use Rattle.order.specs.Owners.{level}
 use Rattle.table.specs.Rows.{Table}
@@ -19,12 +20,13 @@ pub data Says : Type 0 where
   files : Table → (bytes : ℕ) (lines : List ℕ) → Says
 
 -- what an outcome gives, in the same terms; and what reading a message does
-unfoldable pub says : Outcome → Says
-says (refused number place) = refuses number place
-says (accepted t) = files t (length (written form t)) (map (λ (s : List ℕ). length (cut form (t .card .separator) s)) (segmentsOf t))
+unfoldable pub says : Form → Outcome → Says
+says f (refused number place) = refuses number place
+says f (accepted t) =
+    files t (length (written (limitsOf f) t)) (map (λ (s : List ℕ). length (cut (limitsOf f) (t .card .separator) s)) (segmentsOf t))
 
-unfoldable pub read : List ℕ → Says
-read message = says (reading form level (stated form) message)
+unfoldable pub read : Form → List ℕ → Says
+read f message = says f (reading (limitsOf f) level (stated (limitsOf f)) message)
 
 -- a table written out, with the field separator `|`: context, counts of segments, leaves and text bytes, then the rows and the text
 unfoldable pub filed : ℕ → ℕ → ℕ → ℕ → List (List ℕ) → List (List ℕ) → List ℕ → Table

@@ -17,9 +17,9 @@ segmentRowSize = 4
 abbrev pub leafRowSize : ℕ
 leafRowSize = 7
 
--- every number of a row is below this: it is 16 bits wide (T1)
+-- every number of a row is below this: it is 32 bits wide (T1)
 abbrev pub width : ℕ
-width = 65536
+width = 4294967296
 
 -- a segment's row (T2): its kind, its owner (a row's number, or 0), the number of its first leaf, its leaf count
 abbrev pub segmentRow : (kind owner first count : ℕ) → List ℕ

@@ -36,7 +36,7 @@ pub const START: usize = 5;
 
 pub const LENGTH: usize = 6;
 
-// A number of a row as a count, which is below 65,536 (T1).
+// A number of a row as a count, which is below 4,294,967,296 (T1).
 pub fn wide(number: Entry) -> usize
     ensures { λ r. ⌜ (r ≡ number) × (r < width) ⌝ }
 {

@@ -4,7 +4,7 @@ use borrow.Author.Needs.{needs}
 use mathlib.Core.Path.{sym, _∙_}
 use native.Mathlib.Omega.{arith}
 use Rattle.laws.proofs.LentParts.{none-part}
-use Rattle.form.specs.Limits.{form}
+use Rattle.form.specs.Forms.{smallForm}
 use Rattle.line.specs.Finding.{foundAt}
 use Rattle.line.proofs.Finding.{partFound-line, partFound-end, partFound-fault}
 use Rattle.line.proofs.Handing.{line-within}
@@ -22,21 +22,21 @@ sub-result c =
     let at-args = c .before .before .before .before .before .args in
     let at-end = c .before .end in
     let at-line-at = c .before .before .before .line-at in
-    omega (arith, line-within form (at-args .message .now) (at-args .at) (at-end .given .0 .0) (at-end .given .0 .1 .0) (sym (at-line-at .ensures) ∙ at-end .given .1))
+    omega (arith, line-within smallForm (at-args .message .now) (at-args .at) (at-end .given .0 .0) (at-end .given .0 .1 .0) (sym (at-line-at .ensures) ∙ at-end .given .1))
 
 part-result-start : tie.Need-part-result-start
 part-result-start c =
     let at-args = c .before .before .before .before .before .args in
     let at-end = c .before .end in
     let at-line-at = c .before .before .before .line-at in
-    omega (arith, line-within form (at-args .message .now) (at-args .at) (at-end .given .0 .0) (at-end .given .0 .1 .0) (sym (at-line-at .ensures) ∙ at-end .given .1))
+    omega (arith, line-within smallForm (at-args .message .now) (at-args .at) (at-end .given .0 .0) (at-end .given .0 .1 .0) (sym (at-line-at .ensures) ∙ at-end .given .1))
 
 part-result-end : tie.Need-part-result-end
 part-result-end c =
     let at-args = c .before .before .before .before .before .args in
     let at-end = c .before .end in
     let at-line-at = c .before .before .before .line-at in
-    omega (arith, line-within form (at-args .message .now) (at-args .at) (at-end .given .0 .0) (at-end .given .0 .1 .0) (sym (at-line-at .ensures) ∙ at-end .given .1))
+    omega (arith, line-within smallForm (at-args .message .now) (at-args .at) (at-end .given .0 .0) (at-end .given .0 .1 .0) (sym (at-line-at .ensures) ∙ at-end .given .1))
 
 enum-told : tie.Need-enum-told
 enum-told c = search needs
@@ -55,7 +55,7 @@ returns c =
     let at-args = c .before .before .before .before .before .before .args in
     let at-end = c .before .before .end in
     let at-line-at = c .before .before .before .before .line-at in
-    sym (partFound-line (at-args .at) (at-args .message) (foundAt form (at-args .message .now) (at-args .at))
+    sym (partFound-line (at-args .at) (at-args .message) (foundAt smallForm (at-args .message .now) (at-args .at))
     (at-end .given .0 .0) (at-end .given .0 .1 .0) (sym (at-line-at .ensures) ∙ at-end .given .1))
 
 returns-2 : tie.Need-returns-2
@@ -64,7 +64,7 @@ returns-2 c =
     let at-line-at = c .before .before .before .line-at in
     let at-enum-told = c .before .enum-told in
     sym (none-part (at-args .message))
-    ∙ sym (partFound-end (at-args .at) (at-args .message) (foundAt form (at-args .message .now) (at-args .at)) (sym (at-line-at .ensures) ∙ at-enum-told .given .1))
+    ∙ sym (partFound-end (at-args .at) (at-args .message) (foundAt smallForm (at-args .message .now) (at-args .at)) (sym (at-line-at .ensures) ∙ at-enum-told .given .1))
 
 returns-3 : tie.Need-returns-3
 returns-3 c =
@@ -72,7 +72,7 @@ returns-3 c =
     let at-enum-told2 = c .before .enum-told2 in
     let at-line-at = c .before .before .before .line-at in
     sym (none-part (at-args .message))
-    ∙ sym (partFound-fault (at-args .at) (at-args .message) (foundAt form (at-args .message .now) (at-args .at))
+    ∙ sym (partFound-fault (at-args .at) (at-args .message) (foundAt smallForm (at-args .message .now) (at-args .at))
     (at-enum-told2 .given .0 .0) (at-enum-told2 .given .0 .1 .0) (sym (at-line-at .ensures) ∙ at-enum-told2 .given .1))
 
 pub line-part-spec : {M : Type 1} → statement M

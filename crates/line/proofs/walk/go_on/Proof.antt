@@ -41,7 +41,7 @@ use denote.Triple.Table.{entered, cited}
 use denote.Triple.Walked.{says, Stays, stay-none, walkOf, goes-none, Walks, ends-at, walked, walk-meets}
 use denote.Exit.{yes}
 use denote.Triple.Clauses.{ensured, lasts}
-use Rattle.form.specs.Limits.{form}
+use Rattle.form.specs.Forms.{smallForm}
 use Rattle.line.specs.Finding.{foundAt, nextOf}
 use Rattle.line.specs.declared.walk.Walk.{Walk}
 use Rattle.line.proofs.WalkApart.{B, D, Own, fields, passed, walk-apart}
@@ -69,7 +69,7 @@ module _ {M : Type 1} (𝓤 : URA M) (H : Heap 𝓤) (A : Atoms 𝓤) (W : Given
   mach = T′.lowered d
 
   abbrev place : ℕ
-  place = nextOf (d .at) (foundAt form (now (d .message)) (d .at))
+  place = nextOf (d .at) (foundAt smallForm (now (d .message)) (d .at))
 
   abbrev Post : Val → SProp 𝓤
   Post = walkOf 𝓤 H A gone.ended stayed (gone.clauses 𝓤 H A mem run) .post (((κ, tt), (q, tt), tt, (d, tt), (mach ∷ [], tt)), tt)

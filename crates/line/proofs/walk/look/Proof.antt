@@ -37,7 +37,7 @@ use denote.Triple.Table.{entered, cited}
 use denote.Triple.Walked.{says, Stays, stay-none, walkOf, goes-none, Walks, ends-at, walked, walk-meets}
 use denote.Exit.{yes}
 use denote.Triple.Clauses.{ensured, lasts}
-use Rattle.form.specs.Limits.{form}
+use Rattle.form.specs.Forms.{smallForm}
 use Rattle.line.specs.Finding.{foundAt}
 use Rattle.line.specs.declared.walk.Walk.{Walk}
 use Rattle.line.specs.declared.finder.Found.{Found}
@@ -68,7 +68,7 @@ module _ {M : Type 1} (𝓤 : URA M) (H : Heap 𝓤) (A : Atoms 𝓤) (W : Given
   mach = T′.lowered d
 
   abbrev found : Found
-  found = foundAt form (now (d .message)) (d .at)
+  found = foundAt smallForm (now (d .message)) (d .at)
 
   abbrev Post : Val → SProp 𝓤
   Post = walkOf 𝓤 H A looked.ended stayed (looked.clauses 𝓤 H A mem run) .post (((κ, tt), (q, tt), tt, (d, tt), (mach ∷ [], tt)), tt)
