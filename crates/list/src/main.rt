@@ -1,20 +1,20 @@
 // Lists the message that comes on standard input: the listing (G1, G2), and nothing else. What matters is in the library; this reads and writes.
 // Where the input cannot be read nothing is printed: a program has no exit status, and an empty message has a listing.
-use form::limits::Form;
+use form::forms::SmallForm;
 use libc::STDOUT_FILENO;
 use listing::list::SIZE;
 use listing::list::list;
 use table::rows;
 
 // One byte past the longest message, enough to tell that a message is too long.
-const MESSAGE: usize = Form::BYTES + 1;
+const MESSAGE: usize = SmallForm::BYTES + 1;
 
 // The sizes of the reader's buffers.
-const TEXT: usize = Form::BYTES;
+const TEXT: usize = SmallForm::BYTES;
 
-const SEGMENTS: usize = Form::SEGMENTS * rows::SEGMENT_ROW;
+const SEGMENTS: usize = SmallForm::SEGMENTS * rows::SEGMENT_ROW;
 
-const LEAVES: usize = Form::LEAVES * rows::LEAF_ROW;
+const LEAVES: usize = SmallForm::LEAVES * rows::LEAF_ROW;
 
 fn main() {
     let mut message = [0; MESSAGE];

@@ -1,19 +1,25 @@
 -- What the reader gives for an outcome: a refusal with the buffers as they were, or the table that was filled in.
 -- Assumes nothing.
 use mathlib.Core.List.{List}
-use mathlib.Core.Path.{_≡_, refl, ap, _∙_, subst₂}
-use Prim.Native.Nat.{ℕ}
+use mathlib.Core.Path.{_≡_, refl, sym, ap, _∙_, subst⁻¹, subst₂}
+use Prim.Native.Nat.{ℕ, _≤_}
+use lib.ListN.{length}
 use Rattle.form.specs.declared.limits.Limits.{Limits}
+use Rattle.form.specs.declared.forms.Form.{Form}
+use Rattle.form.specs.Forms.{limitsOf}
+use Rattle.order.specs.Owners.{level}
 use Rattle.order.specs.inner.Levels.{levelIn, LevelsBelow}
 use Rattle.table.specs.declared.Card.{Card}
 use Rattle.table.specs.Rows.{Table, tableOf}
 use Rattle.table.specs.Reading.{roomOf, Outcome, refused, accepted, reading}
+use Rattle.table.specs.inner.Fitting.{FitsRows}
 use Rattle.table.proofs.Accepting.{accepting}
 use Rattle.table.proofs.Room.{roomy-text, roomy-segments, roomy-leaves}
+use Rattle.table.proofs.Width.{form-fits}
 use Rattle.read.specs.declared.Answer.{Answer}
 use Rattle.read.specs.declared.decide.Decision.{Decision}
 use Rattle.read.specs.Answering.{Gives, ReadAs, answerOf, textPut, segmentsPut, leavesPut}
-use Rattle.read.specs.inner.Deciding.{DecidesAs}
+use Rattle.read.specs.inner.Deciding.{DecidesAs, ReadsWithin}
 use Rattle.read.specs.inner.Filling.{tableIn, Prepared, Filled}
 use Rattle.read.proofs.Deciding.{decided-refuses, decided-accepts}
 
@@ -84,3 +90,19 @@ pub read-same : {L L′ : Limits} {levels levels′ : ℕ → ℕ → ℕ} → L
 read-same {L} {L′} {levels} {levels′} p q message {text} {segments} {leaves} {r} {text′} {segments′} {leaves′} h =
     subst₂
     (λ (M : Limits) (lv : ℕ → ℕ → ℕ). ReadAs M lv message text segments leaves r text′ segments′ leaves′) p q h
+
+-- what the reader under any limits asks, at the limits of a form, with kinds for as many segments
+pub form-within : (f : Form) {L : Limits} → L ≡ limitsOf f → {levels : List ℕ} → LevelsBelow (levelIn levels) → {kinds : List ℕ}
+    → limitsOf f .segments ≤ length kinds → ReadsWithin L levels kinds
+form-within f e below {kinds} room =
+    record {
+      fits = subst⁻¹ FitsRows e (form-fits f);
+      below = below;
+      notes = subst⁻¹ (λ (M : Limits). M .segments ≤ length kinds) e room;
+    }
+
+-- what is read within the limits of a form that is known is read in that form
+pub read-form : {f : Form} (g : Form) → f ≡ g → {L : Limits} {levels : ℕ → ℕ → ℕ} → L ≡ limitsOf g → levels ≡ level → (message : List ℕ)
+    {text segments leaves : List ℕ} {r : Answer} {text′ segments′ leaves′ : List ℕ}
+    → ReadAs L levels message text segments leaves r text′ segments′ leaves′ → ReadAs (limitsOf f) level message text segments leaves r text′ segments′ leaves′
+read-form g told e made message h = read-same (e ∙ ap limitsOf (sym told)) made message h

@@ -2,14 +2,16 @@
 -- Assumes nothing.
 use mathlib.Core.Bool.{false}
 use mathlib.Core.List.{List, [], _∷_, _++_}
-use mathlib.Core.Path.{_≡_, refl, ap, subst}
+use mathlib.Core.Path.{_≡_, refl, ap, _∙_, subst}
 use Prim.Native.Nat.{ℕ, _+_, _≤_, _<_}
 use native.Mathlib.Omega.{arith}
-use lib.ListN.{length, drop}
-use Rattle.laws.specs.Lists.{concat}
+use lib.ListN.{length, drop, getD}
+use borrow.Author.Tests.{eq-eqb}
+use Rattle.laws.specs.Lists.{concat, firstFrom}
 use Rattle.laws.specs.Every.{none, also}
 use Rattle.form.specs.declared.limits.Limits.{Limits}
 use Rattle.form.specs.declared.separators.Separators.{Separators}
+use Rattle.form.specs.Header.{splitting}
 use Rattle.form.proofs.HeaderRule.{SoundHeader, sound-header}
 use Rattle.laws.proofs.Bytes.{Bytes}
 use Rattle.line.specs.Joining.{addendum}
@@ -21,8 +23,10 @@ use Rattle.order.specs.inner.Owning.{noRows, knownAfter}
 use Rattle.table.specs.Leaves.{messageLeaves}
 use Rattle.table.specs.Rows.{leafRowSize, segmentRowsFrom, kindsOf, allLeaves}
 use Rattle.table.specs.inner.Flat.{gluedTo, glued, steps}
+use Rattle.table.specs.inner.Classes.{sortOf}
 use Rattle.table.specs.inner.Filed.{headerBytes, Filed}
 use Rattle.table.specs.inner.OnePass.{passOver}
+use Rattle.table.proofs.Classes.{class-at, class-high}
 use Rattle.table.proofs.HeaderBytes.{header-bytes, header-clear}
 use Rattle.table.proofs.Growing.{count-leaves}
 use Rattle.read.specs.declared.fill.Filling.{Filling}
@@ -51,6 +55,14 @@ module _ {L : Limits} {class kinds levels : List ℕ} {ps : Separators} {context
     (y : Prepared L class kinds levels ps context m text₀ segments₀ leaves₀) (bytes : Bytes m) where
   header : SoundHeader m ps
   header = sound-header m ps (y .given .header)
+
+  -- its field separator is of the first sort
+  pub field-sorted : getD class (ps .field) 0 ≡ 1
+  unfolding sortOf splitting firstFrom
+  field-sorted =
+      let field = header .allowed .field in
+      ap (λ (t : List ℕ). getD t (ps .field) 0) (y .given .classes) ∙ class-at ps (ps .field) (omega (arith, field .high))
+      ∙ class-high ps (ps .field) (omega (arith, field .low)) ∙ rw (eq-eqb (ps .field) (ps .field) refl, sortOf, firstFrom, splitting)
 
   -- the first line goes on after the header
   first-left : LeftAt L (ps .field) m [] (headerBytes ps ++ lineText class m 7) (lineAfter class m 7)

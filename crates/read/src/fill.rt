@@ -17,7 +17,7 @@ ghost use Prim.Native.Nat.{_+_, _*_, _≤_};
 ghost use lib.ListN.{length};
 ghost use lib.Seq.{sets};
 ghost use Rattle.table.specs.Rows.{segmentRowSize, leafRowSize, segmentRow};
-ghost use Rattle.read.specs.inner.Laying.{NextFits, Lays};
+ghost use Rattle.read.specs.inner.Laying.{NextFits, LaysSorted};
 ghost use Rattle.read.specs.inner.Filling.{tableIn, Prepared, Filled};
 ghost use Rattle.read.specs.inner.Segments.{kindNoted, Closable, ClosedBy, begunAfter, HeaderPut, LineFilled};
 
@@ -130,18 +130,19 @@ fn put_header(separators: Separators, text: &mut [u8], leaves: &mut [Entry]) -> 
 // The text of one line from `from` on, joined to the open segment (A1).
 fn fill_line(
     class: &[u8; 256],
+    field: u8,
     message: &[u8],
     from: usize,
     filling: Filling,
     text: &mut [u8],
     leaves: &mut [Entry],
 ) -> Line
-    requires { ⌜ Lays (now class) (now message) from (filling .laying) (now text) (now leaves) ⌝ }
+    requires { ⌜ LaysSorted (now class) field (now message) from (filling .laying) (now text) (now leaves) ⌝ }
     ensures { λ r. ⌜ LineFilled (now (class .entry)) (now (message .entry)) from filling (now (text .entry)) (now (leaves .entry))
         r (now (text .exit)) (now (leaves .exit)) ⌝ }
 {
     let laying = filling.laying;
-    let laid = lay_line(class, message, from, laying, text, leaves);
+    let laid = lay_line(class, field, message, from, laying, text, leaves);
     let gone = laid.laying;
     Line {
         filling: Filling {
@@ -189,7 +190,15 @@ pub(crate) fn fill(
     let mut filling = put_header(separators, text, leaves);
     let mut from = 7;
     loop {
-        let line = fill_line(class, message, from, filling, text, leaves);
+        let line = fill_line(
+            class,
+            separators.field,
+            message,
+            from,
+            filling,
+            text,
+            leaves,
+        );
         filling = line.filling;
         let at = line.next;
         from = text_from(message, at, separators.field);

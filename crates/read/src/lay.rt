@@ -7,7 +7,7 @@ ghost use Prim.Native.Nat.{_+_, _≤_, _<_};
 ghost use lib.ListN.{length, take, drop};
 ghost use lib.Seq.{sets};
 ghost use Rattle.read.specs.inner.Scanning.{plainRun};
-ghost use Rattle.read.specs.inner.Laying.{rowOf, nextLeaf, nextSegment, NextFits, RowFits, Lays, LaidBy};
+ghost use Rattle.read.specs.inner.Laying.{rowOf, nextLeaf, nextSegment, NextFits, RowFits, LaysSorted, LaidBy};
 
 // How far the pass has come: where in the leaf rows the row of the leaf begun goes, behind a row for each leaf closed, the place of that
 // leaf (S5), and where its text begins in the text area and ends so far.
@@ -107,16 +107,18 @@ pub(crate) fn put_leaf(laying: Laying, leaves: &mut [Entry])
     leaves[at + rows::LENGTH] = (laying.out - laying.begin) as Entry;
 }
 
-// The pass over a line from `from` on, up to the first byte below 32: of a line without fault its CR.
+// The pass over a line from `from` on, up to the first byte below 32: of a line without fault its CR. Most leaves end at a field separator, so
+// that byte is told by itself, and only the others are asked for their sort.
 pub(crate) fn lay_line(
     class: &[u8; 256],
+    field: u8,
     message: &[u8],
     from: usize,
     laying: Laying,
     text: &mut [u8],
     leaves: &mut [Entry],
 ) -> Laid
-    requires { ⌜ Lays (now class) (now message) from laying (now text) (now leaves) ⌝ }
+    requires { ⌜ LaysSorted (now class) field (now message) from laying (now text) (now leaves) ⌝ }
     ensures { λ r. ⌜ LaidBy (now (class .entry)) (now (message .entry)) from laying (now (text .entry)) (now (leaves .entry)) r (now (text .exit)) (now (leaves .exit)) ⌝ }
 {
     let mut now = laying;
@@ -125,15 +127,21 @@ pub(crate) fn lay_line(
         let n = copy_text(class, message, i, text, now.out);
         let stop = i + n;
         now.out = now.out + n;
-        let sort = class[index(message[stop])];
-        if sort == 5 {
-            return Laid {
-                laying: now,
-                end: stop,
-            };
-        }
-        put_leaf(now, leaves);
-        now = now.next_leaf(sort);
         i = stop + 1;
+        let b = message[stop];
+        if b == field {
+            put_leaf(now, leaves);
+            now = now.next_leaf(1);
+        } else {
+            let sort = class[index(b)];
+            if sort == 5 {
+                return Laid {
+                    laying: now,
+                    end: stop,
+                };
+            }
+            put_leaf(now, leaves);
+            now = now.next_leaf(sort);
+        }
     }
 }

@@ -2,13 +2,15 @@
 // decides every refusal; only then does the second pass write. Both read the message where it lies.
 use decide::decide;
 use fill::fill;
-use form::limits::Form;
+use form::forms::Form;
+use form::forms::LargeForm;
+use form::forms::SmallForm;
 use form::limits::Limits;
 use form::number::Number;
 use table::Card;
 use table::rows::Entry;
 ghost use mathlib.Core.Path.{_≡_};
-ghost use Rattle.form.specs.Limits.{form};
+ghost use Rattle.form.specs.Forms.{limitsOf};
 ghost use Rattle.order.specs.inner.Levels.{levelIn};
 ghost use Rattle.order.specs.Owners.{level};
 ghost use Rattle.table.specs.Reading.{refused};
@@ -30,23 +32,46 @@ pub struct Answer {
     pub card: Card,
 }
 
-// Reads a message into the three lent buffers: every message of every length, whatever the buffers hold (N1 to N3). Buffers under the
-// stated sizes (16,384 bytes, 1,024 and 14,336 numbers) are refused with 1, longer ones are used at their front (T7).
-pub fn read(message: &[u8], text: &mut [u8], segments: &mut [Entry], leaves: &mut [Entry]) -> Answer
-    ensures { λ r. ⌜ ReadAs form level (now (message .entry)) (now (text .entry)) (now (segments .entry)) (now (leaves .entry))
+// Reads a message of a form into the three lent buffers: every message of every length, whatever the buffers hold (N1 to N3). Buffers under
+// the form's sizes (T6, T8) are refused with 1, longer ones are used at their front (T7). The kinds that the survey notes take as many bytes
+// as the form has segments: a reading in the small form clears no more than its own.
+pub fn read(
+    form: Form,
+    message: &[u8],
+    text: &mut [u8],
+    segments: &mut [Entry],
+    leaves: &mut [Entry],
+) -> Answer
+    ensures { λ r. ⌜ ReadAs (limitsOf form) level (now (message .entry)) (now (text .entry)) (now (segments .entry)) (now (leaves .entry))
         r (now (text .exit)) (now (segments .exit)) (now (leaves .exit)) ⌝ }
 {
     let levels = order::levels::table();
-    let mut kinds = [0u8; Form::SEGMENTS];
-    read_within(
-        Form::limits(),
-        &levels,
-        &mut kinds,
-        message,
-        text,
-        segments,
-        leaves,
-    )
+    match form {
+        Form::Small => {
+            let mut kinds = [0u8; SmallForm::SEGMENTS];
+            read_within(
+                SmallForm::limits(),
+                &levels,
+                &mut kinds,
+                message,
+                text,
+                segments,
+                leaves,
+            )
+        }
+        Form::Large => {
+            let mut kinds = [0u8; LargeForm::SEGMENTS];
+            read_within(
+                LargeForm::limits(),
+                &levels,
+                &mut kinds,
+                message,
+                text,
+                segments,
+                leaves,
+            )
+        }
+    }
 }
 
 // The same under any limits whose numbers fit the rows, by any table of levels that are below 8, with a lent buffer for the kinds: nothing

@@ -22,7 +22,7 @@ use Rattle.tested.proofs.LentRows.{context-lent, count-lent, kind-count
 
 -- by any levels: the owners are those of the kinds in the rows
 module _ {L : Limits} {levels : ℕ → ℕ → ℕ} {ps : Separators} {segs : List (List ℕ)} (t : Lent) (w : Judged L levels ps segs (counted t)) where
-  kinds-lent : kindsOf ps segs ≡ values (kindIn (t .segmentRows)) 0 (t .card .segments)
+  pub kinds-lent : kindsOf ps segs ≡ values (kindIn (t .segmentRows)) 0 (t .card .segments)
   kinds-lent =
       let kinds = kindsOf ps segs in
       sym (values-entries kinds 0)

@@ -3,3 +3,4 @@ pub mod LentLeaves
 pub mod LentOwners
 pub mod PassedTables
 pub mod NamedLeaves
+pub mod TableLeft

@@ -7,16 +7,19 @@ use Prim.Native.Nat.{ℕ}
 use native.Mathlib.Omega.{arith}
 use Rattle.laws.proofs.Tests.{and-passed, and-both, and-fails-first, and-fails-second}
 use Rattle.form.specs.declared.limits.Limits.{Limits}
-use Rattle.form.specs.Limits.{form}
-use Rattle.order.specs.Owners.{level}
-use Rattle.order.specs.inner.Levels.{levelIn, levelTable}
-use Rattle.order.proofs.LevelTable.{levels-are, levels-below}
+use Rattle.form.specs.declared.forms.Form.{Form}
+use Rattle.form.specs.Forms.{limitsOf}
+use Rattle.order.specs.inner.Levels.{levelIn, LevelsBelow}
+use Rattle.order.proofs.LevelTable.{levels-are, levels-below, former-levels-are, former-levels-below}
 use Rattle.table.specs.inner.Fitting.{FitsRows}
 use Rattle.table.specs.Lent.{Lent, withinLimits, withinBuffers, counted}
 use Rattle.table.proofs.Lent.{few-segments, few-leaves, few-bytes}
 use Rattle.table.proofs.Width.{form-fits}
 use Rattle.write.specs.inner.ReadsBack.{readsBack, isTable}
 use Rattle.write.specs.Answer.{writtenSize}
+use Rattle.write.specs.declared.size.Owners.{Owners}
+use Rattle.write.specs.declared.size.Owners.the-variants.{InForce, Former}
+use Rattle.write.specs.inner.EitherOwners.{levelsBy, levelTableBy}
 use Rattle.write.specs.inner.Asked.{Testable, CountedTable}
 use Rattle.write.proofs.LentTables.{counted-sized}
 
@@ -57,10 +60,21 @@ module _ (L : Limits) (levels : ℕ → ℕ → ℕ) (l : Lent) where
           leaves = leaves;
         }
 
--- the form's limits and levels
-module _ {L : Limits} (e : L ≡ form) {table : List ℕ} (made : table ≡ levelTable) where
-  pub form-asked : Testable L (levelIn table)
-  form-asked = record { fits = subst⁻¹ FitsRows e form-fits; low = levels-below made }
+-- either levels are those of their table, and are below `topLevel`
+owners-are : (o : Owners) {table : List ℕ} → table ≡ levelTableBy o → levelIn table ≡ levelsBy o
+unfolding levelsBy levelTableBy
+owners-are InForce made = levels-are made
+owners-are Former made = former-levels-are made
 
-  pub form-size : (l : Lent) → writtenSize L (levelIn table) l ≡ writtenSize form level l
-  form-size l = ap₂ (λ (M : Limits) (lv : ℕ → ℕ → ℕ). writtenSize M lv l) e (levels-are made)
+owners-below : (o : Owners) {table : List ℕ} → table ≡ levelTableBy o → LevelsBelow (levelIn table)
+unfolding levelTableBy
+owners-below InForce made = levels-below made
+owners-below Former made = former-levels-below made
+
+-- a form's limits, and levels by their table
+module _ (f : Form) {L : Limits} (e : L ≡ limitsOf f) (o : Owners) {table : List ℕ} (made : table ≡ levelTableBy o) where
+  pub form-asked : Testable L (levelIn table)
+  form-asked = record { fits = subst⁻¹ FitsRows e (form-fits f); low = owners-below o made }
+
+  pub form-size : (l : Lent) → writtenSize L (levelIn table) l ≡ writtenSize (limitsOf f) (levelsBy o) l
+  form-size l = ap₂ (λ (M : Limits) (lv : ℕ → ℕ → ℕ). writtenSize M lv l) e (owners-are o made)

@@ -4,10 +4,9 @@ use mathlib.Core.Bool.{true, false}
 use mathlib.Core.List.{List, [], _∷_}
 use mathlib.Core.Logic.{_↔_}
 use mathlib.Core.Path.{_≡_, refl, sym, ap, ap₂, _∙_, subst}
-use Prim.Native.Nat.{ℕ, _*_, _≤_, _<_}
+use Prim.Native.Nat.{ℕ, _≤_, _<_}
 use native.Mathlib.Omega.{arith}
 use lib.ListN.{length, drop, getD}
-use borrow.Author.Tests.{le-ltb}
 use Rattle.laws.specs.Every.{All}
 use Rattle.laws.specs.inner.Sums.{sumOf}
 use Rattle.laws.proofs.Every.{all-from}
@@ -27,8 +26,8 @@ use Rattle.order.specs.Owners.{owners}
 use Rattle.table.specs.Leaves.{Leaf}
 use Rattle.table.specs.inner.Flat.{leaf}
 use Rattle.table.specs.inner.Filed.{headerBytes, Filed}
-use Rattle.table.specs.Rows.{Table, segmentRowSize, leafRowSize, kindsOf, contextIn, segmentRowsOf, leafRowsFrom, textOf, allLeaves, tableOf}
-use Rattle.table.specs.Reading.{Room, short, stated}
+use Rattle.table.specs.Rows.{Table, kindsOf, contextIn, segmentRowsOf, leafRowsFrom, textOf, allLeaves, tableOf}
+use Rattle.table.specs.Reading.{Room, stated}
 use Rattle.table.specs.inner.Back.{leafAt, leavesOf, separatorsAt, separatorsIn, segmentsOf, linesOf, written}
 use Rattle.table.specs.inner.Sound.{Sound}
 use Rattle.table.specs.inner.BySegment.{writtenBytes}
@@ -38,6 +37,7 @@ use Rattle.table.proofs.Filing.{segmentsOfAccepted, accepted-header, accepted-w
 use Rattle.table.proofs.HeaderBytes.{header-clear}
 use Rattle.table.proofs.LeafTexts.{AllText, text-leaves}
 use Rattle.table.proofs.LeafRows.{leavesOf-table}
+use Rattle.table.proofs.Room.{stated-roomy}
 use Rattle.table.proofs.SoundTables.{headed, afterHeader, filed-leaves, filed-sound, table-filed, table-leaves}
 use Rattle.write.specs.inner.Local.{groupsOf, kindsAmong, thirdPlace, Local}
 use Rattle.write.specs.Writing.{ReadTo}
@@ -45,16 +45,6 @@ use Rattle.write.specs.inner.ReadsBack.{readsBack}
 use Rattle.write.proofs.TableLeaves.{headed-leaves, same-groups, same-kinds, same-context, same-count, same-bytes, leaf-count}
 use Rattle.write.proofs.SameTables.{same-numbers, same-parts}
 use Rattle.write.proofs.RoundTrip.{written-accepted, reads-back, reads-same}
-
--- buffers of the stated sizes are long enough
-pub stated-roomy : (L : Limits) → short L (stated L) ≡ false
-unfolding short stated
-stated-roomy L =
-    rw (
-      le-ltb (L .bytes) (L .bytes) (omega arith),
-      le-ltb (L .segments * segmentRowSize) (L .segments * segmentRowSize) (omega arith),
-      le-ltb (L .leaves * leafRowSize) (L .leaves * leafRowSize) (omega arith),
-    )
 
 -- a table that meets them
 module _ {L : Limits} {levels : ℕ → ℕ → ℕ} {t : Table} (lawful : Lawful L) (w : Local L levels t) where

@@ -24,7 +24,8 @@ use Rattle.write.specs.inner.ReadsBack.{isTable}
 use Rattle.write.proofs.SameTables.{same-parts}
 use Rattle.write.proofs.RoundTrip.{reads-back}
 use Rattle.write.proofs.RowByRow.{row-by-row}
-use Rattle.write.proofs.LocalTables.{stated-roomy, accepted-local}
+use Rattle.table.proofs.Room.{stated-roomy}
+use Rattle.write.proofs.LocalTables.{accepted-local}
 use Rattle.write.proofs.LentTables.{Within, within-buffers, local-within, is-table}
 
 module _ (L : Limits) (lawful : Lawful L) (levels : ℕ → ℕ → ℕ) (message text segments leaves : List ℕ) (t : Table)

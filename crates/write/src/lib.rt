@@ -1,10 +1,10 @@
 // The writer (rules W1 to W4): from a table back to the message, and the test whether some message reads to a table.
-use form::limits::Form;
+use form::forms::Form;
 use form::number::Number;
 use table::Card;
 use table::rows::Entry;
 ghost use mathlib.Core.Path.{_≡_};
-ghost use Rattle.form.specs.Limits.{form};
+ghost use Rattle.form.specs.Forms.{limitsOf};
 ghost use Rattle.order.specs.Owners.{level};
 ghost use Rattle.table.specs.Lent.{lent};
 ghost use Rattle.write.specs.Writing.{refuses};
@@ -26,22 +26,24 @@ pub struct Written {
     pub lines: usize,
 }
 
-// Writes the message of a table at the front of the output (W1): any card and any buffers. A short output is refused with 12, a table that
-// no message reads to with 13 (N1, N2, W4); output bytes past the message stay as they were (W3).
+// Writes the message of a table of a form at the front of the output (W1): any card and any buffers. An output under the form's size (T6, T8)
+// is refused with 12, a table that no message of the form reads to with 13 (N1, N2, W4); output bytes past the message stay as they were (W3).
 pub fn write(
+    form: Form,
     card: Card,
     segments: &[Entry],
     leaves: &[Entry],
     text: &[u8],
     output: &mut [u8],
 ) -> Written
-    ensures { λ r. ⌜ WroteAs form level (lent card (now (segments .entry)) (now (leaves .entry)) (now (text .entry))) (now (output .entry)) r (now (output .exit)) ⌝ }
+    ensures { λ r. ⌜ WroteAs (limitsOf form) level (lent card (now (segments .entry)) (now (leaves .entry)) (now (text .entry))) (now (output .entry)) r (now (output .exit)) ⌝ }
 {
-    if output.len() < Form::BYTES {
+    let limits = form.limits();
+    if output.len() < limits.bytes {
         return refusal(Number::SHORT_OUTPUT);
     }
-    if test::is_table(card, segments, leaves, text) {
-        return message::write_message(Form::limits(), card, leaves, text, output);
+    if test::is_table(form, card, segments, leaves, text) {
+        return message::write_message(limits, card, leaves, text, output);
     }
     refusal(Number::NO_TABLE)
 }

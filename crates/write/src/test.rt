@@ -2,14 +2,16 @@
 use crate::leaf_rows;
 use crate::segment_rows;
 use crate::size;
+use crate::size::Owners;
+use form::forms::Form;
 use form::limits::Limits;
 use order::followers;
 use table::Card;
 use table::rows;
 use table::rows::Entry;
 ghost use mathlib.Core.Path.{_≡_};
-ghost use Rattle.form.specs.Limits.{form};
-ghost use Rattle.order.specs.Owners.{level};
+ghost use Rattle.form.specs.Forms.{limitsOf};
+ghost use Rattle.order.specs.Owners.{level, formerLevel};
 ghost use Rattle.order.specs.inner.Levels.{levelIn};
 ghost use Rattle.write.specs.inner.ReadsBack.{isTable};
 ghost use Rattle.write.specs.Answer.{writtenSize};
@@ -19,10 +21,23 @@ ghost use Rattle.write.specs.inner.Asked.{Testable, CountedTable, RowsAs
 
 // Yes exactly where some message within the form's limits reads to the table that the card counts in the lent buffers, whatever these hold
 // (W4). Such a message has some bytes.
-pub fn is_table(card: Card, segments: &[Entry], leaves: &[Entry], text: &[u8]) -> bool
-    ensures { λ r. ⌜ r ≡ isTable form level (lent card (now (segments .entry)) (now (leaves .entry)) (now (text .entry))) ⌝ }
+pub fn is_table(form: Form, card: Card, segments: &[Entry], leaves: &[Entry], text: &[u8]) -> bool
+    ensures { λ r. ⌜ r ≡ isTable (limitsOf form) level (lent card (now (segments .entry)) (now (leaves .entry)) (now (text .entry))) ⌝ }
 {
-    size::written_bytes(card, segments, leaves, text) != 0
+    size::written_bytes(form, card, segments, leaves, text) != 0
+}
+
+// The same with the former owners (O4): whether a reader gave the table while they were in force.
+pub fn is_former_table(
+    form: Form,
+    card: Card,
+    segments: &[Entry],
+    leaves: &[Entry],
+    text: &[u8],
+) -> bool
+    ensures { λ r. ⌜ r ≡ isTable (limitsOf form) formerLevel (lent card (now (segments .entry)) (now (leaves .entry)) (now (text .entry))) ⌝ }
+{
+    size::bytes_by(form, Owners::Former, card, segments, leaves, text) != 0
 }
 
 // The bytes that are written for a table under any limits and levels; 0 where no message within them reads to it.

@@ -1,62 +1,51 @@
--- `read::read` meets its contract: the limits (T6) and the levels (O1) of the message form.
+-- `read::read` meets its contract: the limits of the form (T6, T8), the levels in force (O1), and as many bytes for kinds as the form has
+-- segments.
 -- Assumes nothing.
-use mathlib.Core.Path.{subst⁻¹}
-use Prim.Native.Nat.{_≤_}
-use native.Mathlib.Omega.{arith}
+use lib.Dec.{lit≤}
 use borrow.Author.Needs.{needs}
-use Rattle.form.specs.declared.limits.Limits.{Limits}
+use Rattle.form.specs.declared.forms.Form.the-variants.{Small, Large}
+use Rattle.form.specs.Forms.{limitsOf}
 use Rattle.order.proofs.LevelTable.{levels-are, levels-below}
-use Rattle.table.specs.inner.Fitting.{FitsRows}
-use Rattle.table.proofs.Width.{form-fits}
-use Rattle.read.proofs.Answering.{read-same}
+use Rattle.read.proofs.Answering.{form-within, read-form}
 use Rattle.read.proofs.read.Statement.{statement}
 use Rattle.read.proofs.read.Tie as tie
 
-table-requires : tie.Need-table-requires
-table-requires c κs = search needs
-
-limits-requires : tie.Need-limits-requires
-limits-requires c κs = search needs
-
-slice-aggregate-read-within : tie.Need-slice-aggregate-read-within
-slice-aggregate-read-within c = search needs
-
 read-within-requires : tie.Need-read-within-requires
+unfolding limitsOf
 read-within-requires c κs =
-    let at-limits = c .before .before .before .before .before in
-    let at-table = at-limits .before in
-    record {
-      fits = subst⁻¹ FitsRows (at-limits .limits .ensures) form-fits;
-      below = levels-below (at-table .table .ensures);
-      notes = subst⁻¹ (λ (L : Limits). L .segments ≤ 256) (at-limits .limits .ensures) (omega arith);
-    }
+    let limited = c .before .before .before .before .before in
+    form-within Small (limited .limits .ensures) (levels-below (limited .before .before .before .table .ensures)) (lit≤ tt)
 
-same-length : tie.Need-same-length
-same-length c = search needs
-
-same-length-2 : tie.Need-same-length-2
-same-length-2 c = search needs
-
-same-length-3 : tie.Need-same-length-3
-same-length-3 c = search needs
+read-within-requires-2 : tie.Need-read-within-requires-2
+unfolding limitsOf
+read-within-requires-2 c κs =
+    let limited = c .before .before .before .before .before in
+    form-within Large (limited .limits2 .ensures) (levels-below (limited .before .before .before .table .ensures)) (lit≤ tt)
 
 returns : tie.Need-returns
+unfolding limitsOf
 returns c =
-    let at-read = c .before .before .before .before .before .before .before in
-    let at-limits = at-read .before .before .before .before .before .before in
-    let at-table = at-limits .before in
-    let at-start = at-table .before .before .before .before .before in
-    read-same (at-limits .limits .ensures) (levels-are (at-table .table .ensures)) (at-start .args .message .now) (at-read .read-within .ensures)
+    let within = c .before .before .before .before .before .before .before in
+    let limited = within .before .before .before .before .before .before in
+    let told = limited .before in
+    let made = told .before .before in
+    read-form Small (told .enum-told .given .1) (limited .limits .ensures) (levels-are (made .table .ensures))
+    (made .before .before .before .before .before .args .message .now) (within .read-within .ensures)
+
+returns-2 : tie.Need-returns-2
+unfolding limitsOf
+returns-2 c =
+    let within = c .before .before .before .before .before .before .before in
+    let limited = within .before .before .before .before .before .before in
+    let told = limited .before in
+    let made = told .before .before in
+    read-form Large (told .enum-told2 .given .1) (limited .limits2 .ensures) (levels-are (made .table .ensures))
+    (made .before .before .before .before .before .args .message .now) (within .read-within2 .ensures)
 
 pub read-spec : {M : Type 1} → statement M
 read-spec =
     tie.close
     (tie.spec
-    table-requires
-    limits-requires
-    slice-aggregate-read-within
-    read-within-requires
-    same-length
-    same-length-2
-    same-length-3
-    returns)
+    (λ c κs. search needs) (λ c. search needs) (λ c κs. search needs) (λ c. search needs) read-within-requires (λ c. search needs)
+    (λ c κs. search needs) (λ c. search needs) read-within-requires-2 (λ c. search needs) (λ c. search needs) (λ c. search needs) returns
+    (λ c. search needs) (λ c. search needs) (λ c. search needs) returns-2)

@@ -5,7 +5,7 @@ use mathlib.Core.List.{List, [], _∷_, _++_}
 use mathlib.Core.Path.{_≡_}
 use Prim.Native.Nat.{ℕ, _+_, _*_, _-_, _≤_, _<_}
 use lib.Dec.{eqb}
-use lib.ListN.{length, take, drop}
+use lib.ListN.{length, getD, take, drop}
 use lib.Seq.{sets}
 use Rattle.laws.specs.Every.{All}
 use Rattle.form.specs.declared.separators.Separators.{Separators}
@@ -108,6 +108,11 @@ pub record Lays (class message : List ℕ) (from : ℕ) (l : Laying) (text leave
   pub rows : l .row + marks class (drop from message) * leafRowSize ≤ length leaves
   pub few : l .row + marks class (drop from message) * leafRowSize + leafRowSize < width * leafRowSize
   pub counted : PlaceCounted l
+
+-- and that the field separator is of the first sort
+pub record LaysSorted (class : List ℕ) (field : ℕ) (message : List ℕ) (from : ℕ) (l : Laying) (text leaves : List ℕ) : Type 0 where
+  pub lays : Lays class message from l text leaves
+  pub sorted : getD class field 0 ≡ 1
 
 -- what it gives: the line's end, and the pass gone on over its bytes
 pub record LaidBy

@@ -2,6 +2,7 @@
 -- Assumes nothing.
 use mathlib.Core.Path.{ap}
 use native.Mathlib.Omega.{arith}
+use Rattle.form.specs.Forms.{limitsOf}
 use Rattle.listing.specs.Listing.{countLines}
 use Rattle.listing.proofs.Putting.{within-as, within-then}
 use borrow.Author.Needs.{needs}
@@ -23,6 +24,7 @@ same-length : tie.Need-same-length
 same-length c = search needs
 
 returns : tie.Need-returns
+unfolding limitsOf
 returns c =
     let rows = c .before .before in
     let counts = rows .before .before .before .before in

@@ -8,7 +8,7 @@ use borrow.Author.Needs.{needs}
 use Rattle.laws.proofs.Bytes.{bytes-known}
 use Rattle.laws.proofs.Bytes.{Bytes}
 use Rattle.read.specs.inner.Segments.{AtLine, Onward}
-use Rattle.read.proofs.HeaderLaws.{header-fits, header-line}
+use Rattle.read.proofs.HeaderLaws.{header-fits, header-line, field-sorted}
 use Rattle.read.proofs.StandLaws.{text-kept, segments-kept, leaves-kept, line-lays, line-on, line-ahead, stands-closable, stands-next, stands-addendum, stands-segment, stands-filled}
 use Rattle.read.proofs.fill.fill.Statement.{statement}
 use Rattle.read.proofs.fill.fill.Tie as tie
@@ -68,7 +68,9 @@ loop-holds : tie.Need-loop-holds Inv-loop μ-loop
 loop-holds c = λ came line. line
 
 fill-line-requires : tie.Need-fill-line-requires Inv-loop μ-loop
-fill-line-requires c κs = line-lays (line-here (c .before .before))
+fill-line-requires c κs =
+    let here = c .before .before in
+    record { lays = line-lays (line-here here); sorted = field-sorted (start (rows here) .pre) (bytes-here (rows here)) }
 
 text-from-requires : tie.Need-text-from-requires Inv-loop μ-loop
 text-from-requires c κs = search needs

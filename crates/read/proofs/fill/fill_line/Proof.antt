@@ -13,7 +13,7 @@ add-low-end : tie.Need-add-low-end
 add-low-end c =
     let at-lay = c .before .before .before .before .before .before in
     let start = at-lay .before .before .before .before .before .before .before in
-    omega (arith, at-lay .lay-line .ensures .ends, start .pre .ahead, start .good)
+    omega (arith, at-lay .lay-line .ensures .ends, start .pre .lays .ahead, start .good)
 
 low-end-requires : tie.Need-low-end-requires
 low-end-requires c κs = search needs
