@@ -9,8 +9,10 @@ use lib.ListN.{length}
 use lib.Seq.{sets}
 use Rattle.form.specs.declared.limits.Limits.{Limits}
 use Rattle.form.specs.declared.separators.Separators.{Separators}
-use Rattle.form.specs.Limits.{form, Lawful}
-use Rattle.form.proofs.LineCount.{form-lawful}
+use Rattle.form.specs.declared.forms.Form.{Form}
+use Rattle.form.specs.Forms.{limitsOf}
+use Rattle.form.specs.Limits.{Lawful}
+use Rattle.form.proofs.TwoForms.{form-lawful}
 use Rattle.order.specs.Owners.{level, formerLevel}
 use Rattle.order.specs.OwnerKinds.{ownerKinds, ownerKind}
 use Rattle.table.specs.Rows.{kindIn, ownerIn, contextIn, tableOf, RowOf}
@@ -120,6 +122,6 @@ module _ (L : Limits) (lawful : Lawful L) where
             none-exactly L lawful level table wrote .1 (room, λ to. other (nearest-lent table (read-so L level table to .segments) i h owned));
       }
 
--- of the form itself
-pub form-belonging : Belonging form
-form-belonging = belonging form form-lawful
+-- in each form
+pub form-belonging : (f : Form) → Belonging (limitsOf f)
+form-belonging f = belonging (limitsOf f) (form-lawful f)

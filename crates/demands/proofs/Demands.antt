@@ -1,10 +1,13 @@
--- The three demands, proved: each statement by one law, over any lawful limits and any levels; then for the form's own limits and levels, a line each.
+-- The three demands, proved: each statement by one law, over any lawful limits and any levels; then at both forms, by the levels in force.
 -- Assumes nothing.
 use mathlib.Core.Path.{refl}
 use Prim.Native.Nat.{ℕ}
 use Rattle.form.specs.declared.limits.Limits.{Limits}
-use Rattle.form.specs.Limits.{form, Lawful}
-use Rattle.form.proofs.LineCount.{form-lawful}
+use Rattle.form.specs.declared.forms.Form.{Form}
+use Rattle.form.specs.declared.forms.Form.the-variants.{Small, Large}
+use Rattle.form.specs.Forms.{smallForm, largeForm, limitsOf}
+use Rattle.form.specs.Limits.{Lawful}
+use Rattle.form.proofs.TwoForms.{form-lawful, small-least}
 use Rattle.order.specs.Owners.{level}
 use Rattle.order.specs.inner.Telling.{tellOf}
 use Rattle.order.proofs.OneTree as order
@@ -18,8 +21,9 @@ use Rattle.read.proofs.OwnersColumn as owners
 use Rattle.write.proofs.Contract as writes
 use Rattle.look.proofs.FirstMatch as looks
 use Rattle.look.proofs.SameAnswer as segment
-use Rattle.demands.proofs.TableLeft as left
-use Rattle.demands.specs.Demands.{Demand1, Demand2, Demand3}
+use Rattle.tested.proofs.TableLeft as left
+use Rattle.demands.proofs.SameTable as larger
+use Rattle.demands.specs.Demands.{Demand1, Demand2, Demand3, OfForm, BothForms}
 
 module _ (L : Limits) (lawful : Lawful L) (levels : ℕ → ℕ → ℕ) where
   pub demand-1 : Demand1 L levels
@@ -61,12 +65,20 @@ module _ (L : Limits) (lawful : Lawful L) (levels : ℕ → ℕ → ℕ) where
         cut-anyhow = λ message other one two same g h. reads.cut-anyhow L lawful levels message other one two same g h;
       }
 
--- the demands of the form itself
-pub form-demand-1 : Demand1 form level
-form-demand-1 = demand-1 form form-lawful level
+-- the demands of each form, and both together
+pub form-demands : (f : Form) → OfForm f
+form-demands f =
+    record {
+      first = demand-1 (limitsOf f) (form-lawful f) level;
+      second = demand-2 (limitsOf f) (form-lawful f) level;
+      third = demand-3 (limitsOf f) (form-lawful f) level;
+    }
 
-pub form-demand-2 : Demand2 form level
-form-demand-2 = demand-2 form form-lawful level
-
-pub form-demand-3 : Demand3 form level
-form-demand-3 = demand-3 form form-lawful level
+pub both-forms : BothForms
+unfolding limitsOf
+both-forms =
+    record {
+      each = form-demands;
+      small-in-large = λ message small yes roomy large.
+          larger.same-table smallForm (form-lawful Small) largeForm (form-lawful Large) (small-least Large) level message small yes roomy large;
+    }

@@ -6,6 +6,7 @@ use mathlib.Core.Path.{_≡_, refl, sym, ap, _∙_}
 use Prim.Native.Nat.{ℕ, _≤_, _<_}
 use native.Mathlib.Omega.{arith}
 use lib.Dec.{ltb}
+use borrow.Author.Tests.{le-ltb}
 use lib.ListN.{length, getD}
 use lib.Seq.{sets}
 use Rattle.laws.specs.Lists.{concat}
@@ -13,8 +14,11 @@ use Rattle.laws.specs.Tables.{values}
 use Rattle.laws.specs.Texts.{bytes}
 use Rattle.form.specs.declared.limits.Limits.{Limits}
 use Rattle.form.specs.Header.{splitting}
-use Rattle.form.specs.Limits.{form, Lawful, lineCount, roundedUp}
-use Rattle.form.proofs.LineCount.{form-lawful}
+use Rattle.form.specs.declared.forms.Form.{Form}
+use Rattle.form.specs.declared.forms.Form.the-variants.{Small, Large}
+use Rattle.form.specs.Forms.{limitsOf}
+use Rattle.form.specs.Limits.{Lawful, lineCount, roundedUp}
+use Rattle.form.proofs.TwoForms.{form-lawful, small-least}
 use Rattle.line.specs.Cutting.{pieces, addenda, cut, cuts, unlines}
 use Rattle.order.specs.Owners.{level}
 use Rattle.table.specs.Leaves.{onto, split}
@@ -56,53 +60,61 @@ k1-counted : counted K1-lent ≡ k1
 unfolding K1-lent counted k1 filed concat bytes
 k1-counted = refl
 
-k1-to : ReadTo form level (counted K1-lent)
-k1-to = (K1, k1-read ∙ ap accepted (sym k1-counted))
+-- what is written of it is K1 itself, in five lines, in either form
+k1-message : (f : Form) → written (limitsOf f) k1 ≡ K1
+unfolding K1 k1 filed concat bytes values lineCount roundedUp splitting pieces addenda cut cuts unlines onto split leafAt leavesOf separatorsAt between unsplitFrom unsplit segmentsOf linesOf written limitsOf
+k1-message Small = refl
+k1-message Large = refl
 
-k1-written : writing form level K1-lent (form .bytes) ≡ writes (written form k1) (length (linesOf form k1))
-k1-written =
-    table-written-out form form-lawful level K1-lent (form .bytes) refl (table-exactly form form-lawful level K1-lent .1 k1-to)
-    ∙ ap (λ (t : Table). writes (written form t) (length (linesOf form t))) k1-counted
+k1-lines : (f : Form) → length (linesOf (limitsOf f) k1) ≡ 5
+unfolding bytes k1 filed concat values lineCount roundedUp splitting pieces addenda cut cuts unlines onto split leafAt leavesOf separatorsAt between unsplitFrom unsplit segmentsOf linesOf limitsOf
+k1-lines Small = refl
+k1-lines Large = refl
 
--- its first byte is H, and there are 65
-k1-message : written form k1 ≡ K1
-unfolding K1 k1 filed concat bytes values lineCount roundedUp splitting pieces addenda cut cuts unlines onto split leafAt leavesOf separatorsAt between unsplitFrom unsplit segmentsOf linesOf written
-k1-message = refl
+module _ (f : Form) where
+  k1-to : ReadTo (limitsOf f) level (counted K1-lent)
+  k1-to = (K1, k1-read f ∙ ap accepted (sym k1-counted))
 
--- a writer that stores nothing leaves an output of zeros as it was
-pub stores-nothing : (output : List ℕ) → form .bytes ≤ length output → getD output 0 0 ≡ 0
-    → outputAfter output (writing form level K1-lent (form .bytes)) ≡ output → ⊥
-unfolding outputAfter K1 bytes
-stores-nothing output room zero e =
-    let after = ap (outputAfter output) k1-written ∙ ap (sets output 0) k1-message in
-    let first = front-at output K1 0 (omega (arith, room)) (omega arith) in
-    let z : _≡_ {A = ℕ} 72 0 = sym first ∙ ap (λ (s : List ℕ). getD s 0 0) (sym after ∙ e) ∙ zero in
-    omega arith
+  k1-written : writing (limitsOf f) level K1-lent (limitsOf f .bytes) ≡ writes (written (limitsOf f) k1) (length (linesOf (limitsOf f) k1))
+  k1-written =
+      table-written-out (limitsOf f) (form-lawful f) level K1-lent (limitsOf f .bytes) (le-ltb (limitsOf f .bytes) (limitsOf f .bytes) (omega arith))
+      (table-exactly (limitsOf f) (form-lawful f) level K1-lent .1 k1-to)
+      ∙ ap (λ (t : Table). writes (written (limitsOf f) t) (length (linesOf (limitsOf f) t))) k1-counted
 
--- a count of the writer's bytes that leaves the separators and the CRs out, or that answers 0 always
-module _ (r : ℕ) (h : r ≡ writtenSize form level K1-lent) where
-  size-65 : r ≡ 65
-  unfolding writtenSize answer K1 bytes
-  size-65 = h ∙ ap (λ (w : Writing). answer w .bytes) k1-written ∙ ap length k1-message
+  -- a writer that stores nothing leaves an output of zeros as it was
+  pub stores-nothing : (output : List ℕ) → limitsOf f .bytes ≤ length output → getD output 0 0 ≡ 0
+      → outputAfter output (writing (limitsOf f) level K1-lent (limitsOf f .bytes)) ≡ output → ⊥
+  unfolding outputAfter K1 bytes
+  stores-nothing output room zero e =
+      let after = ap (outputAfter output) k1-written ∙ ap (sets output 0) (k1-message f) in
+      let first = front-at output K1 0 (omega (arith, room, small-least f .bytes)) (omega arith) in
+      let z : _≡_ {A = ℕ} 72 0 = sym first ∙ ap (λ (s : List ℕ). getD s 0 0) (sym after ∙ e) ∙ zero in
+      omega arith
 
-  pub counts-text-only : r ≡ k1 .card .text → ⊥
-  unfolding k1 filed
-  counts-text-only e = omega (arith, size-65, e)
+  -- a count of the writer's bytes that leaves the separators and the CRs out, or that answers 0 always
+  module _ (r : ℕ) (h : r ≡ writtenSize (limitsOf f) level K1-lent) where
+    size-65 : r ≡ 65
+    unfolding writtenSize answer K1 bytes
+    size-65 = h ∙ ap (λ (w : Writing). answer w .bytes) k1-written ∙ ap length (k1-message f)
 
-  pub counts-nothing : r ≡ 0 → ⊥
-  counts-nothing e = omega (arith, size-65, e)
+    pub counts-text-only : r ≡ k1 .card .text → ⊥
+    unfolding k1 filed
+    counts-text-only e = omega (arith, size-65, e)
 
--- an answer whose lines or bytes are one off
-module _ (r : Written) (h : r ≡ answer (writing form level K1-lent (form .bytes))) where
-  pub counts-a-line-more : r .lines ≡ 6 → ⊥
-  unfolding answer bytes k1 filed concat values lineCount roundedUp splitting pieces addenda cut cuts unlines onto split leafAt leavesOf separatorsAt between unsplitFrom unsplit segmentsOf linesOf
-  counts-a-line-more e =
-      let lines : r .lines ≡ 5 = ap (λ (w : Written). w .lines) h ∙ ap (λ (w : Writing). answer w .lines) k1-written in
-      omega (arith, lines, e)
+    pub counts-nothing : r ≡ 0 → ⊥
+    counts-nothing e = omega (arith, size-65, e)
 
-  pub counts-a-byte-more : r .bytes ≡ 66 → ⊥
-  unfolding answer K1 bytes
-  counts-a-byte-more e =
-      let size : r .bytes ≡ 65
-      = ap (λ (w : Written). w .bytes) h ∙ ap (λ (w : Writing). answer w .bytes) k1-written ∙ ap length k1-message in
-      omega (arith, size, e)
+  -- an answer whose lines or bytes are one off
+  module _ (r : Written) (h : r ≡ answer (writing (limitsOf f) level K1-lent (limitsOf f .bytes))) where
+    pub counts-a-line-more : r .lines ≡ 6 → ⊥
+    unfolding answer
+    counts-a-line-more e =
+        let lines : r .lines ≡ 5 = ap (λ (w : Written). w .lines) h ∙ ap (λ (w : Writing). answer w .lines) k1-written ∙ k1-lines f in
+        omega (arith, lines, e)
+
+    pub counts-a-byte-more : r .bytes ≡ 66 → ⊥
+    unfolding answer K1 bytes
+    counts-a-byte-more e =
+        let size : r .bytes ≡ 65
+        = ap (λ (w : Written). w .bytes) h ∙ ap (λ (w : Writing). answer w .bytes) k1-written ∙ ap length (k1-message f) in
+        omega (arith, size, e)

@@ -1,7 +1,7 @@
 -- The three demands (docs/PROMISES.md says them in words), as statements about what the public contracts name: `ReadAs` of the reader,
 -- `WroteAs` of the writer, `isTable` of the table test, `soughtIn`, `soughtInSegment`, `rowAfter` and `sameOrder` of the lookups, `tellOf` of the
--- watcher. Each demand holds of any lawful limits and any levels, and so of the form's own: the last lines of proofs/Demands.antt. Types from specs.declared
--- are the structs and enums of src/, field by field; names from specs.inner need not be read, since each is fixed by a statement below.
+-- watcher. Each demand is shown once, of any lawful limits and any levels; the end of the page reads them at both forms. Types from specs.declared are the
+-- structs and enums of src/, field by field; names from specs.inner need not be read, since each is fixed by a statement below.
 -- Assumes nothing.
 use mathlib.Core.Bool.{Bool, true, false}
 use mathlib.Core.List.{List, [], _∷_, _++_}
@@ -11,12 +11,15 @@ use Prim.Native.Nat.{ℕ, suc, _≤_, _<_}
 use lib.ListN.{length}
 use Rattle.form.specs.declared.limits.Limits.{Limits}
 use Rattle.form.specs.declared.separators.Separators.{Separators}
+use Rattle.form.specs.declared.forms.Form.{Form}
+use Rattle.form.specs.Forms.{smallForm, largeForm, limitsOf}
 use Rattle.form.specs.Numbers.{misplacedKind, shortOutput, noTable}
 use Rattle.line.specs.Lines.{walk, texts}
 use Rattle.order.specs.declared.watcher.Watcher.{Watcher}
 use Rattle.order.specs.Grammar.{Tree, word, Derives, Begins}
 use Rattle.order.specs.Contexts.{grammar}
 use Rattle.order.specs.Misplaced.{FirstMisplaced}
+use Rattle.order.specs.Owners.{level}
 use Rattle.order.specs.Watcher.{begun, watched, said}
 use Rattle.order.specs.inner.Telling.{tellOf}
 use Rattle.table.specs.Lent.{Lent, lent, counted}
@@ -118,3 +121,19 @@ pub record Demand3 (L : Limits) (levels : ℕ → ℕ → ℕ) : Type 0 where
       → SoundLines L message ps → SoundLines L other qs → segmentsIn L ps message ≡ segmentsIn L qs other
       → ReadAs L levels message text segments leaves r text₁ segments₁ leaves₁ → ReadAs L levels other text segments leaves s text₂ segments₂ leaves₂
       → (r ≡ s) × (text₁ ≡ text₂) × (segments₁ ≡ segments₂) × (leaves₁ ≡ leaves₂)
+
+-- The demands of a form (T6, T8), by the levels in force.
+pub record OfForm (f : Form) : Type 0 where
+  pub first : Demand1 (limitsOf f) level
+  pub second : Demand2 (limitsOf f) level
+  pub third : Demand3 (limitsOf f) level
+
+-- Both forms: each meets the demands, and what the small one accepts the large one accepts with the same answer and the same table, into whatever
+-- buffers of its own sizes.
+pub record BothForms : Type 0 where
+  pub each : (f : Form) → OfForm f
+  pub small-in-large : (message : List ℕ) {text segments leaves text′ segments′ leaves′ : List ℕ} {r : Answer}
+      → ReadAs smallForm level message text segments leaves r text′ segments′ leaves′ → r .number ≡ 0
+      → {text₁ segments₁ leaves₁ text₂ segments₂ leaves₂ : List ℕ} {s : Answer} → short largeForm (roomOf text₁ segments₁ leaves₁) ≡ false
+      → ReadAs largeForm level message text₁ segments₁ leaves₁ s text₂ segments₂ leaves₂
+      → (s ≡ r) × (counted (lent (s .card) segments₂ leaves₂ text₂) ≡ counted (lent (r .card) segments′ leaves′ text′))

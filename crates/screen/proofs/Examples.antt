@@ -9,7 +9,8 @@ use Rattle.laws.specs.Lists.{same, among, count, concat, numbered, firstFrom}
 use Rattle.laws.specs.Texts.{bytes}
 use Rattle.laws.proofs.Lists.{getD-map}
 use Rattle.laws.specs.Tables.{values, passing}
-use Rattle.form.specs.Limits.{form, lineCount, roundedUp}
+use Rattle.form.specs.Forms.{smallForm}
+use Rattle.form.specs.Limits.{lineCount, roundedUp}
 use Rattle.form.specs.Header.{within, allowed, allAllowed, different, separatorsOf, five, splitting, soundHeader, headerOf}
 use Rattle.form.specs.Names.{kindNames, contextNames, numberAmong, kindOf, contextOf}
 use Rattle.line.specs.Lines.{inside, walkFrom, walk, texts, faultNumber, faultPlace}
@@ -35,15 +36,15 @@ use Rattle.screen.specs.Examples.{filedLines, asReport, asOrders, soundL
 
 -- the verdict on an example, and the one that it names
 abbrev verdictOf : ScreenedLines → Verdict
-verdictOf e = screened form level (filedLines (asReport (e .lines)))
+verdictOf e = screened smallForm level (filedLines (asReport (e .lines)))
 
 abbrev namedIn : ScreenedLines → Verdict
 namedIn e = record { number = e .number; place = e .place }
 
 -- all of them; the first as an ORM, and with a card that counts one segment less
 computed : (map verdictOf verdictExamples ≡ map namedIn verdictExamples)
-    × (screened form level (filedLines (asOrders soundLines)) ≡ record { number = 30; place = 0 })
-    × (screened form level (cutShort (filedLines (asReport soundLines))) ≡ record { number = 13; place = 0 })
+    × (screened smallForm level (filedLines (asOrders soundLines)) ≡ record { number = 30; place = 0 })
+    × (screened smallForm level (cutShort (filedLines (asReport soundLines))) ≡ record { number = 13; place = 0 })
 unfolding same among count concat numbered firstFrom bytes values passing lineCount roundedUp within allowed allAllowed different separatorsOf five splitting
     soundHeader headerOf kindNames contextNames numberAmong kindOf contextOf inside walkFrom walk texts faultNumber faultPlace addendum carried
     joined pieces addenda cut cuts unlines segment H P AP AC OBR OBX FAC REG ACT ERR L orders cover invoices bodies messageShape grammar empties told
@@ -63,7 +64,7 @@ example-count = refl
 abbrev pub kthExample : ℕ → ScreenedLines
 kthExample k = getD verdictExamples k (expects 0 0 [])
 
-pub examples-hold : (k : ℕ) → k < 10 → screened form level (filedLines (asReport (kthExample k .lines))) ≡ record { number = kthExample k .number; place = kthExample k .place }
+pub examples-hold : (k : ℕ) → k < 10 → screened smallForm level (filedLines (asReport (kthExample k .lines))) ≡ record { number = kthExample k .number; place = kthExample k .place }
 examples-hold k h =
     let inside : k < length verdictExamples = omega (arith, h, example-count) in
     let past : Verdict = record { number = 0; place = 0 } in
@@ -71,8 +72,8 @@ examples-hold k h =
     ∙ ap (λ (l : List Verdict). getD l k past) (computed .0)
     ∙ getD-map namedIn verdictExamples k (expects 0 0 []) past inside
 
-pub orders-refused : screened form level (filedLines (asOrders soundLines)) ≡ record { number = 30; place = 0 }
+pub orders-refused : screened smallForm level (filedLines (asOrders soundLines)) ≡ record { number = 30; place = 0 }
 orders-refused = computed .1
 
-pub cut-short-refused : screened form level (cutShort (filedLines (asReport soundLines))) ≡ record { number = 13; place = 0 }
+pub cut-short-refused : screened smallForm level (cutShort (filedLines (asReport soundLines))) ≡ record { number = 13; place = 0 }
 cut-short-refused = computed .2

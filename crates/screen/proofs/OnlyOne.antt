@@ -2,11 +2,11 @@
 -- Assumes nothing.
 use mathlib.Core.Path.{_≡_}
 use Rattle.laws.proofs.Equality.{only-one}
-use Rattle.form.specs.Limits.{form}
+use Rattle.form.specs.Forms.{smallForm}
 use Rattle.order.specs.Owners.{level}
 use Rattle.table.specs.Lent.{Lent}
 use Rattle.screen.specs.declared.Verdict.{Verdict}
 use Rattle.screen.specs.Verdicts.{screened}
 
-pub screen : (t : Lent) (v w : Verdict) → v ≡ screened form level t → w ≡ screened form level t → v ≡ w
+pub screen : (t : Lent) (v w : Verdict) → v ≡ screened smallForm level t → w ≡ screened smallForm level t → v ≡ w
 screen t v w e q = only-one e q

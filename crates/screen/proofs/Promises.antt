@@ -10,12 +10,15 @@ use Rattle.laws.proofs.Cases.{less-or-not}
 use Rattle.laws.proofs.Equality.{only-one}
 use Rattle.laws.proofs.Tests.{never-both}
 use Rattle.form.specs.declared.limits.Limits.{Limits}
-use Rattle.form.specs.Limits.{form, Lawful}
+use Rattle.form.specs.declared.forms.Form.{Form}
+use Rattle.form.specs.Forms.{limitsOf}
+use Rattle.form.specs.Limits.{Lawful}
 use Rattle.form.specs.Numbers.{noTable}
-use Rattle.form.proofs.LineCount.{form-lawful}
+use Rattle.form.proofs.TwoForms.{form-lawful}
 use Rattle.order.specs.Owners.{level}
 use Rattle.table.specs.Lent.{Lent}
 use Rattle.table.specs.Rows.{width}
+use Rattle.table.proofs.Width.{form-fits}
 use Rattle.write.specs.inner.ReadsBack.{isTable}
 use Rattle.write.proofs.ReadTables.{filed-table}
 use Rattle.look.specs.Matches.{FirstFit}
@@ -173,5 +176,5 @@ screening L lawful few =
     }
 
 -- of the form itself
-pub form-screening : Screening form
-form-screening = screening form form-lawful (omega arith)
+pub form-screening : (f : Form) → Screening (limitsOf f)
+form-screening f = screening (limitsOf f) (form-lawful f) (omega (arith, form-fits f .segments))

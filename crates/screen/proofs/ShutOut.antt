@@ -4,7 +4,7 @@
 -- Assumes nothing.
 use mathlib.Core.Path.{_≡_, ap, _∙_}
 use native.Mathlib.Omega.{arith}
-use Rattle.form.specs.Limits.{form}
+use Rattle.form.specs.Forms.{smallForm}
 use Rattle.order.specs.Owners.{level}
 use Rattle.table.specs.Lent.{Lent}
 use Rattle.tested.specs.inner.Lending.{cutShort}
@@ -28,9 +28,9 @@ use Rattle.screen.specs.Examples.{
 use Rattle.screen.proofs.Examples.{examples-hold, orders-refused, cut-short-refused}
 
 -- what meets the contract of `screen`
-module _ (f : Lent → Verdict) (meets : (t : Lent) → f t ≡ screened form level t) where
+module _ (f : Lent → Verdict) (meets : (t : Lent) → f t ≡ screened smallForm level t) where
   -- its number on a table
-  said : (t : Lent) {v : Verdict} → screened form level t ≡ v → f t .number ≡ v .number
+  said : (t : Lent) {v : Verdict} → screened smallForm level t ≡ v → f t .number ≡ v .number
   said t e = ap (λ (v : Verdict). v .number) (meets t ∙ e)
 
   pub stops-at-the-first-row : f (filedLines (asReport lowerLater)) .number ≡ 35 → ⊥

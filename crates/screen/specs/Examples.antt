@@ -5,7 +5,7 @@ use Prim.Native.Nat.{ℕ}
 use Prim.Native.String.{String}
 use Rattle.laws.specs.Lists.{concat}
 use Rattle.laws.specs.Texts.{bytes}
-use Rattle.form.specs.Limits.{form}
+use Rattle.form.specs.Forms.{smallForm}
 use Rattle.order.specs.Owners.{level}
 use Rattle.table.specs.Reading.{stated, reading}
 use Rattle.table.specs.Lent.{Lent}
@@ -13,7 +13,7 @@ use Rattle.tested.specs.inner.Lending.{lentBy}
 
 -- the table of a message of lines, each ended by CR
 unfoldable pub filedLines : List String → Lent
-filedLines lines = lentBy (reading form level (stated form) (concat (map (λ (line : String). bytes line ++ (13 ∷ [])) lines)))
+filedLines lines = lentBy (reading smallForm level (stated smallForm) (concat (map (λ (line : String). bytes line ++ (13 ∷ [])) lines)))
 
 -- lines as a report, an ORU, and as an ORM
 unfoldable pub asReport : List String → List String

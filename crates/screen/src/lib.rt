@@ -12,11 +12,12 @@ use crate::refusal::Refusal;
 use crate::rule::KEPT;
 use crate::rule::first_failed;
 use form::context::Context;
+use form::forms::Form;
 use form::number::Number;
 use table::Card;
 use table::rows;
 ghost use mathlib.Core.Path.{_≡_};
-ghost use Rattle.form.specs.Limits.{form};
+ghost use Rattle.form.specs.Forms.{limitsOf};
 ghost use Rattle.order.specs.Owners.{level};
 ghost use Rattle.table.specs.Lent.{lent};
 ghost use Rattle.screen.specs.Refusals.{firstRule};
@@ -30,12 +31,18 @@ pub struct Verdict {
     pub place: usize,
 }
 
-// Whether a table is a screening report that keeps every rule. Any card and any buffers get a verdict, and nothing is changed. Once the table
+// Whether a table of a form is a screening report that keeps every rule. Any card and any buffers get a verdict, and nothing is changed. Once the table
 // is tested, each row is judged once, and each result once more for its patient.
-pub fn screen(card: Card, segments: &[rows::Entry], leaves: &[rows::Entry], text: &[u8]) -> Verdict
-    ensures { λ r. ⌜ r ≡ screened form level (lent card (now (segments .entry)) (now (leaves .entry)) (now (text .entry))) ⌝ }
+pub fn screen(
+    form: Form,
+    card: Card,
+    segments: &[rows::Entry],
+    leaves: &[rows::Entry],
+    text: &[u8],
+) -> Verdict
+    ensures { λ r. ⌜ r ≡ screened (limitsOf form) level (lent card (now (segments .entry)) (now (leaves .entry)) (now (text .entry))) ⌝ }
 {
-    if !write::test::is_table(card, segments, leaves, text) {
+    if !write::test::is_table(form, card, segments, leaves, text) {
         return refused(Number::NO_TABLE);
     }
     if card.context != Context::ORU {

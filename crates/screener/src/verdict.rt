@@ -9,6 +9,7 @@ use crate::refused::put_refused;
 use crate::row::kind_of;
 use crate::row::numbered;
 use crate::values::put_misvalued;
+use form::forms::Form;
 use form::number::Number;
 use screen::refusal::Refusal;
 use screen::screen;
@@ -19,7 +20,7 @@ ghost use Rattle.screen.specs.Refusals.{firstRule};
 
 // Screens a table, and says yes, or no with what is wrong.
 pub fn put_verdict(card: Card, segments: &[Entry], leaves: &[Entry], text: &[u8]) {
-    let verdict = screen(card, segments, leaves, text);
+    let verdict = screen(Form::Large, card, segments, leaves, text);
     let number = verdict.number;
     let place = verdict.place;
     match number {

@@ -14,7 +14,8 @@ use Rattle.laws.specs.Lists.{same, among, count, concat, numbered, firstFrom}
 use Rattle.laws.specs.Texts.{bytes}
 use Rattle.laws.specs.Tables.{values, passing}
 use Rattle.laws.proofs.Stores.{getD-sets-within}
-use Rattle.form.specs.Limits.{form, lineCount, roundedUp}
+use Rattle.form.specs.Forms.{smallForm}
+use Rattle.form.specs.Limits.{lineCount, roundedUp}
 use Rattle.form.specs.Header.{within, allowed, allAllowed, different, separatorsOf, five, splitting, soundHeader, headerOf}
 use Rattle.form.specs.Names.{kindNames, contextNames, numberAmong, kindOf, contextOf}
 use Rattle.line.specs.Lines.{inside, walkFrom, walk, texts, faultNumber, faultPlace}
@@ -56,7 +57,7 @@ use Rattle.value.specs.Examples.{sent, sentTable, firstOrder, secondOrde
 use Rattle.value.proofs.ResultsRead.{length-values, no-table, no-order, little-room, all-given}
 
 -- some message reads to its table, and to the one that is cut short none; rows 3 and 14 are its orders, and rows 0, 4 and 17 are none
-pub tables-tested : (isTable form level sentTable ≡ true) × (isTable form level (cutShort sentTable) ≡ false)
+pub tables-tested : (isTable smallForm level sentTable ≡ true) × (isTable smallForm level (cutShort sentTable) ≡ false)
 unfolding same among count concat numbered firstFrom bytes values passing lineCount roundedUp within allowed allAllowed different separatorsOf five splitting
     soundHeader headerOf kindNames contextNames numberAmong kindOf contextOf inside walkFrom walk texts faultNumber faultPlace addendum carried
     joined pieces addenda cut cuts unlines segment H P AP AC OBR OBX FAC REG ACT ERR L orders cover invoices bodies messageShape grammar empties told
@@ -109,41 +110,41 @@ results-counted = (
 
 -- so each order is answered with its own values, in the order of the rows, where there is room
 pub first-answered : (numbers wholes decimals : ℕ) → 8 ≤ answersRoom numbers wholes decimals
-    → results form level mostDigits sentTable 3 numbers wholes decimals ≡ gives firstOrder
+    → results smallForm level mostDigits sentTable 3 numbers wholes decimals ≡ gives firstOrder
 first-answered numbers wholes decimals room =
-    all-given form level mostDigits sentTable 3 numbers wholes decimals (tables-tested .0) (orders-tested .0)
+    all-given smallForm level mostDigits sentTable 3 numbers wholes decimals (tables-tested .0) (orders-tested .0)
     (le-leb (length (numericRows sentTable 3)) (answersRoom numbers wholes decimals) (omega (arith, room, results-counted .0)))
     ∙ ap gives (values-computed .0)
 
 pub second-answered : (numbers wholes decimals : ℕ) → 1 ≤ answersRoom numbers wholes decimals
-    → results form level mostDigits sentTable 14 numbers wholes decimals ≡ gives secondOrder
+    → results smallForm level mostDigits sentTable 14 numbers wholes decimals ≡ gives secondOrder
 second-answered numbers wholes decimals room =
-    all-given form level mostDigits sentTable 14 numbers wholes decimals (tables-tested .0) (orders-tested .1)
+    all-given smallForm level mostDigits sentTable 14 numbers wholes decimals (tables-tested .0) (orders-tested .1)
     (le-leb (length (numericRows sentTable 14)) (answersRoom numbers wholes decimals) (omega (arith, room, results-counted .1)))
     ∙ ap gives (values-computed .1)
 
 -- and else refused: 13 before 24, 24 before 25
 pub orders-refused : (numbers wholes decimals : ℕ)
-    → (results form level mostDigits (cutShort sentTable) 0 numbers wholes decimals ≡ refusesValues 13)
-    × (results form level mostDigits sentTable 0 numbers wholes decimals ≡ refusesValues 24)
-    × (results form level mostDigits sentTable 4 numbers wholes decimals ≡ refusesValues 24)
-    × (results form level mostDigits sentTable 17 numbers wholes decimals ≡ refusesValues 24)
-    × (answersRoom numbers wholes decimals < 8 → results form level mostDigits sentTable 3 numbers wholes decimals ≡ refusesValues 25)
+    → (results smallForm level mostDigits (cutShort sentTable) 0 numbers wholes decimals ≡ refusesValues 13)
+    × (results smallForm level mostDigits sentTable 0 numbers wholes decimals ≡ refusesValues 24)
+    × (results smallForm level mostDigits sentTable 4 numbers wholes decimals ≡ refusesValues 24)
+    × (results smallForm level mostDigits sentTable 17 numbers wholes decimals ≡ refusesValues 24)
+    × (answersRoom numbers wholes decimals < 8 → results smallForm level mostDigits sentTable 3 numbers wholes decimals ≡ refusesValues 25)
 orders-refused numbers wholes decimals = (
-  no-table form level mostDigits (cutShort sentTable) 0 numbers wholes decimals (tables-tested .1),
-  no-order form level mostDigits sentTable 0 numbers wholes decimals (tables-tested .0) (orders-tested .2),
-  no-order form level mostDigits sentTable 4 numbers wholes decimals (tables-tested .0) (orders-tested .3),
-  no-order form level mostDigits sentTable 17 numbers wholes decimals (tables-tested .0) (orders-tested .4),
+  no-table smallForm level mostDigits (cutShort sentTable) 0 numbers wholes decimals (tables-tested .1),
+  no-order smallForm level mostDigits sentTable 0 numbers wholes decimals (tables-tested .0) (orders-tested .2),
+  no-order smallForm level mostDigits sentTable 4 numbers wholes decimals (tables-tested .0) (orders-tested .3),
+  no-order smallForm level mostDigits sentTable 17 numbers wholes decimals (tables-tested .0) (orders-tested .4),
   λ few.
-      little-room form level mostDigits sentTable 3 numbers wholes decimals (tables-tested .0) (orders-tested .0)
+      little-room smallForm level mostDigits sentTable 3 numbers wholes decimals (tables-tested .0) (orders-tested .0)
       (lt-leb (length (numericRows sentTable 3)) (answersRoom numbers wholes decimals) (omega (arith, few, results-counted .0))),
 )
 
 -- no values of the first order that meet the contract skip a result that fails, or take two subfields, or a value sent empty, for a number
 module _ {numbers numbers′ : List ℕ} {wholes wholes′ : List ℤ} {decimals decimals′ : List ℕ} {r : ValuesRead}
     (room : 8 ≤ answersRoom (length numbers) (length wholes) (length decimals))
-    (read : ReadValues form level mostDigits sentTable 3 numbers wholes decimals r numbers′ wholes′ decimals′) where
-  is : results form level mostDigits sentTable 3 (length numbers) (length wholes) (length decimals) ≡ gives firstOrder
+    (read : ReadValues smallForm level mostDigits sentTable 3 numbers wholes decimals r numbers′ wholes′ decimals′) where
+  is : results smallForm level mostDigits sentTable 3 (length numbers) (length wholes) (length decimals) ≡ gives firstOrder
   is = first-answered (length numbers) (length wholes) (length decimals) room
 
   pub skips-none : r .count ≡ 8

@@ -4,7 +4,8 @@ use Prim.Native.Nat.{ℕ, _≤_}
 use native.Mathlib.Omega.{arith}
 use Rattle.laws.proofs.Passing.{passing-passes, passing-rises, passing-lists}
 use Rattle.form.specs.declared.limits.Limits.{Limits}
-use Rattle.form.specs.Limits.{form}
+use Rattle.form.specs.declared.forms.Form.{Form}
+use Rattle.form.specs.Forms.{limitsOf}
 use Rattle.order.specs.Owners.{level}
 use Rattle.value.specs.Numerals.{mostDigits}
 use Rattle.value.specs.Results.{isNumeric}
@@ -50,5 +51,5 @@ order-values L levels most =
 pub form-one-value : OneValue mostDigits
 form-one-value = one-value mostDigits (omega arith)
 
-pub form-order-values : OrderValues form level mostDigits
-form-order-values = order-values form level mostDigits
+pub form-order-values : (f : Form) → OrderValues (limitsOf f) level mostDigits
+form-order-values f = order-values (limitsOf f) level mostDigits

@@ -4,7 +4,7 @@ use mathlib.Core.List.{List, [], _∷_}
 use Prim.Native.Nat.{ℕ}
 use lib.IntN.{ℤ, pos, negsuc}
 use Rattle.laws.specs.Texts.{bytes}
-use Rattle.form.specs.Limits.{form}
+use Rattle.form.specs.Forms.{smallForm}
 use Rattle.order.specs.Owners.{level}
 use Rattle.table.specs.Reading.{stated, reading}
 use Rattle.table.specs.Lent.{Lent}
@@ -20,7 +20,7 @@ sent =
 
 -- the table that it reads to
 unfoldable pub sentTable : Lent
-sentTable = lentBy (reading form level (stated form) sent)
+sentTable = lentBy (reading smallForm level (stated smallForm) sent)
 
 -- a number, and that there is none: no number at all, or one of too many digits
 abbrev pub number : ℤ → ℕ → Value

@@ -3,6 +3,7 @@ use crate::refusal::Refusal;
 use crate::result::is_numeric;
 use crate::result::result_of;
 use crate::sign::signed;
+use form::forms::Form;
 use form::number::Number;
 use look::order::is_order;
 use table::Card;
@@ -12,7 +13,7 @@ ghost use Prim.Native.Nat.{_-_, min};
 ghost use lib.Dec.{leb};
 ghost use lib.ListN.{length, getD};
 ghost use Rattle.laws.specs.Tables.{passing};
-ghost use Rattle.form.specs.Limits.{form};
+ghost use Rattle.form.specs.Forms.{limitsOf};
 ghost use Rattle.order.specs.Owners.{level};
 ghost use Rattle.table.specs.Lent.{lent};
 ghost use Rattle.value.specs.Numerals.{mostDigits};
@@ -26,10 +27,11 @@ pub struct ValuesRead {
     pub count: usize,
 }
 
-// The numbers of all numeric results under an OBR row of a table, each answer's three parts at the same place of three lent buffers: 0, 20
+// The numbers of all numeric results under an OBR row of a table of a form, each answer's three parts at the same place of three lent buffers: 0, 20
 // or 21; the whole number; the decimals. Entries past the count stay. Any card, any buffers and any row get an answer. Once the table is
 // tested, only the order's own rows and leaves are looked at, and the row behind them.
 pub fn order_values(
+    form: Form,
     card: Card,
     segments: &[rows::Entry],
     leaves: &[rows::Entry],
@@ -39,10 +41,10 @@ pub fn order_values(
     wholes: &mut [i64],
     decimals: &mut [u8],
 ) -> ValuesRead
-    ensures { λ r. ⌜ ReadValues form level mostDigits (lent card (now (segments .entry)) (now (leaves .entry)) (now (text .entry))) order
+    ensures { λ r. ⌜ ReadValues (limitsOf form) level mostDigits (lent card (now (segments .entry)) (now (leaves .entry)) (now (text .entry))) order
         (now (numbers .entry)) (now (wholes .entry)) (now (decimals .entry)) r (now (numbers .exit)) (now (wholes .exit)) (now (decimals .exit)) ⌝ }
 {
-    if !write::test::is_table(card, segments, leaves, text) {
+    if !write::test::is_table(form, card, segments, leaves, text) {
         return refusal(Number::NO_TABLE);
     }
     if !is_order(segments, card.segments, order) {

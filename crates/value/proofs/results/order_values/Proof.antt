@@ -9,11 +9,13 @@ use borrow.Author.Needs.{needs}
 use borrow.Author.Tests.{leb-true, not-true, not-false}
 use lib.Dec.{leb}
 use lib.ListN.{length}
-use Rattle.form.specs.Limits.{form}
+use Rattle.form.specs.declared.limits.Limits.{Limits}
+use Rattle.form.specs.Forms.{limitsOf}
 use Rattle.form.specs.Numbers.{noTable}
-use Rattle.form.proofs.LineCount.{form-lawful}
+use Rattle.form.proofs.TwoForms.{form-lawful}
 use Rattle.order.specs.Owners.{level}
 use Rattle.table.specs.Lent.{Lent, lent}
+use Rattle.table.proofs.Width.{form-fits}
 use Rattle.write.specs.inner.ReadsBack.{isTable}
 use Rattle.look.specs.Looking.{orderAt}
 use Rattle.value.specs.Refusals.{notAnOrder}
@@ -35,7 +37,10 @@ start-ordered c = start-of (c .before .before .before)
 abbrev start-roomy : tie.After-lesser2 → tie.Start
 start-roomy c = start-ordered (c .before .before)
 
--- the table that is lent, how many results its order has, and how many answers have room
+-- the limits of its form, the table that is lent, how many results its order has, and how many answers have room
+abbrev limits-here : tie.Start → Limits
+limits-here c = limitsOf (c .args .form)
+
 abbrev lent-here : tie.Start → Lent
 lent-here c = lent (c .args .card) (now (c .args .segments)) (now (c .args .leaves)) (now (c .args .text))
 
@@ -46,7 +51,7 @@ abbrev room-held : tie.Start → ℕ
 room-held c = answersRoom (length (now (c .args .numbers))) (length (now (c .args .wholes))) (length (now (c .args .decimals)))
 
 -- past the first two tests: some message reads to the table, and the row is an order
-table-here : (c : tie.Else1) → isTable form level (lent-here (start-of (c .before))) ≡ true
+table-here : (c : tie.Else1) → isTable (limits-here (start-of (c .before))) level (lent-here (start-of (c .before))) ≡ true
 table-here c = sym (c .before .is-table .ensures) ∙ not-false (c .before .is-table .result) (c .if1 .left)
 
 order-here : (c : tie.Else2) → orderAt (lent-here (start-ordered c)) (start-ordered c .args .order) ≡ true
@@ -54,7 +59,9 @@ order-here c = sym (c .before .is-order .ensures) ∙ not-false (c .before .is-o
 
 rows-here : (c : tie.Else2) → OrderRows (lent-here (start-ordered c)) (start-ordered c .args .order)
 rows-here c =
-    order-rows form form-lawful level (lent-here (start-ordered c)) (table-here (c .before .before)) (omega arith) (start-ordered c .args .order) (order-here c)
+    let f = start-ordered c .args .form in
+    order-rows (limitsOf f) (form-lawful f) level (lent-here (start-ordered c)) (table-here (c .before .before)) (omega (arith, form-fits f .segments))
+    (start-ordered c .args .order) (order-here c)
 
 -- the room is that of the shortest buffer; whether it does for all results; and past the third test, it does
 room-here : (c : tie.After-lesser2) → c .lesser2 .result ≡ room-held (start-roomy c)
@@ -80,8 +87,8 @@ returns c =
     let asked = c .before .before in
     let start = start-of asked in
     let a = start .args in
-    values-refused form level mostDigits (lent-here start) (a .order) (a .numbers .now) (a .wholes .now) (a .decimals .now) noTable
-    (no-table form level mostDigits (lent-here start) (a .order) (length (now (a .numbers))) (length (now (a .wholes))) (length (now (a .decimals)))
+    values-refused (limits-here start) level mostDigits (lent-here start) (a .order) (a .numbers .now) (a .wholes .now) (a .decimals .now) noTable
+    (no-table (limits-here start) level mostDigits (lent-here start) (a .order) (length (now (a .numbers))) (length (now (a .wholes))) (length (now (a .decimals)))
     (sym (asked .is-table .ensures) ∙ not-true (asked .is-table .result) (c .before .if1 .taken)))
     (c .refusal .ensures)
 
@@ -97,8 +104,8 @@ returns-2 c =
     let tested = asked .before in
     let start = start-of (tested .before) in
     let a = start .args in
-    values-refused form level mostDigits (lent-here start) (a .order) (a .numbers .now) (a .wholes .now) (a .decimals .now) notAnOrder
-    (no-order form level mostDigits (lent-here start) (a .order) (length (now (a .numbers))) (length (now (a .wholes))) (length (now (a .decimals)))
+    values-refused (limits-here start) level mostDigits (lent-here start) (a .order) (a .numbers .now) (a .wholes .now) (a .decimals .now) notAnOrder
+    (no-order (limits-here start) level mostDigits (lent-here start) (a .order) (length (now (a .numbers))) (length (now (a .wholes))) (length (now (a .decimals)))
     (table-here tested) (sym (asked .is-order .ensures) ∙ not-true (asked .is-order .result) (c .before .if2 .taken)))
     (c .refusal2 .ensures)
 
@@ -120,7 +127,7 @@ returns-3 c =
     let order = asked .before .before .before in
     let start = start-ordered order in
     let a = start .args in
-    values-few form level mostDigits (lent-here start) (a .order) (a .numbers .now) (a .wholes .now) (a .decimals .now) (table-here (order .before .before)) (order-here order)
+    values-few (limits-here start) level mostDigits (lent-here start) (a .order) (a .numbers .now) (a .wholes .now) (a .decimals .now) (table-here (order .before .before)) (order-here order)
     (sym (room-tested asked) ∙ not-true (asked .has-room .result) (c .before .if3 .taken))
     (c .refusal3 .ensures)
 
@@ -151,7 +158,7 @@ returns-4 c =
     let order = here .before .before .before .before in
     let start = start-ordered order in
     let a = start .args in
-    values-put form level mostDigits (lent-here start) (a .order) (a .numbers .now) (a .wholes .now) (a .decimals .now) (table-here (order .before .before)) (order-here order)
+    values-put (limits-here start) level mostDigits (lent-here start) (a .order) (a .numbers .now) (a .wholes .now) (a .decimals .now) (table-here (order .before .before)) (order-here order)
     (all-fit here) (put .put-values .ensures)
 
 pub order-values-spec : {M : Type 1} → statement M

@@ -1,0 +1,8 @@
+pub mod AtTheFront
+pub mod OwnedRows
+pub mod CountedRows
+pub mod OtherLevels
+pub mod Outcomes
+pub mod WidenedTables
+pub mod Promises
+pub mod ShutOut

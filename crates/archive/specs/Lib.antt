@@ -1,0 +1,4 @@
+pub mod Refusals
+pub mod Widening
+pub mod Promises
+pub mod inner
