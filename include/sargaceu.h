@@ -1,12 +1,19 @@
 /*
- * Sargaceu: the reader, the writer, the lookups, the numeric results and the screening check of laboratory messages in H.PR.I.M. Santé 2.4.
+ * Sargaceu: the reader, the writer, the lookups, the numeric results and the screening check of laboratory messages in H.PR.I.M. Santé 2.4,
+ * and the widening of archived tables.
  *
  * Every function takes any bytes, any numbers and any lengths, and returns. None allocates, none keeps anything between two calls,
  * and none touches memory but the buffers of that call, so calls may run at the same time where none writes to a buffer that another uses.
  *
  * A buffer goes in as a pointer and a count of its elements. Four things no function can test, and every caller owes them: the pointer is
- * not null, not even where the count is 0; as many elements as the count says are there; the pointer is aligned as its type asks (uint16_t
- * to 2 bytes, size_t and int64_t to 8); and a buffer that is written overlaps no other buffer of the call.
+ * not null, not even where the count is 0; as many elements as the count says are there; the pointer is aligned as its type asks (uint32_t
+ * to 4 bytes, size_t and int64_t to 8, the uint16_t of sargaceu_widen to 2); and a buffer that is written overlaps no other buffer of the call.
+ *
+ * A message has one of two forms, the small one or the large one, which differ in how much a message may have and a buffer must hold, and in
+ * nothing else (T6, T8). `form` says by which of them a call judges: SARGACEU_SMALL or SARGACEU_LARGE, and any other number is taken as the
+ * small form. A table does not know its form: it is judged by the one that goes in. What the small form accepts the large one accepts as
+ * well, with the same answer and the same table; a table over the limits of the small form is none there. Functions without the parameter do
+ * the same for both, but for sargaceu_list and sargaceu_widen, which are of the small form.
  *
  * A card is five numbers: field separator, context, counts of segments, leaves and text bytes. What `sargaceu_read` answers from
  * answer[1] on is one. Of more numbers the first five count; fewer than five, or a separator or context over 255, are taken as the card
@@ -14,16 +21,16 @@
  *
  * `answer` is where the numbers go that do not fit the return value: of size_t, and for sargaceu_read_value alone of int64_t, which has a
  * sign. A refusal is answered there, too: reader and writer put its place into answer[0], and zeros for the card or the counts behind it,
- * while every other buffer stays as it was. So does sargaceu_order_values. The answer of sargaceu_screen is the place alone. The refusal of a
- * single value has no place, and answer gets zeros. An answer that is shorter than stated gets no number at all: it stays as it was, and the
- * call has no place then.
+ * while every other buffer stays as it was. So do sargaceu_order_values and sargaceu_widen. The answer of sargaceu_screen is the place alone.
+ * The refusal of a single value has no place, and answer gets zeros. An answer that is shorter than stated gets no number at all: it stays as
+ * it was, and the call has no place then.
  *
  * Elements of a buffer past those that a call fills stay as they were.
  *
- * Rows go in as uint16_t, and sargaceu_next_row gives size_t. C cuts a larger number and says nothing: 65539 would go in as 3. No row of a
- * table is over 256, so one that sargaceu_next_row gave goes in as it is.
+ * Rows go in as uint32_t, and sargaceu_next_row gives size_t. C cuts a larger number and says nothing: 4294967299 would go in as 3. No row of
+ * a table is over 4096, so one that sargaceu_next_row gave goes in as it is.
  *
- * L1, N3, W4, D2, R1 and the like are rules of docs/RULES.md.
+ * L1, N3, W4, D2, R1, B2 and the like are rules of docs/RULES.md.
  */
 #ifndef SARGACEU_INCLUDED
 #define SARGACEU_INCLUDED
@@ -36,21 +43,45 @@
 extern "C" {
 #endif
 
-/* The most bytes that an accepted message has. A message of any length may be read: a longer one is refused with 2. */
-enum { SARGACEU_MESSAGE = 16384 };
+/*
+ * The version of this header: it rises where a function's parameters, a size or the meaning of a number changes. The archive says its own
+ * (sargaceu_version), so that a program can tell where it was built with the header of another one.
+ */
+enum { SARGACEU_VERSION = 2 };
+
+/*
+ * The two forms: up to 16384 bytes, 256 segments and 2048 leaves in a message (T6), for hosts with little memory; up to 1048576, 4096 and
+ * 65536 (T8), for reports of a megabyte.
+ */
+enum sargaceu_form { SARGACEU_SMALL = 0, SARGACEU_LARGE = 1 };
+
+/* The most bytes that an accepted message of a form has. A message of any length may be read: a longer one is refused with 2. */
+enum { SARGACEU_SMALL_MESSAGE = 16384, SARGACEU_LARGE_MESSAGE = 1048576 };
 
 /* The numbers of one segment row and of one leaf row. */
 enum { SARGACEU_SEGMENT_ROW = 4, SARGACEU_LEAF_ROW = 7 };
 
-/* The least sizes of lent buffers, in elements (bytes or numbers); longer ones are used at their front. */
+/* The least sizes of lent buffers, in elements (bytes or numbers); longer ones are used at their front. In the small form: */
 enum {
-    SARGACEU_TEXT = 16384,
-    SARGACEU_SEGMENTS = 1024,
-    SARGACEU_LEAVES = 14336,
-    SARGACEU_OUTPUT = 16384,
+    SARGACEU_SMALL_TEXT = 16384,
+    SARGACEU_SMALL_SEGMENTS = 1024,
+    SARGACEU_SMALL_LEAVES = 14336,
+    SARGACEU_SMALL_OUTPUT = 16384
+};
+
+/* In the large form: */
+enum {
+    SARGACEU_LARGE_TEXT = 1048576,
+    SARGACEU_LARGE_SEGMENTS = 16384,
+    SARGACEU_LARGE_LEAVES = 458752,
+    SARGACEU_LARGE_OUTPUT = 1048576
+};
+
+/* In both: */
+enum {
     SARGACEU_LISTING = 8448,
     SARGACEU_CARD = 5,
-    SARGACEU_READ_ANSWER = 6,
+    SARGACEU_READ_ANSWER = 6,  /* of sargaceu_widen, too */
     SARGACEU_WRITE_ANSWER = 3,
     SARGACEU_LEAF_ANSWER = 2,
     SARGACEU_LINE_ANSWER = 2,
@@ -62,12 +93,16 @@ enum {
     SARGACEU_SCREEN_ANSWER = 1 /* of sargaceu_screen */
 };
 
-/* The elements that always do for the values of an order: three buffers of as many are never refused with 25. Fewer may do as well. */
-enum { SARGACEU_VALUES = 256 };
+/*
+ * The elements that always do for the values of an order of a form: three buffers of as many are never refused with 25. Fewer may do as well,
+ * and as many as the card counts segments always do.
+ */
+enum { SARGACEU_SMALL_VALUES = 256, SARGACEU_LARGE_VALUES = 4096 };
 
 /*
- * The numbers that come back, each with its place (N1). Those from 20 to 25 are of numeric results (D3, D5, D6). Those from 30 on are of the
- * screening check (R5): what is missing is not there or empty, and a place is the first row of which the rule does not hold.
+ * The numbers that come back, each with its place (N1). Those from 20 to 25 are of numeric results (D3, D5, D6). Those from 30 to 45 are of the
+ * screening check (R5): what is missing is not there or empty, and a place is the first row of which the rule does not hold. 46 is of the
+ * widening of archived tables (B2).
  */
 enum sargaceu_number {
     SARGACEU_ACCEPTED = 0,
@@ -105,7 +140,8 @@ enum sargaceu_number {
     SARGACEU_NOT_ONE_FINGE = 42,   /* the same */
     SARGACEU_WRONG_TYPOR = 43,     /* its 10.6.1 is none of I, H, E, C, A, U; the OBX */
     SARGACEU_WRONG_PROSS = 44,     /* its 10.6.1 is none of O, N, U; the OBX */
-    SARGACEU_WRONG_RESULT = 45     /* coded (CE) and named by LN: its 10.6.1 is none of P, N, I, X; the OBX */
+    SARGACEU_WRONG_RESULT = 45,    /* coded (CE) and named by LN: its 10.6.1 is none of P, N, I, X; the OBX */
+    SARGACEU_NEVER_READ = 46       /* no reader gave the archived table; place 0 */
 };
 
 /* A segment row's first number (S1). */
@@ -131,33 +167,36 @@ enum sargaceu_sought {
 };
 
 /*
- * Reads a message into the text area, the segment rows and the leaf rows (T1 to T5). Returns the number; answer gets the place and the
- * card: place, field separator, context, segments, leaves, text bytes. A refusal changes none of the three buffers; answer gets its place
- * and five zeros (N3). Buffers under the stated sizes are refused with 1. So is an answer of under six numbers, before anything else is
+ * Reads a message of a form into the text area, the segment rows and the leaf rows (T1 to T5). Returns the number; answer gets the place and
+ * the card: place, field separator, context, segments, leaves, text bytes. A refusal changes none of the three buffers; answer gets its place
+ * and five zeros (N3). Buffers under the form's sizes are refused with 1. So is an answer of under six numbers, before anything else is
  * looked at; it stays as it was.
  */
-uint8_t sargaceu_read(const uint8_t *message, size_t message_bytes,
+uint8_t sargaceu_read(uint8_t form,
+                      const uint8_t *message, size_t message_bytes,
                       uint8_t *text, size_t text_bytes,
-                      uint16_t *segments, size_t segments_numbers,
-                      uint16_t *leaves, size_t leaves_numbers,
+                      uint32_t *segments, size_t segments_numbers,
+                      uint32_t *leaves, size_t leaves_numbers,
                       size_t *answer, size_t answer_numbers);
 
 /*
- * Writes the message of a table at the front of the output (W1). Returns the number; answer gets place, bytes and lines. A refusal changes
- * no output byte; answer gets three zeros. An answer of under three numbers is refused with 1 before table and output are looked at, so 1
- * comes even where the output is short (12) or the table is none (13); it stays as it was.
+ * Writes the message of a table of a form at the front of the output (W1). Returns the number; answer gets place, bytes and lines. Returns 12
+ * where the output is under the form's size, for a short message too; else 13 where the table is none of the form. A refusal changes no output
+ * byte; answer gets three zeros. An answer of under three numbers is refused with 1 before table and output are looked at; it stays as it was.
  */
-uint8_t sargaceu_write(const size_t *card, size_t card_numbers,
-                       const uint16_t *segments, size_t segments_numbers,
-                       const uint16_t *leaves, size_t leaves_numbers,
+uint8_t sargaceu_write(uint8_t form,
+                       const size_t *card, size_t card_numbers,
+                       const uint32_t *segments, size_t segments_numbers,
+                       const uint32_t *leaves, size_t leaves_numbers,
                        const uint8_t *text, size_t text_bytes,
                        uint8_t *output, size_t output_bytes,
                        size_t *answer, size_t answer_numbers);
 
-/* Whether some message reads to this table (W4): the writer would not refuse it with 13. */
-bool sargaceu_is_table(const size_t *card, size_t card_numbers,
-                       const uint16_t *segments, size_t segments_numbers,
-                       const uint16_t *leaves, size_t leaves_numbers,
+/* Whether some message of a form reads to this table (W4): the writer, asked with the same form, would not refuse it with 13. */
+bool sargaceu_is_table(uint8_t form,
+                       const size_t *card, size_t card_numbers,
+                       const uint32_t *segments, size_t segments_numbers,
+                       const uint32_t *leaves, size_t leaves_numbers,
                        const uint8_t *text, size_t text_bytes);
 
 /*
@@ -170,10 +209,10 @@ bool sargaceu_is_table(const size_t *card, size_t card_numbers,
  * It is for buffers that nobody has tested: their rows may lie anywhere, so it goes over all of them, up to the one that it finds.
  */
 uint8_t sargaceu_find_leaf(const size_t *card, size_t card_numbers,
-                           const uint16_t *segments, size_t segments_numbers,
-                           const uint16_t *leaves, size_t leaves_numbers,
+                           const uint32_t *segments, size_t segments_numbers,
+                           const uint32_t *leaves, size_t leaves_numbers,
                            const uint8_t *text, size_t text_bytes,
-                           uint16_t segment, uint16_t field, uint16_t repetition, uint16_t subfield, uint16_t subsubfield,
+                           uint32_t segment, uint32_t field, uint32_t repetition, uint32_t subfield, uint32_t subsubfield,
                            size_t *answer, size_t answer_numbers);
 
 /*
@@ -182,15 +221,15 @@ uint8_t sargaceu_find_leaf(const size_t *card, size_t card_numbers,
  * so a leaf of another segment is never answered, whatever the segment row names. Not there, too, where the place's segment is 0 or past the
  * card's count of segments, and where the segment row's first leaf is 0.
  *
- * It is for tables that sargaceu_read gave or that sargaceu_is_table said yes to: there it answers the same as sargaceu_find_leaf, and costs at
- * most as many steps as the segment has leaves, not as many as the table has. In other buffers it may say not there of a leaf that
- * sargaceu_find_leaf finds, or answer another of several rows with the place.
+ * It is for tables that sargaceu_read or sargaceu_widen gave or that sargaceu_is_table said yes to, in either form: there it answers the same
+ * as sargaceu_find_leaf, and costs at most as many steps as the segment has leaves, not as many as the table has. In other buffers it may say
+ * not there of a leaf that sargaceu_find_leaf finds, or answer another of several rows with the place.
  */
 uint8_t sargaceu_find_leaf_in_segment(const size_t *card, size_t card_numbers,
-                                      const uint16_t *segments, size_t segments_numbers,
-                                      const uint16_t *leaves, size_t leaves_numbers,
+                                      const uint32_t *segments, size_t segments_numbers,
+                                      const uint32_t *leaves, size_t leaves_numbers,
                                       const uint8_t *text, size_t text_bytes,
-                                      uint16_t segment, uint16_t field, uint16_t repetition, uint16_t subfield, uint16_t subsubfield,
+                                      uint32_t segment, uint32_t field, uint32_t repetition, uint32_t subfield, uint32_t subsubfield,
                                       size_t *answer, size_t answer_numbers);
 
 /*
@@ -198,24 +237,24 @@ uint8_t sargaceu_find_leaf_in_segment(const size_t *card, size_t card_numbers,
  * none, or where the segment rows are fewer than the card counts. Orders and invoices are found under their P in every context (O5).
  */
 size_t sargaceu_next_row(const size_t *card, size_t card_numbers,
-                         const uint16_t *segments, size_t segments_numbers,
-                         size_t after, uint16_t kind, uint16_t owner);
+                         const uint32_t *segments, size_t segments_numbers,
+                         size_t after, uint32_t kind, uint32_t owner);
 
 /*
  * Whether a row of one table and a row of another are the same order (F3): both OBR, and leaf 9.4.2 is found in both (SARGACEU_FOUND) with
- * the same bytes. Found empty is no: two orders without a number are not the same one. Row 0 and rows past the count are no orders. Two
- * laboratories may give one number to two orders, so a caller compares the laboratories first.
+ * the same bytes. The tables may be of two forms. Found empty is no: two orders without a number are not the same one. Row 0 and rows past the
+ * count are no orders. Two laboratories may give one number to two orders, so a caller compares the laboratories first.
  */
 bool sargaceu_same_order(const size_t *card, size_t card_numbers,
-                         const uint16_t *segments, size_t segments_numbers,
-                         const uint16_t *leaves, size_t leaves_numbers,
+                         const uint32_t *segments, size_t segments_numbers,
+                         const uint32_t *leaves, size_t leaves_numbers,
                          const uint8_t *text, size_t text_bytes,
-                         uint16_t row,
+                         uint32_t row,
                          const size_t *other_card, size_t other_card_numbers,
-                         const uint16_t *other_segments, size_t other_segments_numbers,
-                         const uint16_t *other_leaves, size_t other_leaves_numbers,
+                         const uint32_t *other_segments, size_t other_segments_numbers,
+                         const uint32_t *other_leaves, size_t other_leaves_numbers,
                          const uint8_t *other_text, size_t other_text_bytes,
-                         uint16_t other_row);
+                         uint32_t other_row);
 
 /*
  * The line that begins at a place of a message of any length (P1, P2). Returns 0, and answer gets where the line ends, without its CR, and
@@ -234,13 +273,14 @@ uint8_t sargaceu_line(const uint8_t *message, size_t message_bytes, size_t at, s
 bool sargaceu_watch(uint8_t *watcher, size_t watcher_bytes, uint8_t kind);
 
 /*
- * Reads a message as sargaceu_read does and puts its listing (G1, G2), as the program `list` prints it, at the front of `listing`. Returns
- * the listing's bytes, never more than `listing` has; 0, with every buffer as it was, where `listing` has under SARGACEU_LISTING bytes.
+ * Reads a message as sargaceu_read does in the small form and puts its listing (G1, G2), as the program `list` prints it, at the front of
+ * `listing`. Returns the listing's bytes, never more than `listing` has; 0, with every buffer as it was, where `listing` has under
+ * SARGACEU_LISTING bytes.
  */
 size_t sargaceu_list(const uint8_t *message, size_t message_bytes,
                      uint8_t *text, size_t text_bytes,
-                     uint16_t *segments, size_t segments_numbers,
-                     uint16_t *leaves, size_t leaves_numbers,
+                     uint32_t *segments, size_t segments_numbers,
+                     uint32_t *leaves, size_t leaves_numbers,
                      uint8_t *listing, size_t listing_bytes);
 
 /*
@@ -273,17 +313,18 @@ uint8_t sargaceu_write_value(int64_t whole, size_t decimals,
  * Returns 0; answer gets the place, which is 0, and how many there are; and the result that comes k-th among them, from 0 on, has its answer
  * in numbers[k], wholes[k] and decimals[k]: 0, 20 or 21, the whole number and the decimals, as sargaceu_read_value answers the text of field
  * 10.6. So numbers[k] is how the result is answered and not its value: look at it first, since beside 20 and 21 stand 0 and 0. Where that
- * field is not there or is several leaves, the answer is 20. Returns 13 where no message reads to the table (W4); 24 where the
- * row is no OBR that the card counts; 25 where one of the three buffers has fewer elements than there are such results. A refusal changes none
- * of the three; answer gets two zeros. An answer of under two numbers is refused with 1 before the table is looked at; it stays as it was.
+ * field is not there or is several leaves, the answer is 20. Returns 13 where no message of the form reads to the table (W4); 24 where the row
+ * is no OBR that the card counts; 25 where one of the three buffers has fewer elements than there are such results. A refusal changes none of
+ * the three; answer gets two zeros. An answer of under two numbers is refused with 1 before the table is looked at; it stays as it was.
  *
  * The table is tested once a call, as sargaceu_is_table does; after that only the order's own rows and leaves are looked at.
  */
-uint8_t sargaceu_order_values(const size_t *card, size_t card_numbers,
-                              const uint16_t *segments, size_t segments_numbers,
-                              const uint16_t *leaves, size_t leaves_numbers,
+uint8_t sargaceu_order_values(uint8_t form,
+                              const size_t *card, size_t card_numbers,
+                              const uint32_t *segments, size_t segments_numbers,
+                              const uint32_t *leaves, size_t leaves_numbers,
                               const uint8_t *text, size_t text_bytes,
-                              uint16_t order,
+                              uint32_t order,
                               uint8_t *numbers, size_t numbers_bytes,
                               int64_t *wholes, size_t wholes_numbers,
                               uint8_t *decimals, size_t decimals_bytes,
@@ -291,18 +332,41 @@ uint8_t sargaceu_order_values(const size_t *card, size_t card_numbers,
 
 /*
  * Whether a report meets the rules for screening: the fields that must be there (R1), the four pseudo-analyses of each patient (R2), and the
- * values that a result may have (R3). Returns 0 where all hold, and answer gets 0. Else the first of these comes back: 13 where no message
- * reads to the table (W4), and 30 where its context is not ORU, with the place 0; then the lowest of 31 to 45 whose rule does not hold, with
- * the first row of which it does not, which for 39 to 42 is the patient's (R4, R5). So a lower number comes before a higher one that fails in
- * an earlier row. Nothing else is judged. An answer of no number is refused with 1 before the table is looked at; it stays as it was.
+ * values that a result may have (R3). Returns 0 where all hold, and answer gets 0. Else the first of these comes back: 13 where no message of
+ * the form reads to the table (W4), and 30 where its context is not ORU, with the place 0; then the lowest of 31 to 45 whose rule does not
+ * hold, with the first row of which it does not, which for 39 to 42 is the patient's (R4, R5). So a lower number comes before a higher one that
+ * fails in an earlier row. Nothing else is judged. An answer of no number is refused with 1 before the table is looked at; it stays as it was.
  *
  * The table is tested once a call, as sargaceu_is_table does.
  */
-uint8_t sargaceu_screen(const size_t *card, size_t card_numbers,
-                        const uint16_t *segments, size_t segments_numbers,
-                        const uint16_t *leaves, size_t leaves_numbers,
+uint8_t sargaceu_screen(uint8_t form,
+                        const size_t *card, size_t card_numbers,
+                        const uint32_t *segments, size_t segments_numbers,
+                        const uint32_t *leaves, size_t leaves_numbers,
                         const uint8_t *text, size_t text_bytes,
                         size_t *answer, size_t answer_numbers);
+
+/*
+ * Widens a table of the archive, whose rows hold numbers of 16 bits, into buffers of the small form (B1 to B3): they get exactly the table that
+ * reading its message gives now, with the owners in force, whichever were in force when it was read (O1, O4). Card, leaf rows and text are those
+ * of the archive. Returns the number; answer gets place and card as sargaceu_read has them. Returns 1 where a new buffer is under the small
+ * form's size; else 46 where no reader gave the table, be it by the owners in force or by the former ones: a table with some owners of both is
+ * none. A refusal changes none of the three new buffers; answer gets six zeros. An answer of under six numbers is refused with 1 before anything
+ * else is looked at; it stays as it was.
+ *
+ * The call copies the archived rows into some 61 KB of stack; every other function takes under 7 KB.
+ */
+uint8_t sargaceu_widen(const size_t *card, size_t card_numbers,
+                       const uint16_t *segments, size_t segments_numbers,
+                       const uint16_t *leaves, size_t leaves_numbers,
+                       const uint8_t *text, size_t text_bytes,
+                       uint8_t *new_text, size_t new_text_bytes,
+                       uint32_t *new_segments, size_t new_segments_numbers,
+                       uint32_t *new_leaves, size_t new_leaves_numbers,
+                       size_t *answer, size_t answer_numbers);
+
+/* The version of the archive: SARGACEU_VERSION where this header is its own. */
+uint32_t sargaceu_version(void);
 
 #ifdef __cplusplus
 }

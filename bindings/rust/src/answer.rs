@@ -1,6 +1,6 @@
 //! The sizes of the answers that are lent to the library, in numbers or bytes.
 
-/// The numbers that the reader answers: the place, then the card.
+/// The numbers that reading and widening answer: the place, then the card.
 pub const READ_ANSWER: usize = 6;
 
 /// The numbers that the writer answers: the place, the bytes, the lines.
@@ -26,6 +26,3 @@ pub const ORDER_ANSWER: usize = 2;
 
 /// The numbers that the screening check answers: the place.
 pub const SCREEN_ANSWER: usize = 1;
-
-/// The elements that do for the values of every order, one for each segment of the longest table.
-pub const VALUES: usize = 256;

@@ -11,8 +11,8 @@ impl<'a> Table<'a> {
     /// order, the comments of any of them.
     ///
     /// ```
-    /// use sargaceu::{Buffers, Kind, Row};
-    /// let mut buffers = Buffers::new();
+    /// use sargaceu::{Buffers, Form, Kind, Row};
+    /// let mut buffers = Buffers::new(Form::Small);
     /// let table = buffers.read(b"H|~^\\&|||LAB||ORU\rP|1\rOBR|1\rOBX|1\rOBX|2\rP|2\rOBR|1\rOBX|1\rL|1\r")?;
     /// let patients: Vec<Row> = table.children(Row::FIRST, Kind::P).collect();
     /// assert_eq!(patients, [Row::new(2).unwrap(), Row::new(6).unwrap()]);
@@ -24,8 +24,8 @@ impl<'a> Table<'a> {
     /// Orders and invoices belong to their patient in every context, and to no cover:
     ///
     /// ```
-    /// # use sargaceu::{Buffers, Kind, Row};
-    /// # let mut buffers = Buffers::new();
+    /// # use sargaceu::{Buffers, Form, Kind, Row};
+    /// # let mut buffers = Buffers::new(Form::Small);
     /// let table = buffers.read(b"H|~^\\&|||LAB||ORA\rP|1\rAP|1\rAC|1\rAC|2\rOBR|1\rL|1\r")?;
     /// let patient = table.children(Row::FIRST, Kind::P).next().unwrap();
     /// assert_eq!(table.children(patient, Kind::OBR).next(), Row::new(6));
@@ -44,8 +44,8 @@ impl<'a> Table<'a> {
     /// The first row after a given one, or of all, with a kind and an owner; H and L have none.
     ///
     /// ```
-    /// # use sargaceu::{Buffers, Kind, Row};
-    /// # let mut buffers = Buffers::new();
+    /// # use sargaceu::{Buffers, Form, Kind, Row};
+    /// # let mut buffers = Buffers::new(Form::Small);
     /// # let table = buffers.read(b"H|~^\\&|||LAB||ERR\rERR|1\rERR|2\rL|1\r")?;
     /// let first = table.next_row(None, Kind::ERR, Some(Row::FIRST));
     /// assert_eq!(first, Row::new(2));

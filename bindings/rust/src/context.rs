@@ -96,6 +96,14 @@ impl TryFrom<u16> for Context {
     }
 }
 
+impl TryFrom<u32> for Context {
+    type Error = Unknown;
+
+    fn try_from(number: u32) -> Result<Context, Unknown> {
+        u8::try_from(number).map_err(|_| UNKNOWN)?.try_into()
+    }
+}
+
 impl From<Context> for u8 {
     fn from(context: Context) -> u8 {
         context as u8

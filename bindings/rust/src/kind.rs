@@ -12,7 +12,7 @@ use std::str::FromStr;
 /// use sargaceu::Kind;
 /// assert_eq!(Kind::OBX.to_string(), "OBX");
 /// assert_eq!("OBX".parse(), Ok(Kind::OBX));
-/// assert_eq!(Kind::try_from(6_u16), Ok(Kind::OBX));
+/// assert_eq!(Kind::try_from(6_u32), Ok(Kind::OBX));
 /// assert!(Kind::try_from(13_u8).is_err());
 /// ```
 #[derive(Clone, Copy, Debug, PartialEq, Eq, PartialOrd, Ord, Hash)]
@@ -114,6 +114,14 @@ impl TryFrom<u16> for Kind {
     }
 }
 
+impl TryFrom<u32> for Kind {
+    type Error = Unknown;
+
+    fn try_from(number: u32) -> Result<Kind, Unknown> {
+        u8::try_from(number).map_err(|_| UNKNOWN)?.try_into()
+    }
+}
+
 impl From<Kind> for u8 {
     fn from(kind: Kind) -> u8 {
         kind as u8
@@ -123,5 +131,11 @@ impl From<Kind> for u8 {
 impl From<Kind> for u16 {
     fn from(kind: Kind) -> u16 {
         kind as u16
+    }
+}
+
+impl From<Kind> for u32 {
+    fn from(kind: Kind) -> u32 {
+        kind as u32
     }
 }

@@ -15,7 +15,7 @@ use std::slice::ChunksExact;
 /// A leaf: its place and its text, which may be empty. It is shown as the string that its bytes are in ISO 8859-1.
 ///
 /// ```
-/// # let mut buffers = sargaceu::Buffers::new();
+/// # let mut buffers = sargaceu::Buffers::new(sargaceu::Form::Small);
 /// # let table = buffers.read(b"H|~^\\&|||LAB||ADM\rP|1||||M\xc9NARD\rL|1\r")?;
 /// # let patient = table.next_row(None, sargaceu::Kind::P, Some(sargaceu::Row::FIRST)).unwrap();
 /// let name = table.leaf(patient.field(6)).found().unwrap();
@@ -57,7 +57,7 @@ impl<'a> Leaf<'a> {
             subfield,
             subsubfield,
         };
-        Leaf::cut(place, text, start.into(), length.into())
+        Leaf::cut(place, text, start as usize, length as usize)
     }
 }
 
@@ -84,8 +84,8 @@ impl<'a> Table<'a> {
     /// leaves would answer the same.
     ///
     /// ```
-    /// use sargaceu::{Buffers, Row, Sought};
-    /// let mut buffers = Buffers::new();
+    /// use sargaceu::{Buffers, Form, Row, Sought};
+    /// let mut buffers = Buffers::new(Form::Small);
     /// let table = buffers.read(b"H|~^\\&|||LAB~L7||ERR\rERR|1\rL|1\r")?;
     /// match table.leaf(Row::FIRST.field(5).subfield(2)) {
     ///     Sought::Found(leaf) => assert_eq!(leaf.bytes(), b"L7"),
@@ -128,7 +128,7 @@ impl<'a> Table<'a> {
     /// All leaves of the table, in row order. [`Segment::leaves`](crate::Segment::leaves) has those of one row.
     ///
     /// ```
-    /// # let mut buffers = sargaceu::Buffers::new();
+    /// # let mut buffers = sargaceu::Buffers::new(sargaceu::Form::Small);
     /// # let table = buffers.read(b"H|~^\\&|||LAB||ERR\rERR|1\rL|1\r")?;
     /// assert_eq!(table.leaves().len(), table.card().leaves);
     /// assert_eq!(table.leaves().next().unwrap().bytes(), b"H");

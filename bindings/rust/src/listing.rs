@@ -7,10 +7,10 @@ use crate::text::latin1;
 
 impl Buffers {
     /// The listing of a message of any length, as the program `list` prints it: counts, then a line `seg` for each row. A refused message
-    /// has the three lines `form`, `answer` and `place`.
+    /// has the three lines `form`, `answer` and `place`. The message is read in the small form, of whichever form the buffers are.
     ///
     /// ```
-    /// let mut buffers = sargaceu::Buffers::new();
+    /// let mut buffers = sargaceu::Buffers::new(sargaceu::Form::Small);
     /// let listing = buffers.list(b"H|~^\\&|||LAB||ERR\rERR|1\rL|1\r");
     /// assert!(listing.ends_with("seg=1,H,0,1,7\nseg=2,ERR,1,8,2\nseg=3,L,0,10,2\n"));
     /// assert_eq!(buffers.list(b""), "form=1\nanswer=3\nplace=0\n");

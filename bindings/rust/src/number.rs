@@ -16,9 +16,9 @@ use std::fmt;
 #[non_exhaustive]
 #[repr(u8)]
 pub enum Number {
-    /// A lent buffer is under its stated size.
+    /// A lent buffer is under the size that its form states.
     ShortBuffer = 1,
-    /// The message has too many bytes.
+    /// The message has more bytes than its form allows.
     LongMessage = 2,
     /// The message does not begin as the header rule asks.
     BrokenHeader = 3,
@@ -28,7 +28,7 @@ pub enum Number {
     LongLine = 5,
     /// The last line has no CR; the place is the message's length.
     OpenLine = 6,
-    /// The message has too many segments.
+    /// The message has more segments than its form allows.
     ManySegments = 7,
     /// A kind that is none of the twelve; the place is the first such segment.
     UnknownKind = 8,
@@ -36,11 +36,11 @@ pub enum Number {
     NoContext = 9,
     /// A kind stands where it may not; the place is the first such segment, or one past the last where the L is missing.
     Misplaced = 10,
-    /// The message has too many leaves.
+    /// The message has more leaves than its form allows.
     ManyLeaves = 11,
-    /// The output lent to the writer is under its stated size.
+    /// The output lent to the writer is under the size that the table's form states.
     ShortOutput = 12,
-    /// The numbers and the text are no table.
+    /// The numbers and the text are no table of the form.
     NoTable = 13,
     /// A text says no number; of a result also: its field 6 is not there, or is several leaves.
     NotANumber = 20,
@@ -87,10 +87,12 @@ pub enum Number {
     /// The value of a result of type CE with a LOINC code (10.4.3 or 10.4.6 is LN) is none of P, N, I, X, or is missing; the place is the first
     /// such OBX.
     WrongResult = 45,
+    /// No reader gave the archived table, be it by the owners in force or by the former ones.
+    NeverRead = 46,
 }
 
 impl Number {
-    const ALL: [Number; 35] = [
+    const ALL: [Number; 36] = [
         Number::ShortBuffer,
         Number::LongMessage,
         Number::BrokenHeader,
@@ -126,6 +128,7 @@ impl Number {
         Number::WrongTypor,
         Number::WrongPross,
         Number::WrongResult,
+        Number::NeverRead,
     ];
 
     /// What the place counts that comes with this number, or nothing where the place is always 0.
@@ -144,9 +147,11 @@ impl fmt::Display for Number {
         f.pad(match self {
             Number::ShortBuffer => {
                 "a lent buffer is short: the text area has under 16,384 bytes, the segment rows under 1,024 numbers \
-                 or the leaf rows under 14,336"
+                 or the leaf rows under 14,336; in the large form under 1,048,576, 16,384 or 458,752"
             }
-            Number::LongMessage => "the message has over 16,384 bytes",
+            Number::LongMessage => {
+                "the message has over 16,384 bytes, in the large form over 1,048,576"
+            }
             Number::BrokenHeader => {
                 "the message does not begin with H, five different separators and the field separator again, \
                  or there are under seven bytes"
@@ -154,15 +159,17 @@ impl fmt::Display for Number {
             Number::ControlByte => "a control byte inside a line",
             Number::LongLine => "a line is too long",
             Number::OpenLine => "the last line is not closed",
-            Number::ManySegments => "over 256 segments",
+            Number::ManySegments => "over 256 segments, in the large form over 4,096",
             Number::UnknownKind => "a kind that is unknown",
             Number::NoContext => "no context, or no field 7 in the header",
             Number::Misplaced => {
                 "a kind stands where it may not, or the order breaks off before L"
             }
-            Number::ManyLeaves => "over 2,048 leaves",
-            Number::ShortOutput => "the output lent to the writer is under 16,384 bytes",
-            Number::NoTable => "the table is one that no message reads to",
+            Number::ManyLeaves => "over 2,048 leaves, in the large form over 65,536",
+            Number::ShortOutput => {
+                "the output lent to the writer is under 16,384 bytes, in the large form under 1,048,576"
+            }
+            Number::NoTable => "the table is one that no message of the form reads to",
             Number::NotANumber => "the text says no number",
             Number::ManyDigits => "the text says a number of over 15 digits",
             Number::OutOfRange => {
@@ -187,6 +194,9 @@ impl fmt::Display for Number {
             Number::WrongTypor => "a TYPOR has none of the values I, H, E, C, A, U",
             Number::WrongPross => "a PROSS has none of the values O, N, U",
             Number::WrongResult => "a coded result with a LOINC code (LN) has none of the values P, N, I, X",
+            Number::NeverRead => {
+                "no reader gave the archived table, by the owners in force or by the former ones"
+            }
         })
     }
 }
@@ -209,7 +219,8 @@ impl From<Number> for u8 {
 /// A refused call: its number and the place that goes with it. Nothing that was lent has changed.
 ///
 /// ```
-/// let refusal = sargaceu::Buffers::new().read(b"H|~^\\&|||LAB||ORU\rA\rL|1\r").unwrap_err();
+/// let mut buffers = sargaceu::Buffers::new(sargaceu::Form::Small);
+/// let refusal = buffers.read(b"H|~^\\&|||LAB||ORU\rA\rL|1\r").unwrap_err();
 /// assert_eq!(refusal.number, sargaceu::Number::UnknownKind);
 /// assert_eq!(refusal.place, 2);
 /// assert_eq!(refusal.to_string(), "a kind that is unknown, at segment 2 (refusal 8)");

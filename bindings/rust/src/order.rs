@@ -11,8 +11,8 @@ impl Table<'_> {
     /// the laboratories (field 5 of the header) first.
     ///
     /// ```
-    /// use sargaceu::{Buffers, Kind, Row};
-    /// let (mut one, mut two) = (Buffers::new(), Buffers::new());
+    /// use sargaceu::{Buffers, Form, Kind, Row};
+    /// let (mut one, mut two) = (Buffers::new(Form::Small), Buffers::new(Form::Small));
     /// let asked = one.read(b"H|~^\\&|||LAB||ORM\rP|1\rOBR|1||A~17\rL|1\r")?;
     /// let done = two.read(b"H|~^\\&|||LAB||ORU\rP|1\rC|1\rOBR|1||B~17\rOBX|1\rL|1\r")?;
     /// assert!(asked.same_order(Row::new(3).unwrap(), &done, Row::new(4).unwrap()));

@@ -14,8 +14,8 @@ impl Table<'_> {
     /// [`Number::NotAnOrder`](crate::Number::NotAnOrder).
     ///
     /// ```
-    /// use sargaceu::{Buffers, Kind, Row};
-    /// # let mut buffers = Buffers::new();
+    /// use sargaceu::{Buffers, Form, Kind, Row};
+    /// # let mut buffers = Buffers::new(Form::Small);
     /// let message = b"H|~^\\&|||LAB||ORU\rP|1\rOBR|1\rOBX|1|NM|CRP||48.0\rOBX|2|TX|NT||turbid\rOBX|3|NM|TNI||<.01\rL|1\r";
     /// let table = buffers.read(message)?;
     /// let order = Row::new(3).unwrap();
@@ -32,14 +32,15 @@ impl Table<'_> {
     pub fn order_values(&self, order: Row) -> Result<Vec<Result<Value, Refusal>>, Refusal> {
         let card = self.card().numbers();
         let (segments, leaves, text) = (self.segment_rows(), self.leaf_rows(), self.text());
-        let mut numbers = [0; answer::VALUES];
-        let mut wholes = [0; answer::VALUES];
-        let mut decimals = [0; answer::VALUES];
+        // every result is a segment, so this is never too little room
+        let room = self.card().segments;
+        let (mut numbers, mut wholes, mut decimals) = (vec![0; room], vec![0; room], vec![0; room]);
         let mut answer = [0; answer::ORDER_ANSWER];
         // SAFETY: each pointer and its count are those of a slice that lives on during the call. The four that are written are borrowed
         // as `&mut`, so they overlap nothing.
         let number = unsafe {
             ffi::sargaceu_order_values(
+                self.form().into(),
                 card.as_ptr(),
                 card.len(),
                 segments.as_ptr(),

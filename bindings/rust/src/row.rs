@@ -4,8 +4,8 @@ use crate::place::Place;
 use crate::unknown::Unknown;
 use std::fmt;
 
-/// The type of the numbers in a table's rows.
-pub type Entry = u16;
+/// The type of the numbers in a table's rows. A `usize` has room for each: the archive is for x86-64.
+pub type Entry = u32;
 
 /// The number of a segment row, which counts from 1. It is the number of a joined segment, never of a line of the file.
 ///
@@ -79,7 +79,7 @@ impl From<Row> for Entry {
 
 impl From<Row> for usize {
     fn from(row: Row) -> usize {
-        row.0.into()
+        row.0 as usize
     }
 }
 

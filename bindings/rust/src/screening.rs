@@ -12,8 +12,8 @@ impl Table<'_> {
     /// which it does not: a lower number comes before a higher one that fails in an earlier row. Nothing else is judged.
     ///
     /// ```
-    /// use sargaceu::{Buffers, Kind, Number, Row};
-    /// # let mut buffers = Buffers::new();
+    /// use sargaceu::{Buffers, Form, Kind, Number, Row};
+    /// # let mut buffers = Buffers::new(Form::Small);
     /// let message = b"H|~^\\&|||990000017||ORU\rP|1||||MARTIN~ANNE|LEROY||||~~~~99120||0639980114\rOBR|1||T8841~L8841||||202211300905\r\
     ///     OBX|1|CE|94500-6~SARS-CoV-2~LN||N\rOBX|2|CE|PAYS||FR\rOBX|3|CE|TYPOR||I\rOBX|4|CE|PROSS||N\rOBX|5|ST|FINGE||990000025\rL|1\r";
     /// assert_eq!(buffers.read(message)?.screen(), Ok(()));
@@ -38,6 +38,7 @@ impl Table<'_> {
         // as `&mut`, so it overlaps nothing.
         let number = unsafe {
             ffi::sargaceu_screen(
+                self.form().into(),
                 card.as_ptr(),
                 card.len(),
                 segments.as_ptr(),

@@ -49,8 +49,8 @@ impl<'a> Table<'a> {
     /// What a segment row says, or nothing where the table has no such row.
     ///
     /// ```
-    /// use sargaceu::{Buffers, Kind, Row};
-    /// let mut buffers = Buffers::new();
+    /// use sargaceu::{Buffers, Form, Kind, Row};
+    /// let mut buffers = Buffers::new(Form::Small);
     /// let table = buffers.read(b"H|~^\\&|||LAB||ERR\rERR|1\rL|1\r")?;
     /// let header = table.row(Row::FIRST).unwrap();
     /// assert_eq!((header.kind(), header.owner(), header.leaf_range()), (Kind::H, None, 1..8));
@@ -62,9 +62,9 @@ impl<'a> Table<'a> {
         let numbers = self.segment_rows().get(at..at + size::SEGMENT_ROW)?;
         let numbers: [Entry; size::SEGMENT_ROW] = numbers.try_into().ok()?;
         let [kind, owner, first_leaf, leaves] = numbers;
-        let first_leaf = usize::from(first_leaf);
+        let first_leaf = first_leaf as usize;
         let start = first_leaf.checked_sub(1)? * size::LEAF_ROW;
-        let end = start + usize::from(leaves) * size::LEAF_ROW;
+        let end = start + leaves as usize * size::LEAF_ROW;
         Some(Segment {
             row,
             kind: kind.try_into().ok()?,
@@ -77,8 +77,8 @@ impl<'a> Table<'a> {
     /// All segment rows, from the first to the last.
     ///
     /// ```
-    /// # use sargaceu::{Buffers, Kind};
-    /// # let mut buffers = Buffers::new();
+    /// # use sargaceu::{Buffers, Form, Kind};
+    /// # let mut buffers = Buffers::new(Form::Small);
     /// # let table = buffers.read(b"H|~^\\&|||LAB||ERR\rERR|1\rL|1\r")?;
     /// assert_eq!(table.rows().len(), table.card().segments);
     /// let errors = table.rows().filter(|segment| segment.kind() == Kind::ERR);

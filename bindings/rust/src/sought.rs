@@ -6,8 +6,8 @@ use crate::leaf::Leaf;
 /// differently: a blank for the one, a dash for the other.
 ///
 /// ```
-/// use sargaceu::{Buffers, Kind, Row, Sought};
-/// # let mut buffers = Buffers::new();
+/// use sargaceu::{Buffers, Form, Kind, Row, Sought};
+/// # let mut buffers = Buffers::new(Form::Small);
 /// let message = b"H|~^\\&|||LAB||ORU\rP|1\rOBR|1\rOBX|1|NM|GLY||1.2|g/L\rOBX|2|NM|PH||7.4|\rOBX|3|NM|K||5.6\rL|1\r";
 /// let table = buffers.read(message)?;
 /// let order = Row::new(3).unwrap();
@@ -41,8 +41,8 @@ impl<'a> Sought<'a> {
     /// The text, empty where the leaf was sent so; none where it was never sent.
     ///
     /// ```
-    /// # use sargaceu::{Buffers, Row};
-    /// # let mut buffers = Buffers::new();
+    /// # use sargaceu::{Buffers, Form, Row};
+    /// # let mut buffers = Buffers::new(Form::Small);
     /// let table = buffers.read(b"H|~^\\&|||LAB||ERR\rERR|1\rL|1\r")?;
     /// assert_eq!(table.leaf(Row::FIRST.field(5)).text(), Some(&b"LAB"[..]));
     /// assert_eq!(table.leaf(Row::FIRST.field(4)).text(), Some(&b""[..]));
@@ -60,8 +60,8 @@ impl<'a> Sought<'a> {
     /// The text, empty where the leaf was sent so; the substitute where it was never sent.
     ///
     /// ```
-    /// # use sargaceu::{Buffers, Row};
-    /// # let mut buffers = Buffers::new();
+    /// # use sargaceu::{Buffers, Form, Row};
+    /// # let mut buffers = Buffers::new(Form::Small);
     /// let table = buffers.read(b"H|~^\\&|||LAB||ERR\rERR|1\rL|1\r")?;
     /// assert_eq!(table.leaf(Row::FIRST.field(5)).text_or(b"-"), b"LAB");
     /// assert_eq!(table.leaf(Row::FIRST.field(4)).text_or(b"-"), b"");
@@ -76,8 +76,8 @@ impl<'a> Sought<'a> {
     /// (10.12) is one of them: empty or left out it means F.
     ///
     /// ```
-    /// # use sargaceu::{Buffers, Row};
-    /// # let mut buffers = Buffers::new();
+    /// # use sargaceu::{Buffers, Form, Row};
+    /// # let mut buffers = Buffers::new(Form::Small);
     /// let message = b"H|~^\\&|||LAB||ORU\rP|1\rOBR|1\rOBX|1|NM|GLY||1.2||||||C\rOBX|2|NM|PH||7.4||||||\rOBX|3|NM|K||5.6\rL|1\r";
     /// let table = buffers.read(message)?;
     /// let state = |row| match table.leaf(Row::new(row).unwrap().field(12)).found() {

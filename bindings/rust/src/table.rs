@@ -2,6 +2,7 @@
 
 use crate::card::Card;
 use crate::ffi;
+use crate::form::Form;
 use crate::number::{Number, Refusal};
 use crate::row::Entry;
 use crate::size;
@@ -9,10 +10,12 @@ use std::fmt;
 
 /// The table of a message: a card, segment rows, leaf rows and text.
 ///
-/// It is always one that some message reads to: it comes from reading ([`Buffers::read`](crate::Buffers::read), [`read`](crate::read)),
-/// or [`Table::new`] has looked at it. Two tables are equal where their cards are, and their counted rows and texts.
-#[derive(Clone, Copy, PartialEq, Eq)]
+/// It is always one that some message of its form reads to: it comes from reading ([`Buffers::read`](crate::Buffers::read),
+/// [`read`](crate::read)) or from widening an archived one ([`Buffers::widen`](crate::Buffers::widen)), or [`Table::new`] has looked at it. Two
+/// tables are equal where their cards are, and their counted rows and texts, whatever their forms.
+#[derive(Clone, Copy)]
 pub struct Table<'a> {
+    form: Form,
     card: Card,
     segments: &'a [Entry],
     leaves: &'a [Entry],
@@ -20,30 +23,31 @@ pub struct Table<'a> {
 }
 
 impl<'a> Table<'a> {
-    /// The table that a card, segment rows, leaf rows and text are, wherever they were kept. Entries past those that the card counts are
-    /// not looked at. Refused with [`Number::NoTable`] where no message reads to it.
+    /// The table of a form that a card, segment rows, leaf rows and text are, wherever they were kept. Entries past those that the card counts
+    /// are not looked at. Refused with [`Number::NoTable`] where no message of the form reads to it.
     ///
     /// ```
     /// # let message = b"H|~^\\&|||LAB||ORU\rP|1\rOBR|1\rOBX|1|NM|GLY||1.2\rL|1\r";
-    /// use sargaceu::{Buffers, Card, Number, Table};
-    /// let mut buffers = Buffers::new();
+    /// use sargaceu::{Buffers, Card, Form, Number, Table};
+    /// let mut buffers = Buffers::new(Form::Small);
     /// let table = buffers.read(message)?;
     /// let kept = (table.segment_rows().to_vec(), table.leaf_rows().to_vec(), table.text().to_vec());
-    /// assert_eq!(Table::new(table.card(), &kept.0, &kept.1, &kept.2), Ok(table));
+    /// assert_eq!(Table::new(Form::Small, table.card(), &kept.0, &kept.1, &kept.2), Ok(table));
     ///
     /// let shorter = Card { text: table.card().text - 1, ..table.card() };
-    /// let refusal = Table::new(shorter, &kept.0, &kept.1, &kept.2).unwrap_err();
+    /// let refusal = Table::new(Form::Small, shorter, &kept.0, &kept.1, &kept.2).unwrap_err();
     /// assert_eq!(refusal.number, Number::NoTable);
     /// # Ok::<(), sargaceu::Refusal>(())
     /// ```
     pub fn new(
+        form: Form,
         card: Card,
         segments: &'a [Entry],
         leaves: &'a [Entry],
         text: &'a [u8],
     ) -> Result<Table<'a>, Refusal> {
-        if is_table(card, segments, leaves, text) {
-            Ok(Table::counted(card, segments, leaves, text))
+        if is_table(form, card, segments, leaves, text) {
+            Ok(Table::counted(form, card, segments, leaves, text))
         } else {
             Err(Refusal {
                 number: Number::NoTable,
@@ -54,17 +58,24 @@ impl<'a> Table<'a> {
 
     /// The table at the front of buffers that hold one: no count of its card goes past its buffer.
     pub(crate) fn counted(
+        form: Form,
         card: Card,
         segments: &'a [Entry],
         leaves: &'a [Entry],
         text: &'a [u8],
     ) -> Table<'a> {
         Table {
+            form,
             card,
             segments: &segments[..card.segments * size::SEGMENT_ROW],
             leaves: &leaves[..card.leaves * size::LEAF_ROW],
             text: &text[..card.text],
         }
+    }
+
+    /// The form by whose limits it is judged where it is written, screened or asked for the values of an order.
+    pub fn form(&self) -> Form {
+        self.form
     }
 
     /// The card.
@@ -88,20 +99,31 @@ impl<'a> Table<'a> {
     }
 }
 
+impl PartialEq for Table<'_> {
+    fn eq(&self, other: &Self) -> bool {
+        (self.card, self.segments, self.leaves, self.text)
+            == (other.card, other.segments, other.leaves, other.text)
+    }
+}
+
+impl Eq for Table<'_> {}
+
 impl fmt::Debug for Table<'_> {
     fn fmt(&self, f: &mut fmt::Formatter<'_>) -> fmt::Result {
         f.debug_struct("Table")
+            .field("form", &self.form)
             .field("card", &self.card)
             .finish_non_exhaustive()
     }
 }
 
-/// Whether some message reads to this.
-fn is_table(card: Card, segments: &[Entry], leaves: &[Entry], text: &[u8]) -> bool {
+/// Whether some message of a form reads to this.
+fn is_table(form: Form, card: Card, segments: &[Entry], leaves: &[Entry], text: &[u8]) -> bool {
     let card = card.numbers();
     // SAFETY: each pointer and its count are those of a slice that lives on during the call, and nothing is written.
     unsafe {
         ffi::sargaceu_is_table(
+            form.into(),
             card.as_ptr(),
             card.len(),
             segments.as_ptr(),

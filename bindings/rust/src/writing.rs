@@ -3,7 +3,6 @@
 use crate::answer;
 use crate::ffi;
 use crate::number::Refusal;
-use crate::size;
 use crate::table::Table;
 
 /// How much of an output a message takes.
@@ -16,14 +15,15 @@ pub struct Written {
 }
 
 impl Table<'_> {
-    /// Writes the table's message at the front of an output of at least [`size::OUTPUT`] bytes, and allocates nothing. A shorter output is
-    /// refused with [`Number::ShortOutput`](crate::Number::ShortOutput) and not touched. The message reads to the same table, and segments
-    /// of over 219 bytes are cut into A lines.
+    /// Writes the table's message at the front of an output of at least as many bytes as its form asks for
+    /// ([`Form::output`](crate::Form::output)), and allocates nothing. A shorter output is refused with
+    /// [`Number::ShortOutput`](crate::Number::ShortOutput) and not touched. The message reads to the same table, and segments of over 219
+    /// bytes are cut into A lines.
     ///
     /// ```
-    /// # let mut buffers = sargaceu::Buffers::new();
+    /// # let mut buffers = sargaceu::Buffers::new(sargaceu::Form::Small);
     /// # let table = buffers.read(b"H|~^\\&|||LAB||ADM\rP|1\rL|1\r")?;
-    /// let mut output = [0; sargaceu::size::OUTPUT];
+    /// let mut output = vec![0; table.form().output()];
     /// let written = table.write(&mut output)?;
     /// assert_eq!(&output[..written.bytes], b"H|~^\\&|||LAB||ADM\rP|1\rL|1\r");
     /// assert_eq!(written.lines, 3);
@@ -37,6 +37,7 @@ impl Table<'_> {
         // as `&mut`, so they overlap nothing.
         let number = unsafe {
             ffi::sargaceu_write(
+                self.form().into(),
                 card.as_ptr(),
                 card.len(),
                 segments.as_ptr(),
@@ -59,13 +60,13 @@ impl Table<'_> {
     /// The table's message, in bytes of its own.
     ///
     /// ```
-    /// # let mut buffers = sargaceu::Buffers::new();
+    /// # let mut buffers = sargaceu::Buffers::new(sargaceu::Form::Small);
     /// let table = buffers.read(b"H|~^\\&|||LAB||ADM\rP|\rA|1\rL|1\r\n")?;
     /// assert_eq!(table.to_message(), b"H|~^\\&|||LAB||ADM\rP|1\rL|1\r");
     /// # Ok::<(), sargaceu::Refusal>(())
     /// ```
     pub fn to_message(&self) -> Vec<u8> {
-        let mut output = vec![0; size::OUTPUT];
+        let mut output = vec![0; self.form().output()];
         let written = self
             .write(&mut output)
             .expect("the writer takes every table where its output has the stated size");

@@ -10,7 +10,6 @@ use lib.ListN.{length, drop}
 use lib.Seq.{sets-eq}
 use Rattle.form.specs.declared.limits.Limits.{Limits}
 use Rattle.form.specs.declared.separators.Separators.{Separators}
-use Rattle.form.specs.Limits.{form}
 use Rattle.form.proofs.HeaderRule.{sound-header}
 use Rattle.form.proofs.Names.{context-within}
 use Rattle.order.specs.Owners.{level}
@@ -22,10 +21,10 @@ use Rattle.table.proofs.Accepting.{Accepted, accepting}
 use Rattle.read.specs.Answering.{answerOf}
 use Rattle.abi.specs.Cards.{cardNumbers, cardOf}
 use Rattle.abi.specs.Putting.{putAll}
-use Rattle.abi.specs.Reading.{readNumbers, ReadInto}
+use Rattle.abi.specs.Reading.{filedNumbers, ReadInto}
 use Rattle.abi.proofs.CardNumbers.{card-taken}
 use Rattle.abi.proofs.Puts.{put-whole}
-use Rattle.abi.proofs.ReadAnswers.{read-whole-outcome}
+use Rattle.abi.proofs.ReadAnswers.{told-whole}
 
 -- a card whose separator and context are bytes
 abbrev pub ByteCard : Card → Type 0
@@ -53,16 +52,16 @@ unfolding answerOf
 outcome-bytes L levels room message (refused n p) e = (lit≤ tt, lit≤ tt)
 outcome-bytes L levels room message (accepted t) e = table-bytes L levels room message t (accepting L levels room message t .0 e)
 
-module _ (message text segments leaves answer : List ℕ) (room : 6 ≤ length answer)
-    {r : ℕ} {text′ segments′ leaves′ answer′ : List ℕ} (read : ReadInto message text segments leaves answer r text′ segments′ leaves′ answer′) where
-  pub card-back : cardOf (drop 1 answer′) ≡ answerOf (reading form level (roomOf text segments leaves) message) .card
-  unfolding readNumbers cardNumbers
+module _ (L : Limits) (message text segments leaves answer : List ℕ) (room : 6 ≤ length answer)
+    {r : ℕ} {text′ segments′ leaves′ answer′ : List ℕ} (read : ReadInto L message text segments leaves answer r text′ segments′ leaves′ answer′) where
+  pub card-back : cardOf (drop 1 answer′) ≡ answerOf (reading L level (roomOf text segments leaves) message) .card
+  unfolding cardNumbers
   card-back =
-      let o = reading form level (roomOf text segments leaves) message in
-      let stored : answer′ ≡ readNumbers o ++ drop 6 answer =
+      let o = reading L level (roomOf text segments leaves) message in
+      let stored : answer′ ≡ filedNumbers (answerOf o) ++ drop 6 answer =
       read .numbers
-      ∙ ap (λ (p : Outcome). putAll answer (readNumbers p)) (read-whole-outcome message text segments leaves answer room)
-      ∙ put-whole answer (readNumbers o) room
-      ∙ sets-eq (readNumbers o) answer 0 room in
+      ∙ ap (λ (p : Outcome). putAll answer (filedNumbers (answerOf p))) (told-whole answer o room)
+      ∙ put-whole answer (filedNumbers (answerOf o)) room
+      ∙ sets-eq (filedNumbers (answerOf o)) answer 0 room in
       ap (λ (l : List ℕ). cardOf (drop 1 l)) stored
-      ∙ numbers-back (answerOf o .card) (drop 6 answer) (outcome-bytes form level (roomOf text segments leaves) message o refl)
+      ∙ numbers-back (answerOf o .card) (drop 6 answer) (outcome-bytes L level (roomOf text segments leaves) message o refl)

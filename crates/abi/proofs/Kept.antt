@@ -10,6 +10,7 @@ use native.Mathlib.Omega.{arith}
 use borrow.Author.Tests.{le-leb}
 use lib.ListN.{length, getD, set}
 use lib.Seq.{set-getD}
+use Rattle.form.specs.declared.limits.Limits.{Limits}
 use Rattle.laws.proofs.Cases.{less-or-not}
 use Rattle.laws.proofs.Tests.{and-passed}
 use Rattle.line.specs.declared.finder.Found.{Found}
@@ -17,7 +18,8 @@ use Rattle.order.specs.declared.watcher.Watcher.{Watcher}
 use Rattle.order.specs.inner.Telling.{tellOf}
 use Rattle.order.proofs.Watched.{stays}
 use Rattle.table.specs.Lent.{Lent}
-use Rattle.table.specs.Reading.{Outcome, refused, accepted}
+use Rattle.order.specs.Owners.{level}
+use Rattle.table.specs.Reading.{roomOf, Outcome, refused, accepted, reading}
 use Rattle.read.specs.Answering.{answerOf, textPut, segmentsPut, leavesPut}
 use Rattle.write.specs.Writing.{Writing, refuses, writes}
 use Rattle.write.specs.Answer.{answer, outputAfter}
@@ -26,14 +28,16 @@ use Rattle.look.specs.declared.leaf.Sought.the-variants.{At, Empty, NotThere}
 use Rattle.look.specs.Looking.{soughtNumber}
 use Rattle.abi.specs.Cards.{cardNumbers}
 use Rattle.abi.specs.Putting.{putAll}
-use Rattle.abi.specs.Reading.{readNumbers, TellsOutcome, ReadInto}
+use Rattle.abi.specs.Reading.{TellsOutcome, ReadInto}
+use Rattle.abi.specs.Widening.{WidenedInto}
+use Rattle.archive.specs.Widening.{widening}
 use Rattle.abi.specs.Writing.{writeNumbers, TellsWriting, WroteInto}
 use Rattle.abi.specs.Looking.{leafNumbers, TellsSought}
 use Rattle.abi.specs.Lines.{FoundLine}
 use Rattle.abi.specs.Watching.{watcherBytes, watcherOf, saysYes, Watched}
 use Rattle.abi.specs.Screening.{ScreenedInto}
 use Rattle.abi.proofs.Puts.{put-short, put-whole}
-use Rattle.abi.proofs.ReadAnswers.{read-short}
+use Rattle.abi.proofs.ReadAnswers.{tells-short}
 use Rattle.abi.proofs.WriteAnswers.{write-short}
 use Rattle.abi.proofs.LineAnswers.{line-short}
 use Rattle.abi.proofs.WatcherBytes.{watch-short}
@@ -41,23 +45,23 @@ use Rattle.abi.proofs.ScreenAnswers.{screen-short}
 use Rattle.abi.proofs.OnlyOne as only
 
 -- `sargaceu_read` into an answer that is short: 1, and every buffer is kept
-module _ (message text segments leaves answer : List ℕ) {r : ℕ} {text′ segments′ leaves′ answer′ : List ℕ}
-    (read : ReadInto message text segments leaves answer r text′ segments′ leaves′ answer′) where
+module _ (L : Limits) (message text segments leaves answer : List ℕ) {r : ℕ} {text′ segments′ leaves′ answer′ : List ℕ}
+    (read : ReadInto L message text segments leaves answer r text′ segments′ leaves′ answer′) where
   pub read-short-kept : length answer < 6 → (r ≡ 1) × (text′ ≡ text) × (segments′ ≡ segments) × (leaves′ ≡ leaves) × (answer′ ≡ answer)
-  read-short-kept h = only.read message text segments leaves answer read (read-short message text segments leaves answer h)
+  read-short-kept h = only.read L message text segments leaves answer read (tells-short answer (reading L level (roomOf text segments leaves) message) h text segments leaves)
 
 -- any refusal of it: the three buffers are kept, and an answer that is long enough gets the place and a card of zeros (N3)
 pub refusal-kept : (o : Outcome) {text segments leaves answer : List ℕ} {r : ℕ} {text′ segments′ leaves′ answer′ : List ℕ}
     → TellsOutcome o text segments leaves answer r text′ segments′ leaves′ answer′ → (r ≡ 0 → ⊥)
     → (text′ ≡ text) × (segments′ ≡ segments) × (leaves′ ≡ leaves) × (answer′ ≡ putAll answer (answerOf o .place ∷ 0 ∷ 0 ∷ 0 ∷ 0 ∷ 0 ∷ []))
-unfolding answerOf textPut segmentsPut leavesPut readNumbers cardNumbers
+unfolding answerOf textPut segmentsPut leavesPut cardNumbers
 refusal-kept (refused n p) g h = (g .textArea, g .segmentRows, g .leafRows, g .numbers)
 refusal-kept (accepted t) g h = absurd (h (g .number))
 
 -- `sargaceu_write` into an answer that is short: 1, and the output is kept
-pub write-short-kept : (table : Lent) (output numbers : List ℕ) {r : ℕ} {output′ numbers′ : List ℕ}
-    → WroteInto table output numbers r output′ numbers′ → length numbers < 3 → (r ≡ 1) × (output′ ≡ output) × (numbers′ ≡ numbers)
-write-short-kept table output numbers wrote h = only.write table output numbers wrote (write-short table output numbers h)
+pub write-short-kept : (L : Limits) (table : Lent) (output numbers : List ℕ) {r : ℕ} {output′ numbers′ : List ℕ}
+    → WroteInto L table output numbers r output′ numbers′ → length numbers < 3 → (r ≡ 1) × (output′ ≡ output) × (numbers′ ≡ numbers)
+write-short-kept L table output numbers wrote h = only.write L table output numbers wrote (write-short L table output numbers h)
 
 -- any refusal of it: the output is kept, and an answer that is long enough gets zeros, as place and as counts (N3)
 pub write-refusal-kept : (w : Writing) {output numbers : List ℕ} {r : ℕ} {output′ numbers′ : List ℕ}
@@ -115,6 +119,14 @@ pub watch-short-no : (bytes : List ℕ) (kind : ℕ) {r : Bool} {bytes′ : List
 watch-short-no bytes kind g h = only.watch bytes kind g (watch-short bytes kind h)
 
 -- `sargaceu_screen` into an answer of no number: 1, and the answer is kept
-pub screen-short-kept : (table : Lent) (answer : List ℕ) {r : ℕ} {answer′ : List ℕ} → ScreenedInto table answer r answer′ → length answer < 1
+pub screen-short-kept : (L : Limits) (table : Lent) (answer : List ℕ) {r : ℕ} {answer′ : List ℕ} → ScreenedInto L table answer r answer′ → length answer < 1
     → (r ≡ 1) × (answer′ ≡ answer)
-screen-short-kept table answer screened h = only.screen table answer screened (screen-short table answer h)
+screen-short-kept L table answer screened h = only.screen L table answer screened (screen-short L table answer h)
+
+-- `sargaceu_widen` into an answer that is short: 1, and every buffer is kept
+pub widen-short-kept : (L : Limits) (table : Lent) (text segments leaves answer : List ℕ) {r : ℕ} {text′ segments′ leaves′ answer′ : List ℕ}
+    → WidenedInto L table text segments leaves answer r text′ segments′ leaves′ answer′ → length answer < 6
+    → (r ≡ 1) × (text′ ≡ text) × (segments′ ≡ segments) × (leaves′ ≡ leaves) × (answer′ ≡ answer)
+widen-short-kept L table text segments leaves answer widened h =
+    only.widen L table text segments leaves answer widened
+    (tells-short answer (widening L (roomOf text segments leaves) table) h text segments leaves)

@@ -6,7 +6,7 @@ use mathlib.Core.Path.{_≡_}
 use Prim.Native.Nat.{ℕ}
 use lib.IntN.{ℤ}
 use Rattle.laws.proofs.Equality.{only-one}
-use Rattle.form.specs.Limits.{form}
+use Rattle.form.specs.declared.limits.Limits.{Limits}
 use Rattle.line.specs.declared.finder.Found.{Found}
 use Rattle.order.specs.Owners.{level}
 use Rattle.table.specs.Lent.{Lent}
@@ -20,12 +20,13 @@ use Rattle.abi.specs.Lines.{FoundLine}
 use Rattle.abi.specs.Watching.{Watched}
 use Rattle.abi.specs.Values.{ReadValueInto, WroteValueInto, ReadValuesInto}
 use Rattle.abi.specs.Screening.{ScreenedInto}
+use Rattle.abi.specs.Widening.{WidenedInto}
 
-pub read : (message text segments leaves answer : List ℕ) {r s : ℕ} {text₁ segments₁ leaves₁ answer₁ text₂ segments₂ leaves₂ answer₂ : List ℕ}
-    → ReadInto message text segments leaves answer r text₁ segments₁ leaves₁ answer₁
-    → ReadInto message text segments leaves answer s text₂ segments₂ leaves₂ answer₂
+pub read : (L : Limits) (message text segments leaves answer : List ℕ) {r s : ℕ} {text₁ segments₁ leaves₁ answer₁ text₂ segments₂ leaves₂ answer₂ : List ℕ}
+    → ReadInto L message text segments leaves answer r text₁ segments₁ leaves₁ answer₁
+    → ReadInto L message text segments leaves answer s text₂ segments₂ leaves₂ answer₂
     → (r ≡ s) × (text₁ ≡ text₂) × (segments₁ ≡ segments₂) × (leaves₁ ≡ leaves₂) × (answer₁ ≡ answer₂)
-read message text segments leaves answer g h = (
+read L message text segments leaves answer g h = (
   only-one (g .number) (h .number),
   only-one (g .textArea) (h .textArea),
   only-one (g .segmentRows) (h .segmentRows),
@@ -33,17 +34,17 @@ read message text segments leaves answer g h = (
   only-one (g .numbers) (h .numbers),
 )
 
-pub write : (table : Lent) (output answer : List ℕ) {r s : ℕ} {output₁ answer₁ output₂ answer₂ : List ℕ}
-    → WroteInto table output answer r output₁ answer₁ → WroteInto table output answer s output₂ answer₂
+pub write : (L : Limits) (table : Lent) (output answer : List ℕ) {r s : ℕ} {output₁ answer₁ output₂ answer₂ : List ℕ}
+    → WroteInto L table output answer r output₁ answer₁ → WroteInto L table output answer s output₂ answer₂
     → (r ≡ s) × (output₁ ≡ output₂) × (answer₁ ≡ answer₂)
-write table output answer g h = (
+write L table output answer g h = (
   only-one (g .number) (h .number),
   only-one (g .message) (h .message),
   only-one (g .answers) (h .answers),
 )
 
-pub is-table : (table : Lent) (r s : Bool) → r ≡ isTable form level table → s ≡ isTable form level table → r ≡ s
-is-table table r s g h = only-one g h
+pub is-table : (L : Limits) (table : Lent) (r s : Bool) → r ≡ isTable L level table → s ≡ isTable L level table → r ≡ s
+is-table L table r s g h = only-one g h
 
 pub find-leaf : (table : Lent) (place : Place) (answer : List ℕ) {r s : ℕ} {answer₁ answer₂ : List ℕ}
     → FoundLeaf table place answer r answer₁ → FoundLeaf table place answer s answer₂ → (r ≡ s) × (answer₁ ≡ answer₂)
@@ -82,12 +83,12 @@ write-value whole decimals output answer g h = (
   only-one (g .answers) (h .answers),
 )
 
-pub order-values : (t : Lent) (order : ℕ) (numbers : List ℕ) (wholes : List ℤ) (decimals answer : List ℕ) {r s : ℕ}
+pub order-values : (L : Limits) (t : Lent) (order : ℕ) (numbers : List ℕ) (wholes : List ℤ) (decimals answer : List ℕ) {r s : ℕ}
     {numbers₁ numbers₂ : List ℕ} {wholes₁ wholes₂ : List ℤ} {decimals₁ decimals₂ answer₁ answer₂ : List ℕ}
-    → ReadValuesInto t order numbers wholes decimals answer r numbers₁ wholes₁ decimals₁ answer₁
-    → ReadValuesInto t order numbers wholes decimals answer s numbers₂ wholes₂ decimals₂ answer₂
+    → ReadValuesInto L t order numbers wholes decimals answer r numbers₁ wholes₁ decimals₁ answer₁
+    → ReadValuesInto L t order numbers wholes decimals answer s numbers₂ wholes₂ decimals₂ answer₂
     → (r ≡ s) × (numbers₁ ≡ numbers₂) × (wholes₁ ≡ wholes₂) × (decimals₁ ≡ decimals₂) × (answer₁ ≡ answer₂)
-order-values t order numbers wholes decimals answer g h = (
+order-values L t order numbers wholes decimals answer g h = (
   only-one (g .number) (h .number),
   only-one (g .numbers-put) (h .numbers-put),
   only-one (g .wholes-put) (h .wholes-put),
@@ -95,6 +96,18 @@ order-values t order numbers wholes decimals answer g h = (
   only-one (g .answers) (h .answers),
 )
 
-pub screen : (table : Lent) (answer : List ℕ) {r s : ℕ} {answer₁ answer₂ : List ℕ} → ScreenedInto table answer r answer₁ → ScreenedInto table answer s answer₂
+pub screen : (L : Limits) (table : Lent) (answer : List ℕ) {r s : ℕ} {answer₁ answer₂ : List ℕ} → ScreenedInto L table answer r answer₁ → ScreenedInto L table answer s answer₂
     → (r ≡ s) × (answer₁ ≡ answer₂)
-screen table answer g h = (only-one (g .number) (h .number), only-one (g .answers) (h .answers))
+screen L table answer g h = (only-one (g .number) (h .number), only-one (g .answers) (h .answers))
+
+pub widen : (L : Limits) (table : Lent) (text segments leaves answer : List ℕ) {r s : ℕ} {text₁ segments₁ leaves₁ answer₁ text₂ segments₂ leaves₂ answer₂ : List ℕ}
+    → WidenedInto L table text segments leaves answer r text₁ segments₁ leaves₁ answer₁
+    → WidenedInto L table text segments leaves answer s text₂ segments₂ leaves₂ answer₂
+    → (r ≡ s) × (text₁ ≡ text₂) × (segments₁ ≡ segments₂) × (leaves₁ ≡ leaves₂) × (answer₁ ≡ answer₂)
+widen L table text segments leaves answer g h = (
+  only-one (g .number) (h .number),
+  only-one (g .textArea) (h .textArea),
+  only-one (g .segmentRows) (h .segmentRows),
+  only-one (g .leafRows) (h .leafRows),
+  only-one (g .numbers) (h .numbers),
+)

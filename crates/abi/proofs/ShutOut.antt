@@ -9,6 +9,7 @@ use Prim.Native.Nat.{ℕ}
 use native.Mathlib.Omega.{arith}
 use lib.Dec.{lit≤}
 use lib.ListN.{getD}
+use Rattle.form.specs.declared.limits.Limits.{Limits}
 use Rattle.order.specs.Contexts.{isContext}
 use Rattle.order.specs.inner.Telling.{allows, allowsNext, tellBy, tellOf}
 use Rattle.table.specs.Lent.{Lent}
@@ -22,11 +23,11 @@ use Rattle.abi.specs.Screening.{TellsVerdict, ScreenedInto}
 use Rattle.abi.proofs.Kept.{read-short-kept, watch-short-no, screen-short-kept}
 
 -- what comes back from a reader in five numbers, whatever it was lent: they are as they were
-module _ (message text segments leaves : List ℕ) {r : ℕ} {text′ segments′ leaves′ answer′ : List ℕ}
-    (read : ReadInto message text segments leaves (7 ∷ 7 ∷ 7 ∷ 7 ∷ 7 ∷ []) r text′ segments′ leaves′ answer′) where
+module _ (L : Limits) (message text segments leaves : List ℕ) {r : ℕ} {text′ segments′ leaves′ answer′ : List ℕ}
+    (read : ReadInto L message text segments leaves (7 ∷ 7 ∷ 7 ∷ 7 ∷ 7 ∷ []) r text′ segments′ leaves′ answer′) where
   pub fills-a-short-answer : getD answer′ 0 0 ≡ 0 → ⊥
   fills-a-short-answer zero =
-      let kept = read-short-kept message text segments leaves (7 ∷ 7 ∷ 7 ∷ 7 ∷ 7 ∷ []) read (lit≤ tt) in
+      let kept = read-short-kept L message text segments leaves (7 ∷ 7 ∷ 7 ∷ 7 ∷ 7 ∷ []) read (lit≤ tt) in
       let z : _≡_ {A = ℕ} 0 7 = sym zero ∙ ap (λ (l : List ℕ). getD l 0 0) (kept .4) in
       omega arith
 
@@ -71,8 +72,8 @@ module _ {r : ℕ} {answer′ : List ℕ} (tells : TellsVerdict (record { number
       omega arith
 
 -- what comes back from it into no number, whatever it was lent
-module _ (table : Lent) {r : ℕ} {answer′ : List ℕ} (screened : ScreenedInto table [] r answer′) where
+module _ (L : Limits) (table : Lent) {r : ℕ} {answer′ : List ℕ} (screened : ScreenedInto L table [] r answer′) where
   pub looks-at-the-table-first : r ≡ 13 → ⊥
   looks-at-the-table-first said =
-      let z : _≡_ {A = ℕ} 1 13 = sym (screen-short-kept table [] screened (lit≤ tt) .0) ∙ said in
+      let z : _≡_ {A = ℕ} 1 13 = sym (screen-short-kept L table [] screened (lit≤ tt) .0) ∙ said in
       omega arith

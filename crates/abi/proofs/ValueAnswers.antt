@@ -7,7 +7,7 @@ use borrow.Author.Tests.{lt-ltb, le-ltb}
 use lib.IntN.{ℤ, pos}
 use lib.ListN.{length}
 use lib.Seq.{sets}
-use Rattle.form.specs.Limits.{form}
+use Rattle.form.specs.declared.limits.Limits.{Limits}
 use Rattle.form.specs.Numbers.{shortBuffer}
 use Rattle.order.specs.Owners.{level}
 use Rattle.table.specs.Lent.{Lent}
@@ -81,26 +81,26 @@ module _ (whole : ℤ) (decimals : ℕ) (output answer : List ℕ) where
       })
 
 -- the values of an order
-module _ (t : Lent) (order : ℕ) (numbers : List ℕ) (wholes : List ℤ) (decimals answer : List ℕ) where
-  pub results-short-outcome : length answer < 2 → resultsOutcome t order numbers wholes decimals answer ≡ refusesValues shortBuffer
+module _ (L : Limits) (t : Lent) (order : ℕ) (numbers : List ℕ) (wholes : List ℤ) (decimals answer : List ℕ) where
+  pub results-short-outcome : length answer < 2 → resultsOutcome L t order numbers wholes decimals answer ≡ refusesValues shortBuffer
   unfolding resultsOutcome
   results-short-outcome h = rw (lt-ltb (length answer) 2 h, resultsOutcome)
 
-  pub results-whole-outcome : 2 ≤ length answer → resultsOutcome t order numbers wholes decimals answer
-      ≡ results form level mostDigits t order (length numbers) (length wholes) (length decimals)
+  pub results-whole-outcome : 2 ≤ length answer → resultsOutcome L t order numbers wholes decimals answer
+      ≡ results L level mostDigits t order (length numbers) (length wholes) (length decimals)
   unfolding resultsOutcome
   results-whole-outcome h = rw (le-ltb (length answer) 2 h, resultsOutcome)
 
-  pub results-short : length answer < 2 → ReadValuesInto t order numbers wholes decimals answer shortBuffer numbers wholes decimals answer
+  pub results-short : length answer < 2 → ReadValuesInto L t order numbers wholes decimals answer shortBuffer numbers wholes decimals answer
   unfolding resultsTold numbersAfter wholesAfter decimalsAfter
   results-short h =
       subst⁻¹ (λ (w : Results). TellsResults w numbers wholes decimals answer shortBuffer numbers wholes decimals answer) (results-short-outcome h)
       (record { number = refl; answers = sym (put-short answer (0 ∷ 0 ∷ []) h); numbers-put = refl; wholes-put = refl; decimals-put = refl })
 
   pub results-whole : 2 ≤ length answer → {r : ValuesRead} {numbers′ : List ℕ} {wholes′ : List ℤ} {decimals′ answer′ : List ℕ}
-      → ReadValues form level mostDigits t order numbers wholes decimals r numbers′ wholes′ decimals′
+      → ReadValues L level mostDigits t order numbers wholes decimals r numbers′ wholes′ decimals′
       → answer′ ≡ putAll answer (r .place ∷ r .count ∷ [])
-      → ReadValuesInto t order numbers wholes decimals answer (r .number) numbers′ wholes′ decimals′ answer′
+      → ReadValuesInto L t order numbers wholes decimals answer (r .number) numbers′ wholes′ decimals′ answer′
   results-whole h {r} {numbers′} {wholes′} {decimals′} {answer′} read stored =
       subst⁻¹ (λ (w : Results). TellsResults w numbers wholes decimals answer (r .number) numbers′ wholes′ decimals′ answer′) (results-whole-outcome h)
       (record {

@@ -7,6 +7,7 @@ use Prim.Native.Nat.{ℕ, _<_}
 use native.Mathlib.Omega.{arith}
 use lib.IntN.{ℤ, pos, negsuc}
 use lib.ListN.{length, getD}
+use Rattle.form.specs.declared.limits.Limits.{Limits}
 use Rattle.table.specs.Lent.{Lent}
 use Rattle.value.specs.Writing.{Spelling, refusesValue, spells, spellingTold, outputWith}
 use Rattle.value.specs.Results.{Results, refusesValues, gives, resultsTold, numbersAfter, wholesAfter, decimalsAfter}
@@ -25,12 +26,12 @@ pub text-short-kept : (whole : ℤ) (decimals : ℕ) (output answer : List ℕ) 
 text-short-kept whole decimals output answer wrote h =
     only.write-value whole decimals output answer wrote (spelling-short whole decimals output answer h)
 
-pub order-short-kept : (t : Lent) (order : ℕ) (numbers : List ℕ) (wholes : List ℤ) (decimals answer : List ℕ) {r : ℕ}
+pub order-short-kept : (L : Limits) (t : Lent) (order : ℕ) (numbers : List ℕ) (wholes : List ℤ) (decimals answer : List ℕ) {r : ℕ}
     {numbers′ : List ℕ} {wholes′ : List ℤ} {decimals′ answer′ : List ℕ}
-    → ReadValuesInto t order numbers wholes decimals answer r numbers′ wholes′ decimals′ answer′ → length answer < 2
+    → ReadValuesInto L t order numbers wholes decimals answer r numbers′ wholes′ decimals′ answer′ → length answer < 2
     → (r ≡ 1) × (numbers′ ≡ numbers) × (wholes′ ≡ wholes) × (decimals′ ≡ decimals) × (answer′ ≡ answer)
-order-short-kept t order numbers wholes decimals answer read h =
-    only.order-values t order numbers wholes decimals answer read (results-short t order numbers wholes decimals answer h)
+order-short-kept L t order numbers wholes decimals answer read h =
+    only.order-values L t order numbers wholes decimals answer read (results-short L t order numbers wholes decimals answer h)
 
 -- any other refusal: the output, or the three buffers, are kept, and the answer gets zeros
 pub text-refusal-kept : (s : Spelling) {output answer : List ℕ} {r : ℕ} {output′ answer′ : List ℕ} → TellsSpelling s output answer r output′ answer′

@@ -10,7 +10,7 @@ use lib.Dec.{lit≤}
 use lib.ListN.{length, getD, set, drop, length-set}
 use lib.Seq.{getD-set-same}
 use Rattle.form.specs.declared.limits.Limits.{Limits}
-use Rattle.form.specs.Limits.{form}
+use Rattle.form.specs.Forms.{smallForm}
 use Rattle.line.specs.declared.finder.Found.{Found}
 use Rattle.line.specs.declared.finder.Found.the-variants.{Line, End, Fault}
 use Rattle.line.specs.Finding.{textRun, foundAt, nextOf}
@@ -46,9 +46,9 @@ still-is-end End at bytes w f zero still = refl
 still-is-end (Fault number place) at bytes w f zero still = let z : ⊥ = omega (arith, f .0, zero) in absurd z
 
 module _ (message : List ℕ) (at : ℕ) (answer : List ℕ) (room : 2 ≤ length answer) {r : ℕ} {answer′ : List ℕ}
-    (told : FoundLine (foundAt form message at) at answer r answer′) where
+    (told : FoundLine (foundAt smallForm message at) at answer r answer′) where
   abbrev found : Found
-  found = foundAt form message at
+  found = foundAt smallForm message at
 
   next-answered : getD answer′ 1 0 ≡ nextOf at found
   next-answered =
@@ -59,7 +59,7 @@ module _ (message : List ℕ) (at : ℕ) (answer : List ℕ) (room : 2 ≤ lengt
   unfolding numberFor
   number-answered = told .number ∙ rw (le-ltb (length answer) 2 room, numberFor)
 
-  pub walk-ends : r ≡ 0 → getD answer′ 1 0 ≡ at → foundAt form message at ≡ End
+  pub walk-ends : r ≡ 0 → getD answer′ 1 0 ≡ at → foundAt smallForm message at ≡ End
   walk-ends zero still =
-      still-is-end found at (length message) (found-within message at form) (fault-number form message at)
+      still-is-end found at (length message) (found-within message at smallForm) (fault-number smallForm message at)
       (sym number-answered ∙ zero) (sym next-answered ∙ still)

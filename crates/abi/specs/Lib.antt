@@ -1,5 +1,6 @@
 pub mod Putting
 pub mod Cards
+pub mod FormNumbers
 pub mod Reading
 pub mod Writing
 pub mod Looking
@@ -7,3 +8,5 @@ pub mod Lines
 pub mod Watching
 pub mod Values
 pub mod Screening
+pub mod Widening
+pub mod Version

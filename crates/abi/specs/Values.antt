@@ -7,7 +7,7 @@ use Prim.Native.Nat.{ℕ}
 use lib.Dec.{ltb}
 use lib.IntN.{ℤ, pos}
 use lib.ListN.{length}
-use Rattle.form.specs.Limits.{form}
+use Rattle.form.specs.declared.limits.Limits.{Limits}
 use Rattle.form.specs.Numbers.{shortBuffer}
 use Rattle.order.specs.Owners.{level}
 use Rattle.table.specs.Lent.{Lent}
@@ -50,12 +50,12 @@ abbrev pub WroteValueInto : ℤ → ℕ → (output answer : List ℕ) → ℕ �
 WroteValueInto whole decimals output answer r output′ answer′ =
     TellsSpelling (spellingOutcome whole decimals output answer) output answer r output′ answer′
 
--- the outcome for an order; 1, whatever table and row are, where two numbers do not fit the answer
-unfoldable pub resultsOutcome : Lent → (order : ℕ) → (numbers : List ℕ) (wholes : List ℤ) (decimals answer : List ℕ) → Results
-resultsOutcome t order numbers wholes decimals answer =
+-- the outcome for an order of a table within limits; 1, whatever table and row are, where two numbers do not fit the answer
+unfoldable pub resultsOutcome : Limits → Lent → (order : ℕ) → (numbers : List ℕ) (wholes : List ℤ) (decimals answer : List ℕ) → Results
+resultsOutcome L t order numbers wholes decimals answer =
     elim (ltb (length answer) 2) [
       | true ↦ refusesValues shortBuffer
-      | false ↦ results form level mostDigits t order (length numbers) (length wholes) (length decimals)
+      | false ↦ results L level mostDigits t order (length numbers) (length wholes) (length decimals)
     ]
 
 -- such an outcome, told by its number, with place and count put into the answer and the values into their buffers
@@ -68,7 +68,7 @@ pub record TellsResults (w : Results) (numbers : List ℕ) (wholes : List ℤ) (
   pub decimals-put : decimals′ ≡ decimalsAfter decimals w
 
 -- the contract of `sargaceu_order_values`
-abbrev pub ReadValuesInto : Lent → (order : ℕ) → (numbers : List ℕ) (wholes : List ℤ) (decimals answer : List ℕ) → ℕ
+abbrev pub ReadValuesInto : Limits → Lent → (order : ℕ) → (numbers : List ℕ) (wholes : List ℤ) (decimals answer : List ℕ) → ℕ
     → (numbers′ : List ℕ) (wholes′ : List ℤ) (decimals′ answer′ : List ℕ) → Type 0
-ReadValuesInto t order numbers wholes decimals answer r numbers′ wholes′ decimals′ answer′ =
-    TellsResults (resultsOutcome t order numbers wholes decimals answer) numbers wholes decimals answer r numbers′ wholes′ decimals′ answer′
+ReadValuesInto L t order numbers wholes decimals answer r numbers′ wholes′ decimals′ answer′ =
+    TellsResults (resultsOutcome L t order numbers wholes decimals answer) numbers wholes decimals answer r numbers′ wholes′ decimals′ answer′

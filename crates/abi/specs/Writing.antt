@@ -6,7 +6,7 @@ use mathlib.Core.Path.{_≡_}
 use Prim.Native.Nat.{ℕ}
 use lib.Dec.{ltb}
 use lib.ListN.{length}
-use Rattle.form.specs.Limits.{form}
+use Rattle.form.specs.declared.limits.Limits.{Limits}
 use Rattle.form.specs.Numbers.{shortBuffer}
 use Rattle.order.specs.Owners.{level}
 use Rattle.table.specs.Lent.{Lent}
@@ -14,12 +14,12 @@ use Rattle.write.specs.Writing.{Writing, refuses, writing}
 use Rattle.write.specs.Answer.{answer, outputAfter}
 use Rattle.abi.specs.Putting.{putAll}
 
--- the outcome of writing a table; 1, whatever table and output are, where three numbers do not fit the answer
-unfoldable pub writeOutcome : Lent → (output numbers : List ℕ) → Writing
-writeOutcome table output numbers =
+-- the outcome of writing a table within limits; 1, whatever table and output are, where three numbers do not fit the answer
+unfoldable pub writeOutcome : Limits → Lent → (output numbers : List ℕ) → Writing
+writeOutcome L table output numbers =
     elim (ltb (length numbers) 3) [
       | true ↦ refuses shortBuffer
-      | false ↦ writing form level table (length output)
+      | false ↦ writing L level table (length output)
     ]
 
 -- what goes into the answer: the place, and how many bytes and lines were written (W3)
@@ -33,5 +33,5 @@ pub record TellsWriting (w : Writing) (output numbers : List ℕ) (r : ℕ) (out
   pub message : output′ ≡ outputAfter output w
 
 -- the contract of `sargaceu_write`
-abbrev pub WroteInto : Lent → (output numbers : List ℕ) → ℕ → (output′ numbers′ : List ℕ) → Type 0
-WroteInto table output numbers r output′ numbers′ = TellsWriting (writeOutcome table output numbers) output numbers r output′ numbers′
+abbrev pub WroteInto : Limits → Lent → (output numbers : List ℕ) → ℕ → (output′ numbers′ : List ℕ) → Type 0
+WroteInto L table output numbers r output′ numbers′ = TellsWriting (writeOutcome L table output numbers) output numbers r output′ numbers′

@@ -1,6 +1,8 @@
 // Answers that are several numbers, put into a buffer of the caller's.
+use read::Answer;
 ghost use mathlib.Core.Path.{_≡_};
 ghost use Rattle.abi.specs.Putting.{putAll};
+ghost use Rattle.abi.specs.Reading.{filedNumbers};
 
 // Puts all numbers at the front of an answer, or none of them where it is shorter than they are: a caller never gets half an answer.
 pub(crate) fn put_numbers(answer: &mut [usize], numbers: &[usize])
@@ -14,4 +16,21 @@ pub(crate) fn put_numbers(answer: &mut [usize], numbers: &[usize])
         answer[at] = numbers[at];
         at += 1;
     }
+}
+
+// What reading or widening came to: place and card go into the answer, and the number comes back.
+pub(crate) fn put_filed(filed: Answer, answer: &mut [usize]) -> u8
+    ensures { λ r. ⌜ (r ≡ filed .number) × (now (answer .exit) ≡ putAll (now (answer .entry)) (filedNumbers filed)) ⌝ }
+{
+    let card = filed.card;
+    let numbers = [
+        filed.place,
+        card.separator as usize,
+        card.context as usize,
+        card.segments,
+        card.leaves,
+        card.text,
+    ];
+    put_numbers(answer, &numbers);
+    filed.number
 }

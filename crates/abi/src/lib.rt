@@ -2,11 +2,14 @@
 // numbers and any lengths: nothing is required of a caller, so every contract says what happens for all of them.
 mod answer;
 mod card;
+mod forms;
 pub mod lines;
 pub mod looking;
 pub mod reading;
 pub mod screening;
 pub mod showing;
 pub mod values;
+pub mod version;
 pub mod watching;
+pub mod widening;
 pub mod writing;

@@ -4,7 +4,7 @@ use form::number::Number;
 use line::finder::Found;
 ghost use mathlib.Core.List.{[], _∷_};
 ghost use mathlib.Core.Path.{_≡_};
-ghost use Rattle.form.specs.Limits.{form};
+ghost use Rattle.form.specs.Forms.{smallForm};
 ghost use Rattle.line.specs.Finding.{foundAt};
 ghost use Rattle.abi.specs.Lines.{FoundLine};
 ghost use Rattle.abi.specs.Putting.{putAll};
@@ -16,7 +16,7 @@ const ANSWER: usize = 2;
 // hears the same again.
 #[no_mangle]
 pub extern "C" fn sargaceu_line(message: &[u8], at: usize, answer: &mut [usize]) -> u8
-    ensures { λ r. ⌜ FoundLine (foundAt form (now (message .entry)) at) at (now (answer .entry)) r (now (answer .exit)) ⌝ }
+    ensures { λ r. ⌜ FoundLine (foundAt smallForm (now (message .entry)) at) at (now (answer .entry)) r (now (answer .exit)) ⌝ }
 {
     if answer.len() < ANSWER {
         return Number::SHORT_BUFFER;

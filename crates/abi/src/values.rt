@@ -1,10 +1,12 @@
 // Numeric results as numbers (D1 to D6).
 use crate::answer;
 use crate::card;
+use crate::forms;
 use form::number::Number;
 use table::rows;
 ghost use Rattle.table.specs.Lent.{lent};
 ghost use Rattle.abi.specs.Cards.{cardOf};
+ghost use Rattle.abi.specs.FormNumbers.{limitsNumbered};
 ghost use Rattle.abi.specs.Values.{ReadValueInto, WroteValueInto, ReadValuesInto};
 
 // How many numbers an answer has: whole number and decimals of a text; bytes of a written text; place and count of an order's values.
@@ -51,10 +53,11 @@ pub extern "C" fn sargaceu_write_value(
     written.number
 }
 
-// The values of the numeric results under an OBR row (D6), each in three buffers. The number comes back; place and count go into the answer. An
+// The values of the numeric results under an OBR row of a table of a form (D6), each in three buffers. The number comes back; place and count go into the answer. An
 // answer of under two numbers is refused with 1 before the table is looked at.
 #[no_mangle]
 pub extern "C" fn sargaceu_order_values(
+    form: u8,
     card: &[usize],
     segments: &[rows::Entry],
     leaves: &[rows::Entry],
@@ -65,7 +68,7 @@ pub extern "C" fn sargaceu_order_values(
     decimals: &mut [u8],
     answer: &mut [usize],
 ) -> u8
-    ensures { λ r. ⌜ ReadValuesInto (lent (cardOf (now (card .entry))) (now (segments .entry)) (now (leaves .entry)) (now (text .entry))) order
+    ensures { λ r. ⌜ ReadValuesInto (limitsNumbered form) (lent (cardOf (now (card .entry))) (now (segments .entry)) (now (leaves .entry)) (now (text .entry))) order
         (now (numbers .entry)) (now (wholes .entry)) (now (decimals .entry)) (now (answer .entry))
         r (now (numbers .exit)) (now (wholes .exit)) (now (decimals .exit)) (now (answer .exit)) ⌝ }
 {
@@ -73,6 +76,7 @@ pub extern "C" fn sargaceu_order_values(
         return Number::SHORT_BUFFER;
     }
     let read = value::results::order_values(
+        forms::form_of(form),
         card::card_of(card),
         segments,
         leaves,

@@ -1,12 +1,12 @@
-//! What the library answers to buffers that this crate never lends: short answers, short cards, numbers that are no table.
+//! What the library answers to what this crate never lends: short answers, short cards, numbers that are no table, numbers that are no form.
 
 use super::*;
 
 /// Buffers that are lent for a table, whatever stands in them.
 struct Lent<'a> {
     card: &'a [usize],
-    segments: &'a [u16],
-    leaves: &'a [u16],
+    segments: &'a [u32],
+    leaves: &'a [u32],
     text: &'a [u8],
 }
 
@@ -14,22 +14,25 @@ struct Lent<'a> {
 type Lookup = unsafe extern "C" fn(
     *const usize,
     usize,
-    *const u16,
+    *const u32,
     usize,
-    *const u16,
+    *const u32,
     usize,
     *const u8,
     usize,
-    u16,
-    u16,
-    u16,
-    u16,
-    u16,
+    u32,
+    u32,
+    u32,
+    u32,
+    u32,
     *mut usize,
     usize,
 ) -> u8;
 
 const LOOKUPS: [Lookup; 2] = [sargaceu_find_leaf, sargaceu_find_leaf_in_segment];
+
+const SMALL: u8 = 0;
+const LARGE: u8 = 1;
 
 const NOTHING: Lent<'static> = Lent {
     card: &[],
@@ -39,10 +42,11 @@ const NOTHING: Lent<'static> = Lent {
 };
 
 impl Lent<'_> {
-    fn write(&self, output: &mut [u8], answer: &mut [usize]) -> u8 {
+    fn write(&self, form: u8, output: &mut [u8], answer: &mut [usize]) -> u8 {
         // SAFETY: as for all functions here, each pointer and its count are those of one slice.
         unsafe {
             sargaceu_write(
+                form,
                 self.card.as_ptr(),
                 self.card.len(),
                 self.segments.as_ptr(),
@@ -60,11 +64,11 @@ impl Lent<'_> {
     }
 
     /// The leaf of row 1 at field, repetition and subfield 1, by one of the two lookups.
-    fn leaf(&self, lookup: Lookup, subsubfield: u16, answer: &mut [usize]) -> u8 {
+    fn leaf(&self, lookup: Lookup, subsubfield: u32, answer: &mut [usize]) -> u8 {
         self.leaf_at(lookup, [1, 1, 1, 1, subsubfield], answer)
     }
 
-    fn leaf_at(&self, lookup: Lookup, place: [u16; 5], answer: &mut [usize]) -> u8 {
+    fn leaf_at(&self, lookup: Lookup, place: [u32; 5], answer: &mut [usize]) -> u8 {
         let [segment, field, repetition, subfield, subsubfield] = place;
         // SAFETY: as in `write`.
         unsafe {
@@ -92,6 +96,7 @@ impl Lent<'_> {
         // SAFETY: as in `write`.
         unsafe {
             sargaceu_screen(
+                SMALL,
                 self.card.as_ptr(),
                 self.card.len(),
                 self.segments.as_ptr(),
@@ -106,7 +111,7 @@ impl Lent<'_> {
         }
     }
 
-    fn next_row(&self, after: usize, kind: u16, owner: u16) -> usize {
+    fn next_row(&self, after: usize, kind: u32, owner: u32) -> usize {
         // SAFETY: as in `write`.
         unsafe {
             sargaceu_next_row(
@@ -139,10 +144,11 @@ impl Places {
         }
     }
 
-    fn fill(&mut self, lent: &Lent<'_>, order: u16, answer: &mut [usize]) -> u8 {
+    fn fill(&mut self, lent: &Lent<'_>, order: u32, answer: &mut [usize]) -> u8 {
         // SAFETY: as in `write`.
         unsafe {
             sargaceu_order_values(
+                SMALL,
                 lent.card.as_ptr(),
                 lent.card.len(),
                 lent.segments.as_ptr(),
@@ -190,11 +196,12 @@ fn write_value(whole: i64, decimals: usize, output: &mut [u8], answer: &mut [usi
     }
 }
 
-fn read(message: &[u8], answer: &mut [usize]) -> u8 {
+fn read(form: u8, message: &[u8], answer: &mut [usize]) -> u8 {
     let (mut text, mut segments, mut leaves) = ([9; 16384], [9; 1024], [9; 14336]);
     // SAFETY: as in `write`.
     unsafe {
         sargaceu_read(
+            form,
             message.as_ptr(),
             message.len(),
             text.as_mut_ptr(),
@@ -249,19 +256,32 @@ fn watch(watcher: &mut [u8], kind: u8) -> bool {
 #[test]
 fn a_short_answer_is_refused_with_1_and_left_as_it_was() {
     let mut answer = [7; 5];
-    assert_eq!(read(b"H|~^\\&|||LAB||ERR\rERR\rL\r", &mut answer), 1);
+    assert_eq!(read(SMALL, b"H|~^\\&|||LAB||ERR\rERR\rL\r", &mut answer), 1);
     assert_eq!(answer, [7; 5]);
     let mut answer = [7; 2];
-    assert_eq!(NOTHING.write(&mut [9; 16384], &mut answer), 1);
+    assert_eq!(NOTHING.write(SMALL, &mut [9; 16384], &mut answer), 1);
     assert_eq!(answer, [7; 2]);
     assert_eq!(line(b"H\r", 0, &mut answer[..1]), 1);
     assert_eq!(answer, [7; 2]);
 }
 
 #[test]
+fn a_number_that_is_no_form_is_taken_as_the_small_form() {
+    let message = b"H|~^\\&|||LAB||ERR\rERR\rL\r";
+    for form in 0..=255 {
+        let mut answer = [7; 6];
+        // the buffers have the sizes of the small form
+        let expected = u8::from(form == LARGE);
+        assert_eq!(read(form, message, &mut answer), expected);
+        let number = NOTHING.write(form, &mut [9; 16384], &mut [7; 3]);
+        assert_eq!(number, if form == LARGE { 12 } else { 13 });
+    }
+}
+
+#[test]
 fn a_refused_message_has_a_card_that_counts_nothing() {
     let mut answer = [7; 7];
-    assert_eq!(read(b"H|~^\\&|||LAB||ERR\rA\rL\r", &mut answer), 8);
+    assert_eq!(read(SMALL, b"H|~^\\&|||LAB||ERR\rA\rL\r", &mut answer), 8);
     assert_eq!(answer, [2, 0, 0, 0, 0, 0, 7]);
 }
 
@@ -277,9 +297,9 @@ fn a_listing_of_under_8448_bytes_is_left_as_it_was() {
 #[test]
 fn what_is_no_table_is_refused_with_13_and_the_output_left_as_it_was() {
     let (mut output, mut answer) = ([9; 16384], [7; 3]);
-    assert_eq!(NOTHING.write(&mut output, &mut answer), 13);
+    assert_eq!(NOTHING.write(SMALL, &mut output, &mut answer), 13);
     assert_eq!(answer, [0; 3]);
-    assert_eq!(NOTHING.write(&mut output[1..], &mut answer), 12);
+    assert_eq!(NOTHING.write(SMALL, &mut output[1..], &mut answer), 12);
     assert_eq!(answer, [0; 3]);
     assert!(output.iter().all(|&byte| byte == 9));
 }
@@ -302,7 +322,7 @@ fn a_card_of_under_five_numbers_or_with_a_number_over_255_counts_nothing() {
 }
 
 /// An OBX in row 1 that has so many leaves from one on.
-fn segment_row(first: u16, count: u16) -> [u16; 4] {
+fn segment_row(first: u32, count: u32) -> [u32; 4] {
     [6, 0, first, count]
 }
 
@@ -383,7 +403,7 @@ fn a_lookup_within_the_segment_sees_the_counted_leaves_that_its_row_names() {
     let leaves = [
         1, 1, 1, 1, 1, 0, 1, 1, 1, 1, 1, 2, 1, 1, 1, 1, 1, 1, 3, 2, 1,
     ];
-    let told = |segments: &[u16], counted| {
+    let told = |segments: &[u32], counted| {
         let lent = Lent {
             card: &[124, 6, 1, counted, 3],
             segments,
@@ -397,8 +417,10 @@ fn a_lookup_within_the_segment_sees_the_counted_leaves_that_its_row_names() {
     assert_eq!(told(&segment_row(2, 1), 3), [0, 1, 0]);
     assert_eq!(told(&segment_row(1, 0), 3), [0, 0, 0]);
     assert_eq!(told(&segment_row(4, 3), 3), [0, 0, 0]);
-    assert_eq!(told(&segment_row(2, 65535), 3), [0, 1, 1]);
-    assert_eq!(told(&segment_row(65535, 65535), 3), [0, 0, 0]);
+    assert_eq!(told(&segment_row(2, u32::MAX), 3), [0, 1, 1]);
+    assert_eq!(told(&segment_row(u32::MAX, u32::MAX), 3), [0, 0, 0]);
+    // a number is not cut to its lower half
+    assert_eq!(told(&segment_row(65537, 3), 3), [0, 0, 0]);
     assert_eq!(told(&segment_row(2, 2), 2), [0, 1, 0]);
     // leaves count from 1, so a first leaf of 0 is none
     assert_eq!(told(&segment_row(0, 3), 3), [0, 0, 0]);
@@ -431,7 +453,7 @@ fn leaves_of_a_segment_that_is_not_counted_are_seen_by_the_first_lookup_alone() 
 
 #[test]
 fn both_lookups_answer_the_same_of_a_table_that_was_read() {
-    let mut buffers = crate::Buffers::new();
+    let mut buffers = crate::Buffers::new(crate::Form::Small);
     let table = buffers.read(include_bytes!("../../../../samples/report.hpr"));
     let table = table.unwrap();
     let lent = Lent {
@@ -443,7 +465,7 @@ fn both_lookups_answer_the_same_of_a_table_that_was_read() {
     let mut told = [0; 3];
     for row in lent.leaves.chunks_exact(crate::size::LEAF_ROW) {
         for changed in 0..5 {
-            for number in [0, 1, 2, row[changed], row[changed] + 1, 65535] {
+            for number in [0, 1, 2, row[changed], row[changed] + 1, 65535, u32::MAX] {
                 let mut place = [row[0], row[1], row[2], row[3], row[4]];
                 place[changed] = number;
                 let [all, within] = LOOKUPS.map(|lookup| {
@@ -502,7 +524,7 @@ fn a_value_is_judged_before_the_output_and_the_answer_before_both() {
 fn an_order_is_refused_for_its_table_then_for_its_row_then_for_the_room() {
     let message =
         b"H|~^\\&|||LAB||ORU\rP|1\rOBR|1\rOBX|1|NM|K||5.6\rOBX|2|NM|NA||x\rOBX|3|TX|NT||5\rL|1\r";
-    let mut buffers = crate::Buffers::new();
+    let mut buffers = crate::Buffers::new(crate::Form::Small);
     let table = buffers.read(message).unwrap();
     let card = table.card().numbers();
     let lent = Lent {
@@ -527,7 +549,7 @@ fn an_order_is_refused_for_its_table_then_for_its_row_then_for_the_room() {
     assert_eq!(refused(&damaged, 3, [2, 2, 2]), 13);
     assert_eq!(refused(&damaged, 0, [0, 0, 0]), 13);
     assert_eq!(refused(&NOTHING, 3, [2, 2, 2]), 13);
-    for order in [0, 1, 2, 4, 7, 8, 65535] {
+    for order in [0, 1, 2, 4, 7, 8, 65535, 65539, u32::MAX] {
         assert_eq!(refused(&lent, order, [2, 2, 2]), 24);
         assert_eq!(refused(&lent, order, [0, 0, 0]), 24);
     }
@@ -549,7 +571,7 @@ fn an_order_is_refused_for_its_table_then_for_its_row_then_for_the_room() {
 
 #[test]
 fn a_screening_is_refused_for_its_answer_then_for_its_table_then_for_its_context() {
-    let mut buffers = crate::Buffers::new();
+    let mut buffers = crate::Buffers::new(crate::Form::Small);
     let mut screened = |message: &[u8]| {
         let table = buffers.read(message).unwrap();
         let card = table.card().numbers();
@@ -584,6 +606,104 @@ fn a_screening_is_refused_for_its_answer_then_for_its_table_then_for_its_context
     assert_eq!(NOTHING.screen(&mut answer), 13);
     assert_eq!(answer, [0, 7]);
     assert_eq!(NOTHING.screen(&mut []), 1);
+}
+
+/// New buffers that hold the same number throughout, for what is widened.
+struct New {
+    text: Vec<u8>,
+    segments: Vec<u32>,
+    leaves: Vec<u32>,
+}
+
+impl New {
+    fn of(text: usize, segments: usize, leaves: usize) -> New {
+        New {
+            text: vec![9; text],
+            segments: vec![9; segments],
+            leaves: vec![9; leaves],
+        }
+    }
+
+    fn widen(
+        &mut self,
+        card: &[usize],
+        rows: [&[u16]; 2],
+        text: &[u8],
+        answer: &mut [usize],
+    ) -> u8 {
+        let [segments, leaves] = rows;
+        // SAFETY: as in `write`.
+        unsafe {
+            sargaceu_widen(
+                card.as_ptr(),
+                card.len(),
+                segments.as_ptr(),
+                segments.len(),
+                leaves.as_ptr(),
+                leaves.len(),
+                text.as_ptr(),
+                text.len(),
+                self.text.as_mut_ptr(),
+                self.text.len(),
+                self.segments.as_mut_ptr(),
+                self.segments.len(),
+                self.leaves.as_mut_ptr(),
+                self.leaves.len(),
+                answer.as_mut_ptr(),
+                answer.len(),
+            )
+        }
+    }
+
+    fn are_kept(&self) -> bool {
+        self.text.iter().all(|&byte| byte == 9)
+            && self
+                .segments
+                .iter()
+                .chain(&self.leaves)
+                .all(|&number| number == 9)
+    }
+}
+
+#[test]
+fn a_widening_is_refused_for_its_answer_then_for_its_buffers_then_for_its_table() {
+    let mut buffers = crate::Buffers::new(crate::Form::Small);
+    let table = buffers.read(b"H|~^\\&|||LAB||ERR\rERR\rL\r").unwrap();
+    let narrow = |rows: &[u32]| rows.iter().map(|&number| number as u16).collect::<Vec<_>>();
+    let (segments, leaves) = (narrow(table.segment_rows()), narrow(table.leaf_rows()));
+    let rows = [&segments[..], &leaves[..]];
+    let (card, text) = (table.card().numbers(), table.text());
+
+    let mut new = New::of(16384, 1024, 14336);
+    assert_eq!(new.widen(&card, rows, text, &mut [7; 5]), 1);
+    assert_eq!(new.widen(&[], [&[], &[]], &[], &mut []), 1);
+    for (card, text) in [(&card[..4], text), (&card[..], &text[1..]), (&[], &[])] {
+        let mut answer = [7; 7];
+        assert_eq!(new.widen(card, rows, text, &mut answer), 46);
+        assert_eq!(answer, [0, 0, 0, 0, 0, 0, 7]);
+    }
+    assert!(new.are_kept());
+    for [text_bytes, segments, leaves] in [[16383, 1024, 14336], [16384, 1023, 14336], [0, 0, 0]] {
+        let mut short = New::of(text_bytes, segments, leaves);
+        for text in [text, &[]] {
+            let mut answer = [7; 7];
+            assert_eq!(short.widen(&card, rows, text, &mut answer), 1);
+            assert_eq!(answer, [0, 0, 0, 0, 0, 0, 7]);
+        }
+        assert!(short.are_kept());
+    }
+
+    let mut answer = [7; 7];
+    assert_eq!(new.widen(&card, rows, text, &mut answer), 0);
+    assert_eq!((answer[0], &answer[1..6], answer[6]), (0, &card[..], 7));
+    assert_eq!(new.segments[..segments.len()], *table.segment_rows());
+    assert_eq!(new.leaves[..leaves.len()], *table.leaf_rows());
+    assert_eq!(new.text[..text.len()], *text);
+    assert!(new.segments[segments.len()..]
+        .iter()
+        .all(|&number| number == 9));
+    assert!(new.leaves[leaves.len()..].iter().all(|&number| number == 9));
+    assert!(new.text[text.len()..].iter().all(|&byte| byte == 9));
 }
 
 #[test]

@@ -1,7 +1,7 @@
 //! Whatever is given, every call returns, and what is accepted is whole.
 
 use crate::{REPORT, SMALL};
-use sargaceu::{lines, Buffers, Card, Number, Table};
+use sargaceu::{lines, Buffers, Card, Form, Number, Table};
 
 /// Numbers that look random and are the same in every run.
 struct Numbers(u64);
@@ -16,13 +16,15 @@ impl Numbers {
     }
 }
 
-/// All rows and leaves that a table counts are there, its message reads to it, and it is screened.
-fn is_whole(table: &Table<'_>) {
+/// All rows and leaves that a table counts are there, its message reads to it in both forms, and it is screened.
+fn is_whole(table: &Table<'_>, others: &mut [Buffers; 2]) {
     assert_eq!(table.rows().count(), table.card().segments);
     assert_eq!(table.leaves().count(), table.card().leaves);
     let by_rows = table.rows().flat_map(|segment| segment.leaves());
     assert_eq!(by_rows.count(), table.card().leaves);
-    assert_eq!(Buffers::new().read(&table.to_message()), Ok(*table));
+    for other in others {
+        assert_eq!(other.read(&table.to_message()), Ok(*table));
+    }
     let row = table.screen().map_or_else(|refusal| refusal.place, |()| 0);
     assert!(row <= table.card().segments);
 }
@@ -30,7 +32,8 @@ fn is_whole(table: &Table<'_>) {
 #[test]
 fn any_message_is_read_to_a_whole_table_or_refused() {
     let mut numbers = Numbers(1);
-    let mut buffers = Buffers::new();
+    let mut buffers = Buffers::new(Form::Small);
+    let mut others = Form::ALL.map(Buffers::new);
     let (mut accepted, mut refused) = (0, 0);
     for turn in 0..4000 {
         let mut message = if turn % 2 == 0 { SMALL } else { REPORT }.to_vec();
@@ -45,7 +48,7 @@ fn any_message_is_read_to_a_whole_table_or_refused() {
         assert!(lines(&message).count() <= message.len());
         match buffers.read(&message) {
             Ok(table) => {
-                is_whole(&table);
+                is_whole(&table, &mut others);
                 accepted += 1;
             }
             Err(refusal) => {
@@ -60,7 +63,8 @@ fn any_message_is_read_to_a_whole_table_or_refused() {
 #[test]
 fn any_numbers_are_a_whole_table_or_refused() {
     let mut numbers = Numbers(2);
-    let mut buffers = Buffers::new();
+    let mut buffers = Buffers::new(Form::Small);
+    let mut others = Form::ALL.map(Buffers::new);
     let table = buffers.read(REPORT).unwrap();
     let (mut taken, mut refused) = (0, 0);
     for _ in 0..4000 {
@@ -68,12 +72,12 @@ fn any_numbers_are_a_whole_table_or_refused() {
         let mut leaves = table.leaf_rows().to_vec();
         let mut text = table.text().to_vec();
         let mut card = table.card();
-        let number = [0, 1, 2, 65535, numbers.below(256)][numbers.below(5)];
+        let number = [0, 1, 2, 65535, 65537, numbers.below(256)][numbers.below(6)];
         let at = numbers.below(1 << 20);
         let rows = [segments.len(), leaves.len(), text.len()];
         match numbers.below(4) {
-            0 => segments[at % rows[0]] = number as u16,
-            1 => leaves[at % rows[1]] = number as u16,
+            0 => segments[at % rows[0]] = number as u32,
+            1 => leaves[at % rows[1]] = number as u32,
             2 => text[at % rows[2]] = number as u8,
             _ => {
                 card = Card {
@@ -83,9 +87,9 @@ fn any_numbers_are_a_whole_table_or_refused() {
                 }
             }
         }
-        match Table::new(card, &segments, &leaves, &text) {
+        match Table::new(Form::Small, card, &segments, &leaves, &text) {
             Ok(table) => {
-                is_whole(&table);
+                is_whole(&table, &mut others);
                 taken += 1;
             }
             Err(refusal) => {

@@ -1,9 +1,9 @@
 use crate::{row, REPORT, SMALL};
-use sargaceu::{latin1, Buffers, Kind, Row, Sought};
+use sargaceu::{latin1, Buffers, Form, Kind, Row, Sought};
 
 #[test]
 fn leaves_are_found_by_their_place() {
-    let mut buffers = Buffers::new();
+    let mut buffers = Buffers::new(Form::Small);
     let table = buffers.read(SMALL).unwrap();
     let text = |place| table.leaf(place).text();
     assert_eq!(text(row(2).field(6)), Some(&b"DUPONT"[..]));
@@ -13,13 +13,16 @@ fn leaves_are_found_by_their_place() {
     assert_eq!(text(row(4).field(7)), None);
     assert_eq!(text(row(4).field(0)), None);
     assert_eq!(text(row(4).field(6).repetition(2)), None);
-    assert_eq!(text(row(4).field(6).subsubfield(65535)), None);
+    assert_eq!(text(row(4).field(6).subsubfield(u32::MAX)), None);
     assert_eq!(text(row(65535).field(1)), None);
+    // a number is not cut to its lower half
+    assert_eq!(text(row(4).field(65542)), None);
+    assert_eq!(text(row(65540).field(6)), None);
 }
 
 #[test]
 fn a_leaf_sent_empty_is_not_one_that_was_never_sent() {
-    let mut buffers = Buffers::new();
+    let mut buffers = Buffers::new(Form::Small);
     let message = b"H|~^\\&|||LAB||ORU\rP|1\rOBR|1\rOBX|1|NM|GLY||1.2|g/L\rOBX|2|NM|PH||7.4|\rOBX|3|NM|K||5.6\rL|1\r";
     let table = buffers.read(message).unwrap();
     let [sent, empty, missing] = [4, 5, 6].map(|number| table.leaf(row(number).field(7)));
@@ -44,7 +47,7 @@ fn a_leaf_sent_empty_is_not_one_that_was_never_sent() {
 
 #[test]
 fn an_empty_first_leaf_does_not_make_the_field_empty() {
-    let mut buffers = Buffers::new();
+    let mut buffers = Buffers::new(Form::Small);
     let table = buffers.read(b"H|~^\\&|||LAB||ADM\rP|~b\rL\r").unwrap();
     let field = row(2).field(2);
     assert_eq!(table.leaf(field), Sought::Empty);
@@ -54,7 +57,7 @@ fn an_empty_first_leaf_does_not_make_the_field_empty() {
 
 #[test]
 fn repetitions_and_subsubfields_have_places() {
-    let mut buffers = Buffers::new();
+    let mut buffers = Buffers::new(Form::Small);
     let message = b"H|~^\\&|||LAB||ADM\rP|1^a&b~c\rL\r";
     let table = buffers.read(message).unwrap();
     let text = |place| table.leaf(place).text().map(latin1);
@@ -70,7 +73,7 @@ fn repetitions_and_subsubfields_have_places() {
 
 #[test]
 fn every_leaf_is_found_at_its_own_place() {
-    let mut buffers = Buffers::new();
+    let mut buffers = Buffers::new(Form::Small);
     for message in [SMALL, REPORT] {
         let table = buffers.read(message).unwrap();
         assert_eq!(table.leaves().len(), table.card().leaves);
@@ -92,7 +95,7 @@ fn every_leaf_is_found_at_its_own_place() {
 
 #[test]
 fn the_leaves_of_the_rows_are_the_leaves_of_the_table() {
-    let mut buffers = Buffers::new();
+    let mut buffers = Buffers::new(Form::Small);
     for message in [SMALL, REPORT] {
         let table = buffers.read(message).unwrap();
         let by_rows = table.rows().flat_map(|segment| segment.leaves());
@@ -109,7 +112,7 @@ fn the_leaves_of_the_rows_are_the_leaves_of_the_table() {
 
 #[test]
 fn a_leaf_is_shown_as_a_string() {
-    let mut buffers = Buffers::new();
+    let mut buffers = Buffers::new(Form::Small);
     let table = buffers.read(REPORT).unwrap();
     let result = table
         .rows()

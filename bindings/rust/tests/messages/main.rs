@@ -1,6 +1,8 @@
-//! The calls that a results store makes, on small messages and on the sample report. What the tests count is counted from the message.
+//! The calls that a results store makes, on small messages, on the sample report and on messages at the limits of both forms. What the tests
+//! count is counted from the message.
 
 mod any;
+mod forms;
 mod leaves;
 mod names;
 mod orders;
@@ -10,6 +12,7 @@ mod screening;
 mod values;
 mod walking;
 mod watching;
+mod widening;
 mod writing;
 
 use sargaceu::Row;

@@ -1,9 +1,9 @@
 use crate::row;
-use sargaceu::{Buffers, Sought};
+use sargaceu::{Buffers, Form, Sought};
 
 #[test]
 fn orders_are_the_same_by_their_number() {
-    let (mut one, mut two) = (Buffers::new(), Buffers::new());
+    let (mut one, mut two) = (Buffers::new(Form::Small), Buffers::new(Form::Small));
     let asked = one
         .read(b"H|~^\\&|||LAB||ORM\rP|1\rOBR|1||A~17\rL|1\r")
         .unwrap();
@@ -20,7 +20,7 @@ fn orders_are_the_same_by_their_number() {
 
 #[test]
 fn an_order_without_a_number_is_not_the_same_as_itself() {
-    let mut buffers = Buffers::new();
+    let mut buffers = Buffers::new(Form::Small);
     let table = buffers
         .read(b"H|~^\\&|||LAB||ORM\rP|1\rOBR|1||A\rL|1\r")
         .unwrap();
@@ -29,7 +29,7 @@ fn an_order_without_a_number_is_not_the_same_as_itself() {
 
 #[test]
 fn two_orders_whose_number_was_sent_empty_are_not_the_same() {
-    let (mut one, mut two) = (Buffers::new(), Buffers::new());
+    let (mut one, mut two) = (Buffers::new(Form::Small), Buffers::new(Form::Small));
     let message = b"H|~^\\&|||LAB||ORM\rP|1\rOBR|1||A~\rOBR|2||A~\rOBR|3||A~7\rL|1\r";
     let table = one.read(message).unwrap();
     let again = two.read(message).unwrap();

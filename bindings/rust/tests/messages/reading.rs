@@ -1,9 +1,13 @@
 use crate::{leaves, segments, REPORT, SMALL};
-use sargaceu::{latin1, read, size, Buffers, Card, Context, Number, Refusal, Table};
+use sargaceu::size::{self, small};
+use sargaceu::{latin1, read, Buffers, Card, Context, Form, Number, Refusal, Table};
 use std::error::Error;
 
 fn refusal(message: &[u8]) -> (u8, usize) {
-    let refusal = Buffers::new().read(message).map(|_| ()).unwrap_err();
+    let refusal = Buffers::new(Form::Small)
+        .read(message)
+        .map(|_| ())
+        .unwrap_err();
     (refusal.number as u8, refusal.place)
 }
 
@@ -13,7 +17,7 @@ fn refused(number: Number) -> Refusal {
 
 #[test]
 fn a_message_is_filed() {
-    let mut buffers = Buffers::new();
+    let mut buffers = Buffers::new(Form::Small);
     let table = buffers.read(SMALL).unwrap();
     let card = Card {
         segments: 5,
@@ -34,7 +38,7 @@ fn a_message_is_filed() {
 
 #[test]
 fn the_card_counts_what_the_message_has() {
-    let mut buffers = Buffers::new();
+    let mut buffers = Buffers::new(Form::Small);
     for message in [SMALL, REPORT] {
         let card = buffers.read(message).unwrap().card();
         let segments = segments(message);
@@ -49,7 +53,7 @@ fn the_card_counts_what_the_message_has() {
 
 #[test]
 fn every_number_comes_with_its_place() {
-    assert_eq!(refusal(&[b'H'; size::MESSAGE + 1]), (2, 0));
+    assert_eq!(refusal(&[b'H'; small::MESSAGE + 1]), (2, 0));
     assert_eq!(refusal(b""), (3, 0));
     assert_eq!(refusal(b"H||^\\&|\r"), (3, 0));
     assert_eq!(refusal(b"H|~^\\&|||\x01LAB\r"), (4, 9));
@@ -78,38 +82,56 @@ fn every_number_comes_with_its_place() {
 
 #[test]
 fn a_refusal_changes_no_buffer() {
-    let mut text = [7; size::TEXT];
-    let mut segments = [7; size::SEGMENTS];
-    let mut leaves = [7; size::LEAVES];
-    let broken = read(b"", &mut text, &mut segments, &mut leaves);
+    let mut text = [7; small::TEXT];
+    let mut segments = [7; small::SEGMENTS];
+    let mut leaves = [7; small::LEAVES];
+    let broken = read(Form::Small, b"", &mut text, &mut segments, &mut leaves);
     assert_eq!(broken, Err(refused(Number::BrokenHeader)));
     let short = Err(refused(Number::ShortBuffer));
     assert_eq!(
-        read(SMALL, &mut text[1..], &mut segments, &mut leaves),
+        read(
+            Form::Small,
+            SMALL,
+            &mut text[1..],
+            &mut segments,
+            &mut leaves
+        ),
         short
     );
     assert_eq!(
-        read(SMALL, &mut text, &mut segments[1..], &mut leaves),
+        read(
+            Form::Small,
+            SMALL,
+            &mut text,
+            &mut segments[1..],
+            &mut leaves
+        ),
         short
     );
     assert_eq!(
-        read(SMALL, &mut text, &mut segments, &mut leaves[1..]),
+        read(
+            Form::Small,
+            SMALL,
+            &mut text,
+            &mut segments,
+            &mut leaves[1..]
+        ),
         short
     );
-    assert_eq!(read(SMALL, &mut [], &mut [], &mut []), short);
+    assert_eq!(read(Form::Small, SMALL, &mut [], &mut [], &mut []), short);
     assert!(text.iter().all(|&byte| byte == 7));
     assert!(segments.iter().chain(&leaves).all(|&number| number == 7));
 }
 
 #[test]
 fn longer_buffers_are_used_at_their_front() {
-    let mut text = [7; size::TEXT + 1];
-    let mut segments = [7; size::SEGMENTS + 1];
-    let mut leaves = [7; size::LEAVES + 1];
-    let mut buffers = Buffers::new();
+    let mut text = [7; small::TEXT + 1];
+    let mut segments = [7; small::SEGMENTS + 1];
+    let mut leaves = [7; small::LEAVES + 1];
+    let mut buffers = Buffers::new(Form::Small);
     let table = buffers.read(SMALL).unwrap();
     let card = table.card();
-    let longer = read(SMALL, &mut text, &mut segments, &mut leaves);
+    let longer = read(Form::Small, SMALL, &mut text, &mut segments, &mut leaves);
     assert_eq!(longer, Ok(table));
     assert!(text[card.text..].iter().all(|&byte| byte == 7));
     let rows = &segments[card.segments * size::SEGMENT_ROW..];
@@ -120,57 +142,75 @@ fn longer_buffers_are_used_at_their_front() {
 
 #[test]
 fn a_table_that_was_kept_is_taken_again_and_a_damaged_one_refused() {
-    let mut buffers = Buffers::new();
+    let mut buffers = Buffers::new(Form::Small);
     let table = buffers.read(REPORT).unwrap();
     let card = table.card();
     let (segments, leaves, text) = (table.segment_rows(), table.leaf_rows(), table.text());
-    assert_eq!(Table::new(card, segments, leaves, text), Ok(table));
+    assert_eq!(
+        Table::new(Form::Small, card, segments, leaves, text),
+        Ok(table)
+    );
     let longer = [text, b"more"].concat();
-    assert_eq!(Table::new(card, segments, leaves, &longer), Ok(table));
+    assert_eq!(
+        Table::new(Form::Small, card, segments, leaves, &longer),
+        Ok(table)
+    );
 
     let no_table = Err(refused(Number::NoTable));
-    assert_eq!(Table::new(card, segments, leaves, &text[1..]), no_table);
-    assert_eq!(Table::new(card, &[], &[], &[]), no_table);
+    assert_eq!(
+        Table::new(Form::Small, card, segments, leaves, &text[1..]),
+        no_table
+    );
+    assert_eq!(Table::new(Form::Small, card, &[], &[], &[]), no_table);
     let past = Card {
         leaves: usize::MAX,
         ..card
     };
-    assert_eq!(Table::new(past, segments, leaves, text), no_table);
+    assert_eq!(
+        Table::new(Form::Small, past, segments, leaves, text),
+        no_table
+    );
     let mut owners = segments.to_vec();
     owners[5] = 2;
-    assert_eq!(Table::new(card, &owners, leaves, text), no_table);
+    assert_eq!(
+        Table::new(Form::Small, card, &owners, leaves, text),
+        no_table
+    );
 }
 
 #[test]
 fn a_refusal_says_what_it_is_for() {
-    let refusal: Box<dyn Error> = Box::new(Buffers::new().read(b"").unwrap_err());
+    let refusal: Box<dyn Error> = Box::new(Buffers::new(Form::Small).read(b"").unwrap_err());
     assert!(refusal.to_string().ends_with("(refusal 3)"));
-    let open = Buffers::new().read(&SMALL[..10]).unwrap_err();
+    let open = Buffers::new(Form::Small).read(&SMALL[..10]).unwrap_err();
     assert_eq!(
         open.to_string(),
         "the last line is not closed, at offset 10 (refusal 6)"
     );
-    let long = Buffers::new().read(&[b'H'; size::MESSAGE + 1]).unwrap_err();
+    let long = Buffers::new(Form::Small)
+        .read(&[b'H'; small::MESSAGE + 1])
+        .unwrap_err();
     assert_eq!(
         long.to_string(),
-        "the message has over 16,384 bytes (refusal 2)"
+        "the message has over 16,384 bytes, in the large form over 1,048,576 (refusal 2)"
     );
 }
 
 #[test]
 fn buffers_and_tables_are_shown_in_short_and_may_go_to_other_threads() {
     fn goes<T: Send + Sync>(_: &T) {}
-    let mut buffers = Buffers::default();
+    let mut buffers = Buffers::new(Form::Small);
     goes(&buffers);
-    assert_eq!(format!("{buffers:?}"), "Buffers { .. }");
+    assert_eq!(format!("{buffers:?}"), "Buffers { form: Small, .. }");
     let table = buffers.read(SMALL).unwrap();
     goes(&table);
-    assert!(format!("{table:?}").starts_with("Table { card: Card { separator: 124, context: ORU,"));
+    let shown = "Table { form: Small, card: Card { separator: 124, context: ORU,";
+    assert!(format!("{table:?}").starts_with(shown));
 }
 
 #[test]
 fn a_message_is_listed() {
-    let mut buffers = Buffers::new();
+    let mut buffers = Buffers::new(Form::Small);
     let listing = buffers.list(REPORT);
     let rows = listing.lines().filter(|line| line.starts_with("seg="));
     assert_eq!(rows.count(), segments(REPORT).len());

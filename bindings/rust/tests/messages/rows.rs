@@ -1,9 +1,9 @@
 use crate::{leaves, row, segments, REPORT, SMALL};
-use sargaceu::{Buffers, Kind, Row};
+use sargaceu::{Buffers, Form, Kind, Row};
 
 #[test]
 fn a_row_says_its_kind_owner_and_leaves() {
-    let mut buffers = Buffers::new();
+    let mut buffers = Buffers::new(Form::Small);
     let table = buffers.read(SMALL).unwrap();
     let result = table.row(row(4)).unwrap();
     assert_eq!(result.row(), row(4));
@@ -18,7 +18,7 @@ fn a_row_says_its_kind_owner_and_leaves() {
 
 #[test]
 fn all_rows_are_the_segments_of_the_message() {
-    let mut buffers = Buffers::new();
+    let mut buffers = Buffers::new(Form::Small);
     for message in [SMALL, REPORT] {
         let table = buffers.read(message).unwrap();
         let segments = segments(message);
@@ -46,7 +46,7 @@ fn all_rows_are_the_segments_of_the_message() {
 
 #[test]
 fn rows_are_found_by_kind_and_owner() {
-    let mut buffers = Buffers::new();
+    let mut buffers = Buffers::new(Form::Small);
     let table = buffers.read(SMALL).unwrap();
     assert_eq!(
         table.next_row(None, Kind::P, Some(Row::FIRST)),
@@ -65,7 +65,7 @@ fn rows_are_found_by_kind_and_owner() {
 
 #[test]
 fn every_owned_row_is_one_of_the_children_of_its_owner() {
-    let mut buffers = Buffers::new();
+    let mut buffers = Buffers::new(Form::Small);
     for message in [SMALL, REPORT] {
         let table = buffers.read(message).unwrap();
         let mut found = 0;
@@ -88,7 +88,7 @@ fn every_owned_row_is_one_of_the_children_of_its_owner() {
 
 #[test]
 fn children_that_are_over_stay_over() {
-    let mut buffers = Buffers::new();
+    let mut buffers = Buffers::new(Form::Small);
     let table = buffers.read(SMALL).unwrap();
     let mut patients = table.children(Row::FIRST, Kind::P);
     assert_eq!(patients.next(), Some(row(2)));

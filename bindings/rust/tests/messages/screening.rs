@@ -1,5 +1,5 @@
 use crate::{row, segments, SCREENING, SCREENING_REFUSED};
-use sargaceu::{lines, Buffers, Context, Kind, Number, Refusal};
+use sargaceu::{lines, Buffers, Context, Form, Kind, Number, Refusal};
 
 /// Two patients that meet all rules in few fields; the codes of the second stand under two orders.
 const SOUND: &str = "H|~^\\&|||LAB||ORU\r\
@@ -31,7 +31,10 @@ fn with(changes: &[(&str, &str)]) -> String {
 }
 
 fn verdict(message: &str) -> Result<(), Refusal> {
-    Buffers::new().read(message.as_bytes()).unwrap().screen()
+    Buffers::new(Form::Small)
+        .read(message.as_bytes())
+        .unwrap()
+        .screen()
 }
 
 fn no(number: Number, place: usize) -> Result<(), Refusal> {
@@ -41,13 +44,13 @@ fn no(number: Number, place: usize) -> Result<(), Refusal> {
 #[test]
 fn a_report_that_meets_all_rules_passes() {
     assert_eq!(verdict(SOUND), Ok(()));
-    let mut buffers = Buffers::new();
+    let mut buffers = Buffers::new(Form::Small);
     assert_eq!(buffers.read(SCREENING).unwrap().screen(), Ok(()));
 }
 
 #[test]
 fn the_row_of_a_no_is_that_of_the_joined_segment() {
-    let mut buffers = Buffers::new();
+    let mut buffers = Buffers::new(Form::Small);
     let table = buffers.read(SCREENING_REFUSED).unwrap();
     let is_home =
         |text: &[u8]| text.starts_with(b"OBX") && text.windows(4).any(|part| part == b"||M~");

@@ -1,5 +1,5 @@
 use crate::{row, REPORT};
-use sargaceu::{read_value, size, Buffers, Kind, Number, Refusal, Row, Table, Value};
+use sargaceu::{read_value, size, Buffers, Form, Kind, Number, Refusal, Row, Table, Value};
 
 fn value(whole: i64, decimals: u8) -> Value {
     Value::new(whole, decimals).unwrap()
@@ -180,7 +180,7 @@ fn values(table: &Table<'_>, order: usize) -> Vec<Result<Value, Refusal>> {
 
 #[test]
 fn the_values_of_an_order_are_those_of_its_numeric_results_in_row_order() {
-    let mut buffers = Buffers::new();
+    let mut buffers = Buffers::new(Form::Small);
     let table = buffers.read(ORDERS).unwrap();
     let first = [
         Ok(value(480, 1)),
@@ -194,7 +194,7 @@ fn the_values_of_an_order_are_those_of_its_numeric_results_in_row_order() {
 
 #[test]
 fn a_value_that_is_not_one_leaf_is_no_number() {
-    let mut buffers = Buffers::new();
+    let mut buffers = Buffers::new(Form::Small);
     let results = [
         "|NM",
         "|NM|K|",
@@ -224,7 +224,7 @@ fn a_value_that_is_not_one_leaf_is_no_number() {
 
 #[test]
 fn a_row_that_is_no_order_is_refused() {
-    let mut buffers = Buffers::new();
+    let mut buffers = Buffers::new(Form::Small);
     let table = buffers.read(ORDERS).unwrap();
     let orders: Vec<Row> = table
         .rows()
@@ -242,21 +242,26 @@ fn a_row_that_is_no_order_is_refused() {
 
 #[test]
 fn all_results_that_a_table_has_room_for_are_given() {
-    let mut buffers = Buffers::new();
-    let mut message = b"H|~^\\&|||LAB||ORU\rP|1\rOBR|1\r".to_vec();
-    for number in 0..252 {
-        message.extend(format!("OBX|{number}|NM|K||{number}.0\r").bytes());
+    for form in Form::ALL {
+        let mut buffers = Buffers::new(form);
+        let results = form.values() as i64 - 4;
+        let mut message = b"H|~^\\&|||LAB||ORU\rP|1\rOBR|1\r".to_vec();
+        for number in 0..results {
+            message.extend(format!("OBX|{number}|NM|K||{number}.0\r").bytes());
+        }
+        message.extend(b"L|1\r");
+        let table = buffers.read(&message).unwrap();
+        assert_eq!(table.card().segments, form.values());
+        let expected: Vec<_> = (0..results)
+            .map(|number| Ok(value(number * 10, 1)))
+            .collect();
+        assert_eq!(values(&table, 3), expected);
     }
-    message.extend(b"L|1\r");
-    let table = buffers.read(&message).unwrap();
-    assert_eq!(table.card().segments, 256);
-    let expected: Vec<_> = (0..252).map(|number| Ok(value(number * 10, 1))).collect();
-    assert_eq!(values(&table, 3), expected);
 }
 
 #[test]
 fn a_value_is_what_its_leaf_says() {
-    let mut buffers = Buffers::new();
+    let mut buffers = Buffers::new(Form::Small);
     let table = buffers.read(REPORT).unwrap();
     let mut told = Vec::new();
     for order in table.rows().filter(|segment| segment.kind() == Kind::OBR) {

@@ -1,5 +1,5 @@
 use crate::{REPORT, SMALL};
-use sargaceu::{Buffers, Context, Kind, Watcher};
+use sargaceu::{Buffers, Context, Form, Kind, Watcher};
 
 #[test]
 fn a_watcher_says_what_may_come_next() {
@@ -20,7 +20,7 @@ fn a_watcher_says_what_may_come_next() {
 
 #[test]
 fn the_kinds_of_a_table_are_an_order_that_its_context_allows() {
-    let mut buffers = Buffers::new();
+    let mut buffers = Buffers::new(Form::Small);
     for message in [SMALL, REPORT] {
         let table = buffers.read(message).unwrap();
         let mut watcher = Watcher::begin(table.card().context);

@@ -1,11 +1,11 @@
 use crate::{segments, REPORT, SMALL};
-use sargaceu::{lines, size, Buffers, Number, Refusal, Written};
+use sargaceu::{lines, size::small, Buffers, Form, Number, Refusal, Written};
 
 #[test]
 fn a_message_is_written_back() {
-    let mut buffers = Buffers::new();
+    let mut buffers = Buffers::new(Form::Small);
     let table = buffers.read(SMALL).unwrap();
-    let mut output = [7; size::OUTPUT + 1];
+    let mut output = [7; small::OUTPUT + 1];
     let written = Written {
         bytes: SMALL.len(),
         lines: segments(SMALL).len(),
@@ -18,7 +18,7 @@ fn a_message_is_written_back() {
 
 #[test]
 fn what_is_written_reads_to_the_same_table() {
-    let (mut one, mut two) = (Buffers::new(), Buffers::new());
+    let (mut one, mut two) = (Buffers::new(Form::Small), Buffers::new(Form::Small));
     for message in [SMALL, REPORT] {
         let table = one.read(message).unwrap();
         let written = table.to_message();
@@ -29,7 +29,7 @@ fn what_is_written_reads_to_the_same_table() {
 
 #[test]
 fn lines_are_counted_and_long_segments_cut() {
-    let mut buffers = Buffers::new();
+    let mut buffers = Buffers::new(Form::Small);
     for bytes in [219, 220, 436, 437] {
         // a segment of so many bytes, cut by hand into lines of 100
         let segment = [&b"ERR|"[..], &vec![b'x'; bytes - 4]].concat();
@@ -41,7 +41,7 @@ fn lines_are_counted_and_long_segments_cut() {
         }
         message.extend(b"L|1\r\n");
         let table = buffers.read(&message).unwrap();
-        let mut output = [0; size::OUTPUT];
+        let mut output = [0; small::OUTPUT];
         let written = table.write(&mut output).unwrap();
         let walked: Vec<_> = lines(&output[..written.bytes]).collect();
         assert!(walked.iter().all(Result::is_ok));
@@ -58,9 +58,9 @@ fn lines_are_counted_and_long_segments_cut() {
 
 #[test]
 fn a_short_output_is_refused_and_not_touched() {
-    let mut buffers = Buffers::new();
+    let mut buffers = Buffers::new(Form::Small);
     let table = buffers.read(SMALL).unwrap();
-    let mut output = [7; size::OUTPUT - 1];
+    let mut output = [7; small::OUTPUT - 1];
     let refusal = Refusal {
         number: Number::ShortOutput,
         place: 0,

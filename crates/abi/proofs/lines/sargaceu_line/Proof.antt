@@ -1,7 +1,7 @@
 -- `abi::lines::sargaceu_line` meets its contract: what stands at the place, told and put into the answer.
 -- Assumes nothing.
 use mathlib.Core.Path.{sym, _∙_}
-use Rattle.form.specs.Limits.{form}
+use Rattle.form.specs.Forms.{smallForm}
 use Rattle.line.specs.Finding.{foundAt}
 use Rattle.abi.proofs.LineAnswers.{line-short, line-found, line-end, line-fault}
 use borrow.Author.Needs.{needs}
@@ -12,7 +12,7 @@ returns : tie.Need-returns
 returns c =
     let at-args = c .before .before .before .args in
     let at-if1 = c .if1 in
-    line-short (foundAt form (at-args .message .now) (at-args .at)) (at-args .at) (at-args .answer .now) (at-if1 .taken)
+    line-short (foundAt smallForm (at-args .message .now) (at-args .at)) (at-args .at) (at-args .answer .now) (at-if1 .taken)
 
 line-at-requires : tie.Need-line-at-requires
 line-at-requires c κs = search needs

@@ -1,7 +1,8 @@
 -- `abi::writing::sargaceu_is_table` meets its contract: the table test of the card that came in.
 -- Assumes nothing.
-use mathlib.Core.Path.{ap, _∙_}
-use Rattle.form.specs.Limits.{form}
+use mathlib.Core.Path.{ap₂, _∙_}
+use Rattle.form.specs.declared.forms.Form.{Form}
+use Rattle.form.specs.Forms.{limitsOf}
 use Rattle.order.specs.Owners.{level}
 use Rattle.table.specs.declared.Card.{Card}
 use Rattle.table.specs.Lent.{lent}
@@ -18,10 +19,11 @@ is-table-requires c κs = search needs
 
 returns : tie.Need-returns
 returns c =
-    let at-is-table = c .is-table in
-    let at-args = c .before .before .before .before .before .before .args in
-    let at-card-of = c .before .card-of in
-    at-is-table .ensures ∙ ap (λ (k : Card). isTable form level (lent k (at-args .segments .now) (at-args .leaves .now) (at-args .text .now))) (at-card-of .ensures)
+    let taken = c .before in
+    let a = taken .before .before .before .before .before .before .args in
+    c .is-table .ensures
+    ∙ ap₂ (λ (f : Form) (k : Card). isTable (limitsOf f) level (lent k (a .segments .now) (a .leaves .now) (a .text .now))) (taken .before .form-of .ensures)
+    (taken .card-of .ensures)
 
 pub sargaceu-is-table-spec : {M : Type 1} → statement M
-sargaceu-is-table-spec = tie.close (tie.spec card-of-requires is-table-requires returns)
+sargaceu-is-table-spec = tie.close (tie.spec (λ c κs. search needs) card-of-requires is-table-requires returns)

@@ -1,0 +1,6 @@
+-- The version of the archive (include/sargaceu.h): the first had rows of 16 bits and one form.
+-- Assumes nothing.
+use Prim.Native.Nat.{ℕ}
+
+abbrev pub version : ℕ
+version = 2
