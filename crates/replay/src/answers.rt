@@ -1,5 +1,5 @@
-// The answers that are lent to operation 1023, each in three buffers: how many there are, what they hold before a case, and their sum. No
-// other operation has them, so this one fills them.
+// The answers that are lent to operations 1023 and 11023, each in three buffers: how many there are, what they hold before a case, and their
+// sum. No other operation has them, so these make and fill them.
 use crate::buffers::LARGE;
 use crate::buffers::NUMBER_STEP;
 use crate::buffers::least;

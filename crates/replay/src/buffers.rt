@@ -1,11 +1,13 @@
-// The buffers that an operation writes: their sizes, what they hold before a case, and the sum by which a line shows the whole of one.
+// The buffers that an operation writes: their sizes, what they hold before it, and the sum by which a line shows the whole of one.
 use table::rows::Entry;
 ghost use Prim.Native.Nat.{_≤_};
 
-// The longest that a case asks for, of bytes and of row numbers.
-pub const TEXT: usize = 16400;
+// The longest that a case asks for: bytes of a message or a text area, numbers of segment rows and of leaf rows.
+pub const BYTES: usize = 1048600;
 
-pub const ROWS: usize = 14400;
+pub const SEGMENT_ROWS: usize = 20500;
+
+pub const LEAF_ROWS: usize = 458800;
 
 // Bytes are filled in modulo the one; row numbers are filled in, and sums are taken, modulo the other.
 const SMALL: usize = 251;
@@ -56,24 +58,30 @@ pub fn wide(b: u8) -> Entry {
     b as Entry
 }
 
-// Bytes as they are to stand before a case: (7 i + 3) mod 251.
-pub fn filled_bytes() -> [u8; TEXT] {
-    let mut bytes = [0; TEXT];
+// Fills bytes as they are to stand before an operation: (7 i + 3) mod 251.
+pub fn fill_bytes(bytes: &mut [u8]) {
     let mut i = 0;
-    while i < TEXT {
-        bytes[i] = ((BYTE_STEP * i + 3) % SMALL) as u8;
+    while i < bytes.len() {
+        bytes[i] = byte_before(i);
         i += 1;
     }
-    bytes
 }
 
-// Row numbers likewise: (13 i + 5) mod 65,521.
-pub fn filled_numbers() -> [Entry; ROWS] {
-    let mut numbers = [0; ROWS];
+// Byte i of them. The remainder of i gives the same, and its product fits a number whatever i is.
+fn byte_before(i: usize) -> u8 {
+    ((BYTE_STEP * (i % SMALL) + 3) % SMALL) as u8
+}
+
+// Fills row numbers likewise: (13 i + 5) mod 65,521.
+pub fn fill_numbers(numbers: &mut [Entry]) {
     let mut i = 0;
-    while i < ROWS {
-        numbers[i] = ((NUMBER_STEP * i + 5) % LARGE) as Entry;
+    while i < numbers.len() {
+        numbers[i] = number_before(i);
         i += 1;
     }
-    numbers
+}
+
+// Row number i of them.
+fn number_before(i: usize) -> Entry {
+    ((NUMBER_STEP * (i % LARGE) + 5) % LARGE) as Entry
 }

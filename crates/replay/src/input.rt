@@ -6,10 +6,13 @@ use table::rows::Entry;
 // More than every number and every place in a buffer, so that one test rules out what is missing and what is past a limit.
 pub const MISSING: usize = usize::MAX;
 
-// The largest number of a case, and the last place in a buffer of pieces.
-pub const MOST: usize = u16::MAX as usize;
+// The largest number of a case.
+const LARGEST: usize = u32::MAX as usize;
 
-// Room for the longest case, which has two tables: every place that a number tells, and as far as a byte goes behind it.
+// The last place in a buffer of pieces.
+pub const LAST: usize = 65535;
+
+// Room for the longest case, which has two tables: every place, and as far as a byte goes behind it.
 pub const ROOM: usize = 65792;
 
 // A number: four bytes, the lowest first.
@@ -26,26 +29,33 @@ fn number_of(a: u8, b: u8, c: u8, d: u8) -> usize {
     a as usize + 256 * (b as usize + 256 * (c as usize + 256 * (d as usize)))
 }
 
-// So many numbers, put into a buffer from a place on. Answers the place behind them; MISSING too where one is too large or finds no room.
+// So many numbers, put into a buffer from a place on. Answers the place behind them; MISSING too where one finds no room.
 pub fn numbers_in(buffer: &mut [Entry; ROOM], from: usize, count: usize) -> usize {
     let mut at = from;
     let mut left = count;
     while left > 0 {
-        let n = number();
-        if MOST < n {
+        at = put_number(buffer, at, number());
+        if at == MISSING {
             return MISSING;
         }
-        if MOST < at {
-            return MISSING;
-        }
-        buffer[at] = n as Entry;
-        at += 1;
         left -= 1;
     }
     at
 }
 
-// The same of bytes.
+// One number, put into a buffer at a place. Answers the place behind it, and MISSING where it is missing or finds no room.
+pub fn put_number(buffer: &mut [Entry; ROOM], at: usize, n: usize) -> usize {
+    if LARGEST < n {
+        return MISSING;
+    }
+    if LAST < at {
+        return MISSING;
+    }
+    buffer[at] = n as Entry;
+    at + 1
+}
+
+// So many bytes likewise.
 pub fn bytes_in(buffer: &mut [u8], from: usize, count: usize) -> usize {
     let begin = least(from, buffer.len());
     let end = begin + least(count, buffer.len() - begin);

@@ -1,11 +1,15 @@
 // The pieces of a case. They are put one behind the other, numbers in one buffer and bytes in another at the same places. The first numbers
-// tell where each piece begins: piece k lies from the place that number k tells to the place that number k + 1 tells.
+// tell where each piece begins: piece k lies from the place that number k tells to the place that number k + 1 tells. A message in parts has
+// a third buffer to itself.
+use crate::buffers::BYTES;
 use crate::buffers::least;
-use crate::input::MOST;
+use crate::input::LAST;
 use crate::input::ROOM;
 use crate::input::bytes_in;
 use crate::input::number;
 use crate::input::numbers_in;
+use crate::input::put_number;
+use crate::messages::message_in;
 use table::rows::Entry;
 use table::rows::wide;
 
@@ -16,27 +20,34 @@ const FIRST: Entry = 17;
 
 const BASE: usize = 16;
 
-// The digits for a row of numbers and for bytes, whose counts come first, and for the bytes of a whole number with its sign. A smaller digit
-// is for so many numbers.
+// The digits for a row of numbers and for text, whose counts come first, for the bytes of a whole number with its sign, and for a message in
+// parts. A smaller digit is for so many numbers.
 const ROW: usize = 0xA;
 
-const BYTES: usize = 0xB;
+const TEXT: usize = 0xB;
 
 const WHOLE: usize = 0xC;
+
+const PARTS: usize = 0xD;
 
 // How many bytes a whole number with its sign has.
 pub const WHOLE_BYTES: u8 = 8;
 
 // Takes in the pieces that the digits of a number say, the lowest first. False where the input ends before they do, one is past the
 // format's sizes, or there are none.
-pub fn take_in(pieces: usize, numbers: &mut [Entry; ROOM], bytes: &mut [u8; ROOM]) -> bool {
+pub fn take_in(
+    pieces: usize,
+    numbers: &mut [Entry; ROOM],
+    bytes: &mut [u8; ROOM],
+    message: &mut [u8; BYTES],
+) -> bool {
     numbers[0] = FIRST;
     let mut end = FIRST as usize;
     let mut left = pieces;
     let mut k = 0;
     while k < PIECES {
-        end = piece(left % BASE, end, numbers, bytes);
-        if MOST < end {
+        end = piece(left % BASE, end, numbers, bytes, message);
+        if LAST < end {
             return false;
         }
         left /= BASE;
@@ -47,23 +58,32 @@ pub fn take_in(pieces: usize, numbers: &mut [Entry; ROOM], bytes: &mut [u8; ROOM
 }
 
 // Takes in one piece from a place on, and answers the place behind it.
-fn piece(kind: usize, from: usize, numbers: &mut [Entry; ROOM], bytes: &mut [u8; ROOM]) -> usize {
+fn piece(
+    kind: usize,
+    from: usize,
+    numbers: &mut [Entry; ROOM],
+    bytes: &mut [u8; ROOM],
+    message: &mut [u8; BYTES],
+) -> usize {
     match kind {
-        BYTES => bytes_in(bytes, from, number()),
+        TEXT => bytes_in(bytes, from, number()),
         ROW => numbers_in(numbers, from, number()),
         WHOLE => bytes_in(bytes, from, WHOLE_BYTES as usize),
+        PARTS => put_number(numbers, from, message_in(message)),
         _ => numbers_in(numbers, from, kind),
     }
 }
 
-// Number i of piece k.
+// Number i of piece k. That a place is no more than the last says to the proof that the number is there.
 pub fn number_at(numbers: &[Entry; ROOM], k: u8, i: u8) -> Entry {
-    numbers[wide(numbers[k as usize]) + i as usize]
+    let at = least(wide(numbers[k as usize]), LAST);
+    numbers[at + i as usize]
 }
 
 // Byte i of piece k.
 pub fn byte_at(numbers: &[Entry; ROOM], bytes: &[u8; ROOM], k: u8, i: u8) -> u8 {
-    bytes[wide(numbers[k as usize]) + i as usize]
+    let at = least(wide(numbers[k as usize]), LAST);
+    bytes[at + i as usize]
 }
 
 // The row of numbers that piece k is.

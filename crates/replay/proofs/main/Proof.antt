@@ -5,10 +5,10 @@ use Rattle.replay.proofs.main.Statement.{statement}
 use Rattle.replay.proofs.main.Tie as tie
 
 abbrev Inv-loop : tie.InvT-loop
-Inv-loop numbers₀ bytes₀ text-before rows-before text₀ segments₀ leaves₀ answers₀ wholes₀ decimals₀ left₀ numbers bytes text segments leaves answers wholes decimals left = Unit {0}
+Inv-loop numbers₀ bytes₀ message₀ text₀ segments₀ leaves₀ left₀ numbers bytes message text segments leaves left = Unit {0}
 
 abbrev μ-loop : tie.MeasureT-loop
-μ-loop numbers₀ bytes₀ text-before rows-before text₀ segments₀ leaves₀ answers₀ wholes₀ decimals₀ left₀ numbers bytes text segments leaves answers wholes decimals left = left
+μ-loop numbers₀ bytes₀ message₀ text₀ segments₀ leaves₀ left₀ numbers bytes message text segments leaves left = left
 
 pub main-spec : {M : Type 1} → statement M
 main-spec =
@@ -16,8 +16,6 @@ main-spec =
     (tie.spec
     Inv-loop
     μ-loop
-    (λ c κs. search needs)
-    (λ c κs. search needs)
     (λ c. search needs)
     (λ c κs. search needs)
     (λ c. search needs)

@@ -6,10 +6,10 @@ use Rattle.replay.proofs.pieces.take_in.Statement.{statement}
 use Rattle.replay.proofs.pieces.take_in.Tie as tie
 
 abbrev Inv-loop : tie.InvT-loop
-Inv-loop pieces numbers₀ bytes₀ end₀ left₀ k₀ numbers bytes end left k = Unit {0}
+Inv-loop pieces numbers₀ bytes₀ message₀ end₀ left₀ k₀ numbers bytes message end left k = Unit {0}
 
 abbrev μ-loop : tie.MeasureT-loop
-μ-loop pieces numbers₀ bytes₀ end₀ left₀ k₀ numbers bytes end left k = 16 - k
+μ-loop pieces numbers₀ bytes₀ message₀ end₀ left₀ k₀ numbers bytes message end left k = 16 - k
 
 pub take-in-spec : {M : Type 1} → statement M
 take-in-spec =
