@@ -5,8 +5,8 @@
 #include <stdio.h>
 #include "sargaceu.h"
 
-static uint8_t message[SARGACEU_MESSAGE + 1], text[SARGACEU_TEXT];
-static uint16_t segments[SARGACEU_SEGMENTS], leaves[SARGACEU_LEAVES];
+static uint8_t message[SARGACEU_SMALL_MESSAGE + 1], text[SARGACEU_SMALL_TEXT];
+static uint32_t segments[SARGACEU_SMALL_SEGMENTS], leaves[SARGACEU_SMALL_LEAVES];
 static size_t answer[SARGACEU_READ_ANSWER], *const card = answer + 1;
 
 /* The kinds of the rows that a verdict names. */
@@ -45,14 +45,14 @@ int main(void)
     size_t bytes = fread(message, 1, sizeof message, stdin), place[SARGACEU_SCREEN_ANSWER];
     if (ferror(stdin))
         return 2;
-    uint8_t number = sargaceu_read(message, bytes, text, SARGACEU_TEXT, segments, SARGACEU_SEGMENTS,
-                                   leaves, SARGACEU_LEAVES, answer, SARGACEU_READ_ANSWER);
+    uint8_t number = sargaceu_read(SARGACEU_SMALL, message, bytes, text, SARGACEU_SMALL_TEXT, segments, SARGACEU_SMALL_SEGMENTS,
+                                   leaves, SARGACEU_SMALL_LEAVES, answer, SARGACEU_READ_ANSWER);
     if (number != SARGACEU_ACCEPTED) {
         printf("refused: %d at %zu\n", number, answer[0]);
         return 1;
     }
-    number = sargaceu_screen(card, SARGACEU_CARD, segments, SARGACEU_SEGMENTS, leaves, SARGACEU_LEAVES, text, SARGACEU_TEXT,
-                             place, SARGACEU_SCREEN_ANSWER);
+    number = sargaceu_screen(SARGACEU_SMALL, card, SARGACEU_CARD, segments, SARGACEU_SMALL_SEGMENTS, leaves, SARGACEU_SMALL_LEAVES,
+                             text, SARGACEU_SMALL_TEXT, place, SARGACEU_SCREEN_ANSWER);
     if (number != SARGACEU_ACCEPTED) { /* 30 to 45, since what was read is a table */
         say_no(number, place[0]);
         return 1;

@@ -6,28 +6,28 @@
 #include <string.h>
 #include "sargaceu.h"
 
-static uint8_t message[SARGACEU_MESSAGE + 1], text[SARGACEU_TEXT];
-static uint16_t segments[SARGACEU_SEGMENTS], leaves[SARGACEU_LEAVES];
+static uint8_t message[SARGACEU_SMALL_MESSAGE + 1], text[SARGACEU_SMALL_TEXT];
+static uint32_t segments[SARGACEU_SMALL_SEGMENTS], leaves[SARGACEU_SMALL_LEAVES];
 static size_t answer[SARGACEU_READ_ANSWER], *const card = answer + 1;
-static uint8_t numbers[SARGACEU_VALUES], decimals[SARGACEU_VALUES];
-static int64_t wholes[SARGACEU_VALUES];
+static uint8_t numbers[SARGACEU_SMALL_VALUES], decimals[SARGACEU_SMALL_VALUES];
+static int64_t wholes[SARGACEU_SMALL_VALUES];
 
-static size_t next(size_t after, uint16_t kind, size_t owner)
+static size_t next(size_t after, uint32_t kind, size_t owner)
 {
-    return sargaceu_next_row(card, SARGACEU_CARD, segments, SARGACEU_SEGMENTS, after, kind, (uint16_t)owner);
+    return sargaceu_next_row(card, SARGACEU_CARD, segments, SARGACEU_SMALL_SEGMENTS, after, kind, (uint32_t)owner);
 }
 
 /* How many bytes a leaf has, and where they stand; none where it was sent empty or never sent. */
-static int leaf(size_t row, uint16_t field, uint16_t subfield, const char **at)
+static int leaf(size_t row, uint32_t field, uint32_t subfield, const char **at)
 {
     size_t found[SARGACEU_LEAF_ANSWER] = { 0, 0 };
-    sargaceu_find_leaf_in_segment(card, SARGACEU_CARD, segments, SARGACEU_SEGMENTS, leaves, SARGACEU_LEAVES, text, SARGACEU_TEXT,
-                                  (uint16_t)row, field, 1, subfield, 1, found, SARGACEU_LEAF_ANSWER);
+    sargaceu_find_leaf_in_segment(card, SARGACEU_CARD, segments, SARGACEU_SMALL_SEGMENTS, leaves, SARGACEU_SMALL_LEAVES,
+                                  text, SARGACEU_SMALL_TEXT, (uint32_t)row, field, 1, subfield, 1, found, SARGACEU_LEAF_ANSWER);
     *at = (const char *)text + found[0];
     return (int)found[1];
 }
 
-static void show(const char *what, size_t row, uint16_t field, uint16_t subfield, const char *end)
+static void show(const char *what, size_t row, uint32_t field, uint32_t subfield, const char *end)
 {
     const char *at;
     int bytes = leaf(row, field, subfield, &at);
@@ -55,8 +55,9 @@ static void show_value(uint8_t number, int64_t whole, uint8_t count)
 static void show_values(size_t order)
 {
     size_t told[SARGACEU_ORDER_ANSWER], k = 0; /* answer k is that of the k-th result of type NM */
-    uint8_t number = sargaceu_order_values(card, SARGACEU_CARD, segments, SARGACEU_SEGMENTS, leaves, SARGACEU_LEAVES, text, SARGACEU_TEXT,
-                                           (uint16_t)order, numbers, SARGACEU_VALUES, wholes, SARGACEU_VALUES, decimals, SARGACEU_VALUES,
+    uint8_t number = sargaceu_order_values(SARGACEU_SMALL, card, SARGACEU_CARD, segments, SARGACEU_SMALL_SEGMENTS,
+                                           leaves, SARGACEU_SMALL_LEAVES, text, SARGACEU_SMALL_TEXT, (uint32_t)order,
+                                           numbers, SARGACEU_SMALL_VALUES, wholes, SARGACEU_SMALL_VALUES, decimals, SARGACEU_SMALL_VALUES,
                                            told, SARGACEU_ORDER_ANSWER);
     if (number != SARGACEU_ACCEPTED)
         printf("refused: %d\n", number);
@@ -73,8 +74,8 @@ int main(void)
     size_t bytes = fread(message, 1, sizeof message, stdin);
     if (ferror(stdin))
         return 2;
-    uint8_t number = sargaceu_read(message, bytes, text, SARGACEU_TEXT, segments, SARGACEU_SEGMENTS,
-                                   leaves, SARGACEU_LEAVES, answer, SARGACEU_READ_ANSWER);
+    uint8_t number = sargaceu_read(SARGACEU_SMALL, message, bytes, text, SARGACEU_SMALL_TEXT, segments, SARGACEU_SMALL_SEGMENTS,
+                                   leaves, SARGACEU_SMALL_LEAVES, answer, SARGACEU_READ_ANSWER);
     if (number != SARGACEU_ACCEPTED) {
         printf("refused: %d at %zu\n", number, answer[0]);
         return 1;

@@ -4,18 +4,18 @@
 #include "sargaceu.h"
 
 struct table {
-    uint8_t text[SARGACEU_TEXT];
-    uint16_t segments[SARGACEU_SEGMENTS], leaves[SARGACEU_LEAVES];
+    uint8_t text[SARGACEU_SMALL_TEXT];
+    uint32_t segments[SARGACEU_SMALL_SEGMENTS], leaves[SARGACEU_SMALL_LEAVES];
     size_t answer[SARGACEU_READ_ANSWER]; /* the place, then the card */
 };
 
-static uint8_t message[SARGACEU_MESSAGE + 1], output[SARGACEU_OUTPUT];
+static uint8_t message[SARGACEU_SMALL_MESSAGE + 1], output[SARGACEU_SMALL_OUTPUT];
 static struct table first, again;
 
 static uint8_t read_into(struct table *t, const uint8_t *from, size_t bytes)
 {
-    return sargaceu_read(from, bytes, t->text, SARGACEU_TEXT, t->segments, SARGACEU_SEGMENTS, t->leaves, SARGACEU_LEAVES,
-                         t->answer, SARGACEU_READ_ANSWER);
+    return sargaceu_read(SARGACEU_SMALL, from, bytes, t->text, SARGACEU_SMALL_TEXT, t->segments, SARGACEU_SMALL_SEGMENTS,
+                         t->leaves, SARGACEU_SMALL_LEAVES, t->answer, SARGACEU_READ_ANSWER);
 }
 
 /* The card and all that it counts; what lies past the counted entries belongs to no table. */
@@ -39,8 +39,9 @@ int main(void)
         printf("refused: %d at %zu\n", number, first.answer[0]);
         return 1;
     }
-    number = sargaceu_write(first.answer + 1, SARGACEU_CARD, first.segments, SARGACEU_SEGMENTS, first.leaves, SARGACEU_LEAVES,
-                            first.text, SARGACEU_TEXT, output, SARGACEU_OUTPUT, written, SARGACEU_WRITE_ANSWER);
+    number = sargaceu_write(SARGACEU_SMALL, first.answer + 1, SARGACEU_CARD, first.segments, SARGACEU_SMALL_SEGMENTS,
+                            first.leaves, SARGACEU_SMALL_LEAVES, first.text, SARGACEU_SMALL_TEXT,
+                            output, SARGACEU_SMALL_OUTPUT, written, SARGACEU_WRITE_ANSWER);
     if (number != SARGACEU_ACCEPTED) {
         printf("not written: %d\n", number);
         return 1;

@@ -1,7 +1,7 @@
 /* Numbers that a seed determines: each trial has its own row of them, so that one trial can be made again without those before it. */
 #include "hostile.h"
 
-enum { POOL = 1 << 17 };
+enum { POOL = 1 << 22 };
 
 static uint64_t state;
 static uint64_t pool[POOL / sizeof(uint64_t)];
@@ -35,7 +35,8 @@ size_t wild(void)
 {
     static const size_t limits[] = {
         0, 1, 2, 3, 4, 5, 6, 7, 8, 11, 12, 13, 31, 32, 127, 217, 219, 220, 255, 256, 257, 1023, 1024, 1025, 2047, 2048, 2049,
-        8448, 14335, 14336, 16383, 16384, 16385, 32767, 32768, 65535, 65536, UINT32_MAX, (size_t)UINT32_MAX + 1,
+        4095, 4096, 4097, 8448, 14335, 14336, 16383, 16384, 16385, 32767, 32768, 65535, 65536, 65537, 458751, 458752,
+        1048575, 1048576, 1048577, INT32_MAX, (size_t)INT32_MAX + 1, UINT32_MAX, (size_t)UINT32_MAX + 1,
         SIZE_MAX / 7, SIZE_MAX / 7 + 1, SIZE_MAX / 4, SIZE_MAX / 4 + 1, SIZE_MAX / 2, SIZE_MAX / 2 + 1, SIZE_MAX - 1, SIZE_MAX
     };
     return one_in(4) ? chance() >> below(64) : limits[below(sizeof limits / sizeof *limits)];

@@ -1,7 +1,7 @@
 /*
- * The hostile caller: calls every function of include/sargaceu.h with damaged messages, tables, cards and lengths, in buffers with unmapped
- * pages right around them, and ends with status 1 at the first byte that is touched and should not be, or at the first answer that another
- * call or a plain loop contradicts.
+ * The hostile caller: calls every function of include/sargaceu.h with damaged messages, tables, cards and lengths of both forms, in buffers with
+ * unmapped pages right around them, and ends with status 1 at the first byte that is touched and should not be, or at the first answer that
+ * another call or a plain loop contradicts.
  *
  *   hostile [SEED [CALLS]]
  *
@@ -24,6 +24,12 @@ static bool all_verdicts(const size_t *count, size_t least)
     return all;
 }
 
+/* Of the archived tables that are refused, some for what they are and some for the buffers. */
+static bool never_read_came(const size_t *count, size_t least)
+{
+    return count[SARGACEU_NEVER_READ] >= least && count[SARGACEU_SHORT_BUFFER] >= least;
+}
+
 static const struct {
     const char *function;
     int (*try_it)(void);
@@ -44,13 +50,22 @@ static const struct {
     { "sargaceu_write_value", try_write_value, false, NULL },
     { "sargaceu_order_values", try_order_values, false, NULL },
     { "sargaceu_screen", try_screen, false, all_verdicts },
+    { "sargaceu_widen", try_widen, false, never_read_came },
+    { "sargaceu_version", try_version, false, NULL },
 };
 
-/* One line: the calls, how many were accepted and refused, those that found something empty, and the numbers of the refusals where they have one. */
+/*
+ * One line: the calls, those with something of the large form among them, how many were accepted and refused, those that found something empty,
+ * and the numbers of the refusals where they have one.
+ */
 static void show(const char *function, const size_t *count, size_t calls)
 {
     size_t accepted = count[SARGACEU_ACCEPTED] + count[EMPTY];
-    printf("%-29s %zu calls, %zu accepted", function, calls, accepted);
+    size_t large = large_forms_drawn() * SIDES;
+    printf("%-29s %zu calls", function, calls);
+    if (large > 0)
+        printf(" (large: %zu)", large);
+    printf(", %zu accepted", accepted);
     if (count[EMPTY] > 0)
         printf(" (empty: %zu)", count[EMPTY]);
     printf(", %zu refused", calls - accepted);
@@ -74,6 +89,8 @@ static bool run(size_t which, uint64_t seed, size_t calls)
         count[trials[which].try_it()] += SIDES;
     }
     show(trials[which].function, count, calls);
+    if (trials[which].try_it == try_version) /* which takes nothing and refuses nothing */
+        return true;
     return count[SARGACEU_ACCEPTED] >= least && calls - count[SARGACEU_ACCEPTED] - count[EMPTY] >= least &&
            (!trials[which].may_be_empty || count[EMPTY] >= least) &&
            (trials[which].all_came == NULL || trials[which].all_came(count, calls / VERDICT_SHARE));

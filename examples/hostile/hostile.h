@@ -15,6 +15,18 @@ size_t short_of(size_t least);             /* a size under the least one */
 size_t enough(size_t least, size_t most);  /* a size from the least one on, mostly the least */
 const void *former(size_t bytes);          /* what a buffer held before a call: any bytes, aligned for every element */
 
+/* ---- forms.c: the two forms of a message ---- */
+
+struct sizes {
+    size_t message, text, segments, leaves, output, values; /* as the header states them */
+    size_t segment_rows, leaf_rows;                         /* the most that a table has */
+};
+
+uint8_t draw_form(void);                    /* mostly the small form, by a number that may be any but that of the large one */
+uint8_t draw_form_of_two(void);             /* one of the two, the large one seldom */
+size_t large_forms_drawn(void);             /* since it was asked last */
+const struct sizes *sizes_of(uint8_t form); /* of the form that a number is taken as */
+
 /* ---- stop.c: which call is under way, and how the program ends where it went wrong ---- */
 
 enum { SIDES = 2 };
@@ -31,7 +43,7 @@ _Noreturn void fail(const char *format, ...) __attribute__((format(printf, 1, 2)
 enum buffer {
     MESSAGE, TEXT, SEGMENTS, LEAVES, CARD, ANSWER, OUTPUT, LISTING, WATCHER,
     OTHER_TEXT, OTHER_SEGMENTS, OTHER_LEAVES, OTHER_CARD,
-    VALUE_NUMBERS, VALUE_WHOLES, VALUE_DECIMALS, BUFFERS
+    VALUE_NUMBERS, VALUE_WHOLES, VALUE_DECIMALS, ARCHIVED_SEGMENTS, ARCHIVED_LEAVES, BUFFERS
 };
 
 void prepare_buffers(void);
@@ -43,21 +55,21 @@ void describe_address(const void *address, char *to, size_t room);
 
 /* ---- messages.c ---- */
 
-enum { MESSAGE_MOST = 40000 };
+enum { MESSAGE_MOST = SARGACEU_LARGE_MESSAGE + 24000 };
 
 struct message {
     uint8_t bytes[MESSAGE_MOST];
     size_t length;
 };
 
-void draw_sound_message(struct message *m); /* of the form, but for the limits, which it may pass */
-void draw_message(struct message *m);       /* sound, damaged, or any bytes */
-void begin_message(struct message *m);      /* one of no bytes yet, whose separators are drawn */
-void put_segment(const char *usual);        /* goes on with it: written with the usual separators, which become the drawn ones */
+void draw_sound_message(struct message *m, uint8_t form); /* of the form, but for the limits, which it may pass */
+void draw_message(struct message *m, uint8_t form);       /* sound, damaged, or any bytes */
+void begin_message(struct message *m);                    /* one of no bytes yet, whose separators are drawn */
+void put_segment(const char *usual); /* goes on with it: written with the usual separators, which become the drawn ones */
 
 /* ---- reports.c ---- */
 
-void draw_report(struct message *m); /* an ORU that meets the rules for screening, or breaks some of them */
+void draw_report(struct message *m, uint8_t form); /* an ORU that meets the rules for screening, or breaks some of them */
 
 /* ---- numerals.c ---- */
 
@@ -68,13 +80,20 @@ int64_t draw_whole(void);         /* a whole number at some limit, or any other 
 
 /* ---- tables.c ---- */
 
-enum { TEXT_MOST = SARGACEU_TEXT + 64, SEGMENTS_MOST = SARGACEU_SEGMENTS + 32, LEAVES_MOST = SARGACEU_LEAVES + 56, CARD_MOST = 8 };
+enum {
+    TEXT_SLACK = 64, SEGMENTS_SLACK = 32, LEAVES_SLACK = 56, /* how much longer than its least size a buffer may be */
+    TEXT_MOST = SARGACEU_LARGE_TEXT + TEXT_SLACK,
+    SEGMENTS_MOST = SARGACEU_LARGE_SEGMENTS + SEGMENTS_SLACK,
+    LEAVES_MOST = SARGACEU_LARGE_LEAVES + LEAVES_SLACK,
+    CARD_MOST = 8
+};
 
 struct table {
+    uint8_t form; /* by which it is judged */
     size_t card[CARD_MOST], card_numbers;
-    uint16_t segments[SEGMENTS_MOST];
+    uint32_t segments[SEGMENTS_MOST];
     size_t segments_numbers;
-    uint16_t leaves[LEAVES_MOST];
+    uint32_t leaves[LEAVES_MOST];
     size_t leaves_numbers;
     uint8_t text[TEXT_MOST];
     size_t text_bytes;
@@ -82,15 +101,26 @@ struct table {
 
 enum { CARD_SEPARATOR, CARD_CONTEXT, CARD_SEGMENTS, CARD_LEAVES, CARD_TEXT };
 
-bool draw_table(struct table *t);        /* what the reader made of some message, or that damaged; whether it is undamaged */
-bool draw_report_table(struct table *t); /* the same of a screening report */
-uint8_t read_table(const uint8_t *message, size_t bytes, struct table *t, size_t *place); /* in buffers of ordinary memory */
-uint8_t write_table(const struct table *t, uint8_t *output, size_t *answer);              /* the same, with output enough */
+/* The buffers that a table is put into: how long each is, and what it holds. */
+struct room {
+    size_t text, segments, leaves;
+    const void *text_was, *segments_was, *leaves_was;
+};
+
+struct room draw_room(uint8_t form); /* enough for the form mostly */
+bool is_short(struct room room, uint8_t form);
+
+bool draw_table(struct table *t, uint8_t form);        /* what the reader made of some message, or that damaged; whether it is undamaged */
+bool draw_report_table(struct table *t, uint8_t form); /* the same of a screening report */
+void copy_table(struct table *to, const struct table *from);
+uint8_t read_table(uint8_t form, const uint8_t *message, size_t bytes, struct table *t, size_t *place); /* in buffers of ordinary memory */
+uint8_t write_table(const struct table *t, uint8_t *output, size_t *answer); /* the same, with output enough */
+bool is_table(const struct table *t);                                        /* by its form, as the library says */
 void expect_same_table(const struct table *a, const struct table *b, const char *what);
 void expect_owners(const struct table *t); /* each row has the owner that plain_owner finds */
 size_t segments_there(const struct table *t); /* segment rows that are counted and lie in the buffer */
 size_t leaves_there(const struct table *t);
-uint16_t draw_order(const struct table *t);   /* the row of an order mostly */
+uint32_t draw_order(const struct table *t);   /* the row of an order mostly */
 
 /* ---- plain.c: the same answers by plain loops ---- */
 
@@ -104,15 +134,16 @@ extern const char *const context_names[8];
 
 unsigned followers(uint8_t context, uint8_t last); /* bit k: kind k may come next, C aside */
 bool may_follow(uint8_t context, uint8_t last, uint8_t kind);
-size_t plain_owner(const struct table *t, size_t row); /* by context and kinds alone, of a table that was read or written */
+size_t plain_owner(const struct table *t, size_t row);        /* by context and kinds alone, of a table that was read or written */
+size_t plain_former_owner(const struct table *t, size_t row); /* the owner that a row had by the former levels */
 uint8_t plain_line(const uint8_t *message, size_t bytes, size_t at, size_t answer[2]);
-struct outcome plain_outcome(const uint8_t *message, size_t bytes); /* what the reader answers where the buffers are enough */
-size_t plain_kinds(uint8_t *kinds, size_t room, uint8_t *context);  /* of the message that plain_outcome saw last */
-const uint8_t *plain_joined(size_t *bytes);                         /* its joined segments, a CR behind each */
-uint8_t plain_find_leaf(const struct table *t, const uint16_t place[5], size_t answer[2]);
-uint8_t plain_find_leaf_in_segment(const struct table *t, const uint16_t place[5], size_t answer[2]);
-size_t plain_next_row(const struct table *t, size_t after, uint16_t kind, uint16_t owner);
-bool plain_same_order(const struct table *a, uint16_t row, const struct table *b, uint16_t other_row);
+struct outcome plain_outcome(uint8_t form, const uint8_t *message, size_t bytes); /* what the reader answers where the buffers are enough */
+size_t plain_kinds(uint8_t *kinds, size_t room, uint8_t *context); /* of the message that plain_outcome saw last */
+const uint8_t *plain_joined(size_t *bytes);                        /* its joined segments, a CR behind each */
+uint8_t plain_find_leaf(const struct table *t, const uint32_t place[5], size_t answer[2]);
+uint8_t plain_find_leaf_in_segment(const struct table *t, const uint32_t place[5], size_t answer[2]);
+size_t plain_next_row(const struct table *t, size_t after, uint32_t kind, uint32_t owner);
+bool plain_same_order(const struct table *a, uint32_t row, const struct table *b, uint32_t other_row);
 
 struct value {
     uint8_t number; /* 0, 20 or 21 */
@@ -122,15 +153,15 @@ struct value {
 
 struct value plain_read_value(const uint8_t *text, size_t bytes);
 size_t plain_write_value(int64_t whole, size_t decimals, uint8_t text[SARGACEU_VALUE_TEXT]); /* 0 where no text reads to it */
-bool plain_is_order(const struct table *t, uint16_t row);
-size_t plain_order_values(const struct table *t, uint16_t order, struct value values[SARGACEU_VALUES]); /* of a table, and of an order in it */
-struct outcome plain_screen(const struct table *t);                                                     /* of a table */
+bool plain_is_order(const struct table *t, uint32_t row);
+size_t plain_order_values(const struct table *t, uint32_t order, struct value values[SARGACEU_LARGE_VALUES]); /* of an order in a table */
+struct outcome plain_screen(const struct table *t);                                                           /* of a table */
 
 /* ---- the trials: each draws arguments, makes the call on both sides, and answers 0 where it was accepted ---- */
 
 enum {
-    NO = SARGACEU_WRONG_RESULT + 1, /* a plain no, which has no number */
-    EMPTY                          /* accepted, and what was found is empty */
+    NO = SARGACEU_NEVER_READ + 1, /* a plain no, which has no number */
+    EMPTY                         /* accepted, and what was found is empty */
 };
 
 int try_read(void);
@@ -147,5 +178,7 @@ int try_read_value(void);
 int try_write_value(void);
 int try_order_values(void);
 int try_screen(void);
+int try_widen(void);
+int try_version(void);
 
 #endif

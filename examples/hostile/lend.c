@@ -13,8 +13,8 @@
 #include <unistd.h>
 
 enum {
-    BODY = 1 << 16,  /* a multiple of every page size in use, with room for the longest buffer */
-    GUARD = 1 << 20, /* farther than any 16-bit number of elements reaches */
+    BODY = 1 << 21,  /* a multiple of every page size in use, with room for the longest buffer */
+    GUARD = 1 << 24, /* farther than any number of the large form reaches */
     NEAR = 512,      /* bytes around a buffer that are looked at after each call; all of them now and then */
     UNTOUCHED = 0xa5
 };
@@ -32,20 +32,22 @@ struct lent {
 static struct lent all[BUFFERS] = {
     [MESSAGE] = { .name = "message", .size = 1 },
     [TEXT] = { .name = "text", .size = 1 },
-    [SEGMENTS] = { .name = "segments", .size = sizeof(uint16_t) },
-    [LEAVES] = { .name = "leaves", .size = sizeof(uint16_t) },
+    [SEGMENTS] = { .name = "segments", .size = sizeof(uint32_t) },
+    [LEAVES] = { .name = "leaves", .size = sizeof(uint32_t) },
     [CARD] = { .name = "card", .size = sizeof(size_t) },
     [ANSWER] = { .name = "answer", .size = sizeof(size_t) }, /* an int64_t is as wide */
     [OUTPUT] = { .name = "output", .size = 1 },
     [LISTING] = { .name = "listing", .size = 1 },
     [WATCHER] = { .name = "watcher", .size = 1 },
     [OTHER_TEXT] = { .name = "other text", .size = 1 },
-    [OTHER_SEGMENTS] = { .name = "other segments", .size = sizeof(uint16_t) },
-    [OTHER_LEAVES] = { .name = "other leaves", .size = sizeof(uint16_t) },
+    [OTHER_SEGMENTS] = { .name = "other segments", .size = sizeof(uint32_t) },
+    [OTHER_LEAVES] = { .name = "other leaves", .size = sizeof(uint32_t) },
     [OTHER_CARD] = { .name = "other card", .size = sizeof(size_t) },
     [VALUE_NUMBERS] = { .name = "numbers", .size = 1 },
     [VALUE_WHOLES] = { .name = "wholes", .size = sizeof(int64_t) },
-    [VALUE_DECIMALS] = { .name = "decimals", .size = 1 }
+    [VALUE_DECIMALS] = { .name = "decimals", .size = 1 },
+    [ARCHIVED_SEGMENTS] = { .name = "archived segments", .size = sizeof(uint16_t) },
+    [ARCHIVED_LEAVES] = { .name = "archived leaves", .size = sizeof(uint16_t) }
 };
 
 static void need(bool done, const char *what)

@@ -6,47 +6,46 @@
 static struct table one, two;
 
 /* The place of some leaf, or one beside it, or any. */
-static void draw_place(uint16_t place[5])
+static void draw_place(uint32_t place[5])
 {
     size_t leaves = leaves_there(&one);
     for (int i = 0; i < 5; i++)
-        place[i] = (uint16_t)wild();
+        place[i] = (uint32_t)wild();
     if (leaves > 0 && !one_in(12))
         memcpy(place, one.leaves + below(leaves) * SARGACEU_LEAF_ROW, 5 * sizeof *place);
     if (one_in(4))
-        place[below(5)] = (uint16_t)(one_in(2) ? 1 + below(4) : wild());
+        place[below(5)] = (uint32_t)(one_in(2) ? 1 + below(4) : wild());
 }
 
 /* The place's segment row names other leaves than its own now and then: more, fewer, none, or some past all of them. */
-static void draw_named_leaves(const uint16_t place[5])
+static void draw_named_leaves(const uint32_t place[5])
 {
     if (place[0] == 0 || place[0] > segments_there(&one) || !one_in(4))
         return;
-    uint16_t *named = one.segments + (size_t)(place[0] - 1) * SARGACEU_SEGMENT_ROW + 2 + below(2); /* its first leaf, or how many */
-    *named = (uint16_t)(one_in(2) ? wild() : *named + below(5) - 2);
+    uint32_t *named = one.segments + (size_t)(place[0] - 1) * SARGACEU_SEGMENT_ROW + 2 + below(2); /* its first leaf, or how many */
+    *named = (uint32_t)(one_in(2) ? wild() : *named + below(5) - 2);
 }
 
 /* Of a table that some message reads to, both lookups answer the same. */
-static void expect_agreement(const uint16_t place[5])
+static void expect_agreement(const uint32_t place[5])
 {
     size_t all[SARGACEU_LEAF_ANSWER] = { 0, 0 }, within[SARGACEU_LEAF_ANSWER] = { 0, 0 };
-    if (!sargaceu_is_table(one.card, one.card_numbers, one.segments, one.segments_numbers, one.leaves, one.leaves_numbers,
-                           one.text, one.text_bytes))
+    if (!is_table(&one))
         return;
     if (plain_find_leaf(&one, place, all) != plain_find_leaf_in_segment(&one, place, within) || memcmp(all, within, sizeof all) != 0)
         fail("a search over all leaves answers otherwise than one within the segment, of a table that some message reads to");
 }
 
 /* What both lookups are, to C and as a plain search. */
-typedef uint8_t lookup(const size_t *, size_t, const uint16_t *, size_t, const uint16_t *, size_t, const uint8_t *, size_t,
-                       uint16_t, uint16_t, uint16_t, uint16_t, uint16_t, size_t *, size_t);
-typedef uint8_t plain_lookup(const struct table *, const uint16_t *, size_t *);
+typedef uint8_t lookup(const size_t *, size_t, const uint32_t *, size_t, const uint32_t *, size_t, const uint8_t *, size_t,
+                       uint32_t, uint32_t, uint32_t, uint32_t, uint32_t, size_t *, size_t);
+typedef uint8_t plain_lookup(const struct table *, const uint32_t *, size_t *);
 
 static int try_lookup(lookup *find, plain_lookup *plain)
 {
-    uint16_t place[5];
+    uint32_t place[5];
     size_t answer[SARGACEU_LEAF_ANSWER] = { 0, 0 };
-    draw_table(&one);
+    draw_table(&one, draw_form_of_two());
     draw_place(place);
     draw_named_leaves(place);
     expect_agreement(place);
@@ -83,9 +82,9 @@ int try_find_leaf_in_segment(void)
 
 int try_next_row(void)
 {
-    draw_table(&one);
+    draw_table(&one, draw_form_of_two());
     size_t rows = segments_there(&one), row = below(rows), after = one_in(8) ? wild() : below(one_in(2) ? 2 : rows + 2);
-    uint16_t kind = (uint16_t)(one_in(12) ? wild() : 1 + below(12)), owner = (uint16_t)(one_in(12) ? wild() : below(rows + 2));
+    uint32_t kind = (uint32_t)(one_in(12) ? wild() : 1 + below(12)), owner = (uint32_t)(one_in(12) ? wild() : below(rows + 2));
     if (rows > 0 && !one_in(4)) {
         kind = one.segments[row * SARGACEU_SEGMENT_ROW];
         owner = one.segments[row * SARGACEU_SEGMENT_ROW + 1];
@@ -105,17 +104,17 @@ int try_next_row(void)
 /* The second table is the first, or another; one of them may be damaged. */
 static void draw_pair(void)
 {
-    draw_table(&one);
+    draw_table(&one, draw_form_of_two());
     if (one_in(2))
-        draw_table(&two);
+        draw_table(&two, draw_form_of_two());
     else
-        two = one;
+        copy_table(&two, &one);
 }
 
 int try_same_order(void)
 {
     draw_pair();
-    uint16_t row = draw_order(&one), other_row = one_in(2) ? row : draw_order(&two);
+    uint32_t row = draw_order(&one), other_row = one_in(2) ? row : draw_order(&two);
     bool expected = plain_same_order(&one, row, &two, other_row);
     for (int side = 0; side < SIDES; side++) {
         begin_side(side);
@@ -128,7 +127,7 @@ int try_same_order(void)
                                         lend(OTHER_LEAVES, two.leaves, two.leaves_numbers), two.leaves_numbers,
                                         lend(OTHER_TEXT, two.text, two.text_bytes), two.text_bytes, other_row);
         if (same != expected)
-            fail("says %s of rows %d and %d, and a plain search %s", same ? "yes" : "no", row, other_row, expected ? "yes" : "no");
+            fail("says %s of rows %u and %u, and a plain search %s", same ? "yes" : "no", row, other_row, expected ? "yes" : "no");
     }
     return expected ? SARGACEU_ACCEPTED : NO;
 }

@@ -3,7 +3,7 @@
 
 #include <string.h>
 
-enum { CR = 13, LINE = 219, SEGMENT_MOST = 20000 };
+enum { CR = 13, LINE = 219, SEGMENT_MOST = SARGACEU_LARGE_MESSAGE };
 
 /* What a drawn message is like. */
 struct measure {
@@ -192,8 +192,22 @@ void put_segment(const char *usual)
     put_lines();
 }
 
-static struct measure draw_measure(void)
+/* A message that only the large form has room for. */
+static struct measure draw_large_measure(void)
 {
+    switch (below(5)) {
+    case 0: return (struct measure){ 4090 + below(7), 1, 2, false, false };
+    case 1: return (struct measure){ 3 + below(600), 4, 4, true, false };
+    case 2: return (struct measure){ 1200 + below(1200), 6, 250, false, true };
+    case 3: return (struct measure){ 3 + below(8), 3, 3, false, true };
+    default: return (struct measure){ 3 + below(8), 3, 120000, false, false };
+    }
+}
+
+static struct measure draw_measure(uint8_t form)
+{
+    if (form == SARGACEU_LARGE && one_in(2))
+        return draw_large_measure();
     switch (below(24)) {
     case 0: return (struct measure){ 245 + below(14), 1, 2, false, false };
     case 1: return (struct measure){ 3 + below(60), 4, 4, true, false };
@@ -217,7 +231,7 @@ static uint8_t next_kind(uint8_t context, uint8_t last, bool enough_of_them)
     return kind;
 }
 
-static void draw_segment(uint8_t kind, struct measure measure)
+static void draw_segment(uint8_t kind, struct measure measure, const struct sizes *sizes)
 {
     begin_segment(kind);
     if (kind == SARGACEU_OBR && !one_in(3))
@@ -226,14 +240,15 @@ static void draw_segment(uint8_t kind, struct measure measure)
         draw_result();
     put_fields(below(measure.fields + 1), measure.text);
     if (kind == SARGACEU_L && measure.dense)
-        for (size_t wanted = 2045 + below(6); draft.leaves < wanted;)
+        for (size_t wanted = sizes->leaf_rows - 3 + below(6); draft.leaves < wanted;)
             split(0);
     put_lines();
 }
 
-void draw_sound_message(struct message *m)
+void draw_sound_message(struct message *m, uint8_t form)
 {
-    struct measure measure = draw_measure();
+    const struct sizes *sizes = sizes_of(form);
+    struct measure measure = draw_measure(form);
     static const uint8_t with_orders[3] = { SARGACEU_CONTEXT_ORM, SARGACEU_CONTEXT_ORA, SARGACEU_CONTEXT_ORU };
     uint8_t context = one_in(2) ? with_orders[below(3)] : (uint8_t)(1 + below(7)), last = SARGACEU_H;
     begin_message(m);
@@ -241,12 +256,12 @@ void draw_sound_message(struct message *m)
     put_lines();
     for (size_t row = 2; last != SARGACEU_L; row++) {
         uint8_t kind = one_in(6) ? SARGACEU_C : next_kind(context, last, row >= measure.segments);
-        draw_segment(kind, measure);
+        draw_segment(kind, measure, sizes);
         if (kind != SARGACEU_C)
             last = kind;
     }
     if (measure.full) /* control bytes after the last CR are skipped, and counted */
-        for (size_t wanted = SARGACEU_MESSAGE - 2 + below(5); m->length < wanted;)
+        for (size_t wanted = sizes->message - 2 + below(5); m->length < wanted;)
             put_in_message("\n", 1);
 }
 
@@ -345,13 +360,13 @@ static void draw_bytes(struct message *m)
         m->bytes[i] = (uint8_t)(one_in(3) ? chance() : 32 + below(96));
 }
 
-void draw_message(struct message *m)
+void draw_message(struct message *m, uint8_t form)
 {
     if (one_in(40)) {
         draw_bytes(m);
         return;
     }
-    draw_sound_message(m);
+    draw_sound_message(m, form);
     if (one_in(2))
         for (size_t times = 1 + below(3); times > 0; times--)
             damage(m);

@@ -4,7 +4,7 @@
 #include <stdio.h>
 #include <string.h>
 
-enum { CR = 13, FIRST_TEXT = 32, LINE = 219, MOST_SEGMENTS = 256, MOST_LEAVES = 2048, MOST_DIGITS = 15 };
+enum { CR = 13, FIRST_TEXT = 32, LINE = 219, MOST_DIGITS = 15 };
 
 const char *const kind_names[13] = { "", "H", "P", "AP", "AC", "OBR", "OBX", "FAC", "REG", "ACT", "ERR", "L", "C" };
 const char *const context_names[8] = { "", "ADM", "ORM", "ORA", "REG", "ERR", "ORU", "FAC" };
@@ -69,7 +69,7 @@ static const uint8_t owner_kinds[8][13] = {
         [SARGACEU_FAC] = SARGACEU_P, [SARGACEU_REG] = SARGACEU_FAC, [SARGACEU_ACT] = SARGACEU_FAC },
 };
 
-static uint16_t kind_in(const struct table *t, size_t row)
+static uint32_t kind_in(const struct table *t, size_t row)
 {
     return t->segments[(row - 1) * SARGACEU_SEGMENT_ROW];
 }
@@ -77,13 +77,39 @@ static uint16_t kind_in(const struct table *t, size_t row)
 /* Of a C the nearest row before it that is none. */
 size_t plain_owner(const struct table *t, size_t row)
 {
-    uint16_t kind = kind_in(t, row);
+    uint32_t kind = kind_in(t, row);
     uint8_t wanted = kind == SARGACEU_C ? 0 : owner_kinds[t->card[CARD_CONTEXT]][kind];
     if (kind != SARGACEU_C && wanted == 0)
         return 0;
     for (size_t before = row - 1; before > 0; before--)
         if (kind == SARGACEU_C ? kind_in(t, before) != SARGACEU_C : kind_in(t, before) == wanted)
             return before;
+    return 0;
+}
+
+/* The levels that kinds had once, C aside: the last row before a row that has a lower one was its owner. */
+static const uint8_t former_levels[8][13] = {
+    [SARGACEU_CONTEXT_ADM] = { [SARGACEU_H] = 1, [SARGACEU_P] = 2, [SARGACEU_AP] = 3, [SARGACEU_AC] = 4, [SARGACEU_L] = 1 },
+    [SARGACEU_CONTEXT_ORM] = { [SARGACEU_H] = 1, [SARGACEU_P] = 2, [SARGACEU_OBR] = 3, [SARGACEU_OBX] = 4, [SARGACEU_L] = 1 },
+    [SARGACEU_CONTEXT_ORA] = {
+        [SARGACEU_H] = 1, [SARGACEU_P] = 2, [SARGACEU_AP] = 3, [SARGACEU_AC] = 4, [SARGACEU_OBR] = 5, [SARGACEU_OBX] = 6, [SARGACEU_L] = 1 },
+    [SARGACEU_CONTEXT_REG] = { [SARGACEU_H] = 1, [SARGACEU_P] = 2, [SARGACEU_REG] = 3, [SARGACEU_L] = 1 },
+    [SARGACEU_CONTEXT_ERR] = { [SARGACEU_H] = 1, [SARGACEU_ERR] = 2, [SARGACEU_L] = 1 },
+    [SARGACEU_CONTEXT_ORU] = { [SARGACEU_H] = 1, [SARGACEU_P] = 2, [SARGACEU_OBR] = 3, [SARGACEU_OBX] = 4, [SARGACEU_L] = 1 },
+    [SARGACEU_CONTEXT_FAC] = {
+        [SARGACEU_H] = 1, [SARGACEU_P] = 2, [SARGACEU_AP] = 3, [SARGACEU_AC] = 4, [SARGACEU_FAC] = 5, [SARGACEU_REG] = 6, [SARGACEU_ACT] = 7,
+        [SARGACEU_L] = 1 },
+};
+
+size_t plain_former_owner(const struct table *t, size_t row)
+{
+    const uint8_t *levels = former_levels[t->card[CARD_CONTEXT]];
+    uint32_t kind = kind_in(t, row);
+    for (size_t before = row - 1; before > 0; before--) {
+        uint32_t earlier = kind_in(t, before);
+        if (earlier != SARGACEU_C && (kind == SARGACEU_C || levels[earlier] < levels[kind]))
+            return before;
+    }
     return 0;
 }
 
@@ -115,8 +141,8 @@ uint8_t plain_line(const uint8_t *message, size_t bytes, size_t at, size_t answe
 
 /* ---- reading, up to the number and the place ---- */
 
-static uint8_t joined[SARGACEU_MESSAGE];
-static size_t starts[SARGACEU_MESSAGE + 1], segments; /* segment n lies from starts[n] to its CR at starts[n + 1] - 1 */
+static uint8_t joined[SARGACEU_LARGE_MESSAGE];
+static size_t starts[SARGACEU_LARGE_MESSAGE + 1], segments; /* segment n lies from starts[n] to its CR at starts[n + 1] - 1 */
 
 static bool header(const uint8_t *message, size_t bytes)
 {
@@ -227,16 +253,17 @@ static size_t leaves(void)
     return count;
 }
 
-struct outcome plain_outcome(const uint8_t *message, size_t bytes)
+struct outcome plain_outcome(uint8_t form, const uint8_t *message, size_t bytes)
 {
-    if (bytes > SARGACEU_MESSAGE)
+    const struct sizes *sizes = sizes_of(form);
+    if (bytes > sizes->message)
         return (struct outcome){ SARGACEU_LONG_MESSAGE, 0 };
     if (!header(message, bytes))
         return (struct outcome){ SARGACEU_BROKEN_HEADER, 0 };
     struct outcome lines = join(message, bytes);
     if (lines.number != SARGACEU_ACCEPTED)
         return lines;
-    if (segments > MOST_SEGMENTS)
+    if (segments > sizes->segment_rows)
         return (struct outcome){ SARGACEU_MANY_SEGMENTS, 0 };
     for (size_t i = 0; i < segments; i++)
         if (kind_of(i) == 0)
@@ -245,7 +272,7 @@ struct outcome plain_outcome(const uint8_t *message, size_t bytes)
         return (struct outcome){ SARGACEU_NO_CONTEXT, 0 };
     if (misplaced() != 0)
         return (struct outcome){ SARGACEU_MISPLACED, misplaced() };
-    if (leaves() > MOST_LEAVES)
+    if (leaves() > sizes->leaf_rows)
         return (struct outcome){ SARGACEU_MANY_LEAVES, 0 };
     return (struct outcome){ SARGACEU_ACCEPTED, 0 };
 }
@@ -267,7 +294,7 @@ static bool counts_fit(const struct table *t, const size_t card[SARGACEU_CARD])
 }
 
 /* What a leaf row alone says of a place. */
-static uint8_t sought_in_row(const uint16_t *row, const uint16_t place[5], size_t text, size_t answer[2])
+static uint8_t sought_in_row(const uint32_t *row, const uint32_t place[5], size_t text, size_t answer[2])
 {
     if (memcmp(row, place, 5 * sizeof *row) != 0 || (size_t)row[5] + row[6] > text)
         return SARGACEU_NOT_THERE;
@@ -276,7 +303,7 @@ static uint8_t sought_in_row(const uint16_t *row, const uint16_t place[5], size_
     return row[6] == 0 ? SARGACEU_FOUND_EMPTY : SARGACEU_FOUND;
 }
 
-uint8_t plain_find_leaf(const struct table *t, const uint16_t place[5], size_t answer[2])
+uint8_t plain_find_leaf(const struct table *t, const uint32_t place[5], size_t answer[2])
 {
     size_t card[SARGACEU_CARD];
     uint8_t sought = SARGACEU_NOT_THERE;
@@ -289,21 +316,21 @@ uint8_t plain_find_leaf(const struct table *t, const uint16_t place[5], size_t a
 }
 
 /* Over all counted leaves by their numbers, from 1: those that the segment row does not name are passed over. */
-uint8_t plain_find_leaf_in_segment(const struct table *t, const uint16_t place[5], size_t answer[2])
+uint8_t plain_find_leaf_in_segment(const struct table *t, const uint32_t place[5], size_t answer[2])
 {
     size_t card[SARGACEU_CARD];
     uint8_t sought = SARGACEU_NOT_THERE;
     card_of(t, card);
     if (!counts_fit(t, card) || place[0] == 0 || place[0] > card[CARD_SEGMENTS])
         return SARGACEU_NOT_THERE;
-    const uint16_t *segment = t->segments + (size_t)(place[0] - 1) * SARGACEU_SEGMENT_ROW;
+    const uint32_t *segment = t->segments + (size_t)(place[0] - 1) * SARGACEU_SEGMENT_ROW;
     for (size_t leaf = 1; leaf <= card[CARD_LEAVES] && sought == SARGACEU_NOT_THERE; leaf++)
         if (segment[2] != 0 && leaf >= segment[2] && leaf - segment[2] < segment[3])
             sought = sought_in_row(t->leaves + (leaf - 1) * SARGACEU_LEAF_ROW, place, card[CARD_TEXT], answer);
     return sought;
 }
 
-size_t plain_next_row(const struct table *t, size_t after, uint16_t kind, uint16_t owner)
+size_t plain_next_row(const struct table *t, size_t after, uint32_t kind, uint32_t owner)
 {
     size_t card[SARGACEU_CARD];
     card_of(t, card);
@@ -316,16 +343,16 @@ size_t plain_next_row(const struct table *t, size_t after, uint16_t kind, uint16
 }
 
 /* An order's number that is there and empty names no order. */
-static bool order_number(const struct table *t, uint16_t row, size_t answer[2])
+static bool order_number(const struct table *t, uint32_t row, size_t answer[2])
 {
-    const uint16_t place[5] = { row, 4, 1, 2, 1 };
+    const uint32_t place[5] = { row, 4, 1, 2, 1 };
     size_t card[SARGACEU_CARD];
     card_of(t, card);
     return row != 0 && row <= card[CARD_SEGMENTS] && plain_find_leaf(t, place, answer) == SARGACEU_FOUND &&
            t->segments[(size_t)(row - 1) * SARGACEU_SEGMENT_ROW] == SARGACEU_OBR;
 }
 
-bool plain_same_order(const struct table *a, uint16_t row, const struct table *b, uint16_t other_row)
+bool plain_same_order(const struct table *a, uint32_t row, const struct table *b, uint32_t other_row)
 {
     size_t one[2], other[2];
     return order_number(a, row, one) && order_number(b, other_row, other) && one[1] == other[1] &&
@@ -386,7 +413,7 @@ size_t plain_write_value(int64_t whole, size_t decimals, uint8_t text[SARGACEU_V
     return bytes + decimals;
 }
 
-bool plain_is_order(const struct table *t, uint16_t row)
+bool plain_is_order(const struct table *t, uint32_t row)
 {
     size_t card[SARGACEU_CARD];
     card_of(t, card);
@@ -396,10 +423,10 @@ bool plain_is_order(const struct table *t, uint16_t row)
 /* Over all leaves of the table: the value is that of the only one of field 10.6. */
 static struct value result_value(const struct table *t, size_t row)
 {
-    const uint16_t *only = NULL;
+    const uint32_t *only = NULL;
     size_t found = 0;
     for (size_t i = 0; i < t->card[CARD_LEAVES]; i++) {
-        const uint16_t *leaf = t->leaves + i * SARGACEU_LEAF_ROW;
+        const uint32_t *leaf = t->leaves + i * SARGACEU_LEAF_ROW;
         if (leaf[0] == row && leaf[1] == 6) {
             only = leaf;
             found++;
@@ -408,11 +435,11 @@ static struct value result_value(const struct table *t, size_t row)
     return found == 1 ? plain_read_value(t->text + only[5], only[6]) : plain_read_value(NULL, 0);
 }
 
-size_t plain_order_values(const struct table *t, uint16_t order, struct value values[SARGACEU_VALUES])
+size_t plain_order_values(const struct table *t, uint32_t order, struct value values[SARGACEU_LARGE_VALUES])
 {
     size_t count = 0, type[2];
     for (size_t row = 1; row <= t->card[CARD_SEGMENTS]; row++) {
-        const uint16_t *segment = t->segments + (row - 1) * SARGACEU_SEGMENT_ROW, place[5] = { (uint16_t)row, 3, 1, 1, 1 };
+        const uint32_t *segment = t->segments + (row - 1) * SARGACEU_SEGMENT_ROW, place[5] = { (uint32_t)row, 3, 1, 1, 1 };
         if (segment[0] == SARGACEU_OBX && segment[1] == order && plain_find_leaf(t, place, type) == SARGACEU_FOUND && type[1] == 2 &&
             memcmp(t->text + type[0], "NM", 2) == 0)
             values[count++] = result_value(t, row);
@@ -423,16 +450,16 @@ size_t plain_order_values(const struct table *t, uint16_t order, struct value va
 /* ---- the screening check ---- */
 
 /* How many bytes the leaf of a name has, in which repetition and sub-subfield are 1, and where they stand; none where it is not there or empty. */
-static size_t leaf_text(const struct table *t, size_t row, uint16_t field, uint16_t subfield, const uint8_t **text)
+static size_t leaf_text(const struct table *t, size_t row, uint32_t field, uint32_t subfield, const uint8_t **text)
 {
-    const uint16_t place[5] = { (uint16_t)row, field, 1, subfield, 1 };
+    const uint32_t place[5] = { (uint32_t)row, field, 1, subfield, 1 };
     size_t found[2] = { 0, 0 };
     plain_find_leaf(t, place, found);
     *text = t->text + found[0];
     return found[1];
 }
 
-static bool leaf_is(const struct table *t, size_t row, uint16_t field, uint16_t subfield, const char *expected)
+static bool leaf_is(const struct table *t, size_t row, uint32_t field, uint32_t subfield, const char *expected)
 {
     const uint8_t *text;
     return leaf_text(t, row, field, subfield, &text) == strlen(expected) && memcmp(text, expected, strlen(expected)) == 0;
@@ -456,7 +483,7 @@ static size_t count_code(const struct table *t, size_t patient, const char *code
 
 /* The fields that must be there, and the codes that each patient has once, by the number of their rule. */
 static const struct {
-    uint16_t kind, field, subfield;
+    uint32_t kind, field, subfield;
 } needed_fields[] = {
     [SARGACEU_NO_NAME] = { SARGACEU_P, 6, 1 },
     [SARGACEU_NO_FIRST_NAME] = { SARGACEU_P, 6, 2 },
@@ -478,7 +505,7 @@ static const char *const needed_codes[] = {
 static bool breaks_rule(const struct table *t, size_t row, uint8_t rule)
 {
     const uint8_t *text;
-    uint16_t kind = kind_in(t, row);
+    uint32_t kind = kind_in(t, row);
     if (rule <= SARGACEU_NO_LABORATORY)
         return kind == needed_fields[rule].kind && leaf_text(t, row, needed_fields[rule].field, needed_fields[rule].subfield, &text) == 0;
     if (rule <= SARGACEU_NOT_ONE_FINGE)

@@ -6,37 +6,17 @@
 
 static struct message drawn;
 static struct table read, again;
-static uint8_t written[SARGACEU_OUTPUT];
-
-/* The buffers that a reading is lent: how long each is, and what it holds. */
-struct room {
-    size_t text, segments, leaves;
-    const void *text_was, *segments_was, *leaves_was;
-};
-
-static struct room draw_room(void)
-{
-    struct room room = { enough(SARGACEU_TEXT, TEXT_MOST), enough(SARGACEU_SEGMENTS, SEGMENTS_MOST),
-                         enough(SARGACEU_LEAVES, LEAVES_MOST), former(TEXT_MOST),
-                         former(SEGMENTS_MOST * sizeof(uint16_t)), former(LEAVES_MOST * sizeof(uint16_t)) };
-    switch (below(20)) {
-    case 0: room.text = short_of(SARGACEU_TEXT); break;
-    case 1: room.segments = short_of(SARGACEU_SEGMENTS); break;
-    case 2: room.leaves = short_of(SARGACEU_LEAVES); break;
-    default: break;
-    }
-    return room;
-}
+static uint8_t written[SARGACEU_LARGE_OUTPUT];
 
 /* What the reader is to answer, by plain loops; the table is read in ordinary memory where it is accepted. */
-static struct outcome expected_outcome(struct room room)
+static struct outcome expected_outcome(uint8_t form, struct room room)
 {
-    if (room.text < SARGACEU_TEXT || room.segments < SARGACEU_SEGMENTS || room.leaves < SARGACEU_LEAVES)
+    if (is_short(room, form))
         return (struct outcome){ SARGACEU_SHORT_BUFFER, 0 };
-    struct outcome expected = plain_outcome(drawn.bytes, drawn.length);
+    struct outcome expected = plain_outcome(form, drawn.bytes, drawn.length);
     if (expected.number == SARGACEU_ACCEPTED) {
         size_t place;
-        if (read_table(drawn.bytes, drawn.length, &read, &place) != SARGACEU_ACCEPTED)
+        if (read_table(form, drawn.bytes, drawn.length, &read, &place) != SARGACEU_ACCEPTED)
             fail("refused, and a plain reading accepts");
         expect_owners(&read);
     }
@@ -75,7 +55,7 @@ static size_t walk(const uint8_t *message, size_t bytes, struct outcome expected
 /* The watcher says yes up to the row that the reader refuses. */
 static void watch_kinds(struct outcome expected)
 {
-    static uint8_t kinds[SARGACEU_MESSAGE];
+    static uint8_t kinds[SARGACEU_LARGE_MESSAGE];
     uint8_t watcher[SARGACEU_WATCHER] = { 0, 0 };
     size_t segments = plain_kinds(kinds, sizeof kinds, watcher), yes = 0;
     while (yes < segments && sargaceu_watch(watcher, SARGACEU_WATCHER, kinds[yes]))
@@ -88,19 +68,30 @@ static void watch_kinds(struct outcome expected)
 /* What is read is written and read again to the same table, and its joined segments are those of the message. */
 static void write_back(void)
 {
-    static uint8_t joined[SARGACEU_MESSAGE];
+    static uint8_t joined[SARGACEU_LARGE_MESSAGE];
     size_t answer[SARGACEU_WRITE_ANSWER], place, bytes;
-    memcpy(joined, plain_joined(&bytes), sizeof joined);
+    const uint8_t *of_message = plain_joined(&bytes);
+    memcpy(joined, of_message, bytes);
     if (write_table(&read, written, answer) != SARGACEU_ACCEPTED)
         fail("the writer refuses what was read");
-    if (read_table(written, answer[1], &again, &place) != SARGACEU_ACCEPTED)
+    if (read_table(read.form, written, answer[1], &again, &place) != SARGACEU_ACCEPTED)
         fail("the reader refuses what was written");
     expect_same_table(&read, &again, "what was read, written and read again");
     size_t length = 0;
     if (walk(written, answer[1], (struct outcome){ SARGACEU_ACCEPTED, 0 }) != answer[2])
         fail("the writer says %zu lines, and a walk finds another count", answer[2]);
-    if (plain_outcome(written, answer[1]).number != SARGACEU_ACCEPTED || memcmp(plain_joined(&length), joined, bytes) != 0 || length != bytes)
+    if (plain_outcome(read.form, written, answer[1]).number != SARGACEU_ACCEPTED ||
+        memcmp(plain_joined(&length), joined, bytes) != 0 || length != bytes)
         fail("other segments were written than were read");
+}
+
+/* What the small form accepts the large one reads to the same table. */
+static void read_large(void)
+{
+    size_t place;
+    if (read_table(SARGACEU_LARGE, drawn.bytes, drawn.length, &again, &place) != SARGACEU_ACCEPTED)
+        fail("the large form refuses what the small one accepts");
+    expect_same_table(&read, &again, "what both forms read");
 }
 
 /* ---- the trials ---- */
@@ -115,16 +106,17 @@ static void expect_answer(struct outcome expected, size_t numbers)
 
 int try_read(void)
 {
-    draw_message(&drawn);
-    struct room room = draw_room();
+    uint8_t form = draw_form();
+    draw_message(&drawn, form);
+    struct room room = draw_room(form);
     size_t numbers = one_in(24) ? below(SARGACEU_READ_ANSWER) : enough(SARGACEU_READ_ANSWER, SARGACEU_READ_ANSWER + 3);
     const void *answer_was = former(16 * sizeof(size_t));
-    struct outcome expected = expected_outcome(room);
+    struct outcome expected = expected_outcome(form, room);
     if (numbers < SARGACEU_READ_ANSWER)
         expected = (struct outcome){ SARGACEU_SHORT_BUFFER, 0 };
     for (int side = 0; side < SIDES; side++) {
         begin_side(side);
-        uint8_t number = sargaceu_read(lend(MESSAGE, drawn.bytes, drawn.length), drawn.length,
+        uint8_t number = sargaceu_read(form, lend(MESSAGE, drawn.bytes, drawn.length), drawn.length,
                                        lend_to_write(TEXT, room.text_was, room.text), room.text,
                                        lend_to_write(SEGMENTS, room.segments_was, room.segments), room.segments,
                                        lend_to_write(LEAVES, room.leaves_was, room.leaves), room.leaves,
@@ -138,8 +130,10 @@ int try_read(void)
         walk(drawn.bytes, drawn.length, expected);
     if (expected.number == SARGACEU_MISPLACED || expected.number == SARGACEU_ACCEPTED)
         watch_kinds(expected);
-    if (expected.number == SARGACEU_ACCEPTED)
+    if (expected.number == SARGACEU_ACCEPTED) {
         write_back();
+        read_large();
+    }
     return expected.number;
 }
 
@@ -155,8 +149,8 @@ static size_t plain_listing(struct outcome expected, char *to, size_t room)
     n += snprintf(to + n, room - (size_t)n, "context=%s\nsegments=%zu\nleaves=%zu\ntext=%zu\nwritten=%zu\n",
                   context_names[read.card[CARD_CONTEXT]], read.card[CARD_SEGMENTS], read.card[CARD_LEAVES], read.card[CARD_TEXT], answer[1]);
     for (size_t i = 0; i < read.card[CARD_SEGMENTS]; i++) {
-        const uint16_t *row = read.segments + i * SARGACEU_SEGMENT_ROW;
-        n += snprintf(to + n, room - (size_t)n, "seg=%zu,%s,%d,%d,%d\n", i + 1, kind_names[row[0]], row[1], row[2], row[3]);
+        const uint32_t *row = read.segments + i * SARGACEU_SEGMENT_ROW;
+        n += snprintf(to + n, room - (size_t)n, "seg=%zu,%s,%u,%u,%u\n", i + 1, kind_names[row[0]], row[1], row[2], row[3]);
     }
     return (size_t)n;
 }
@@ -164,9 +158,9 @@ static size_t plain_listing(struct outcome expected, char *to, size_t room)
 int try_list(void)
 {
     static char listing[SARGACEU_LISTING + 1];
-    draw_message(&drawn);
-    struct room room = draw_room();
-    struct outcome expected = expected_outcome(room);
+    draw_message(&drawn, SARGACEU_SMALL);
+    struct room room = draw_room(SARGACEU_SMALL);
+    struct outcome expected = expected_outcome(SARGACEU_SMALL, room);
     size_t bytes = one_in(16) ? short_of(SARGACEU_LISTING) : enough(SARGACEU_LISTING, SARGACEU_LISTING + 64), listed = 0;
     const void *listing_was = former(SARGACEU_LISTING + 64);
     bool none = bytes < SARGACEU_LISTING; /* then nothing is read, either */
@@ -204,7 +198,7 @@ static size_t some_place(void)
 
 int try_line(void)
 {
-    draw_message(&drawn);
+    draw_message(&drawn, draw_form_of_two());
     size_t at = some_place(), numbers = one_in(16) ? below(SARGACEU_LINE_ANSWER) : enough(SARGACEU_LINE_ANSWER, 5);
     size_t answer[SARGACEU_LINE_ANSWER];
     const void *answer_was = former(8 * sizeof(size_t));

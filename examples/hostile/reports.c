@@ -240,12 +240,13 @@ static void put_results(void)
     }
 }
 
-void draw_report(struct message *m)
+void draw_report(struct message *m, uint8_t form)
 {
+    size_t most = form == SARGACEU_LARGE && one_in(8) ? 40 : 8; /* more than 256 segments now and then */
     broken = (uint8_t)(one_in(5) ? 0 : SARGACEU_NOT_A_REPORT + below(SARGACEU_WRONG_RESULT - SARGACEU_NOT_A_REPORT + 1));
     begin_message(m);
     put_header();
-    for (size_t patients = one_in(24) ? 4 + below(8) : 1 + below(3); patients > 0; patients--) {
+    for (size_t patients = most > 8 || one_in(24) ? 4 + below(most) : 1 + below(3); patients > 0; patients--) {
         put_patient();
         put_results();
     }

@@ -9,7 +9,7 @@
 #include <string.h>
 #include <unistd.h>
 
-enum { LONGEST = 60, REST = 256 }; /* seconds that a trial may take; trials between two looks at all that lies around the buffers */
+enum { LONGEST = 60, REST = 2048 }; /* seconds that a trial may take; trials between two looks at all that lies around the buffers */
 
 static const char *function = "nothing";
 static uint64_t seed;

@@ -10,14 +10,16 @@ static struct message source;
 
 /* ---- reading and writing in ordinary memory ---- */
 
-uint8_t read_table(const uint8_t *message, size_t bytes, struct table *t, size_t *place)
+uint8_t read_table(uint8_t form, const uint8_t *message, size_t bytes, struct table *t, size_t *place)
 {
+    const struct sizes *sizes = sizes_of(form);
     size_t answer[SARGACEU_READ_ANSWER];
+    t->form = form;
     t->card_numbers = SARGACEU_CARD;
-    t->segments_numbers = SARGACEU_SEGMENTS;
-    t->leaves_numbers = SARGACEU_LEAVES;
-    t->text_bytes = SARGACEU_TEXT;
-    uint8_t number = sargaceu_read(message, bytes, t->text, t->text_bytes, t->segments, t->segments_numbers,
+    t->segments_numbers = sizes->segments;
+    t->leaves_numbers = sizes->leaves;
+    t->text_bytes = sizes->text;
+    uint8_t number = sargaceu_read(form, message, bytes, t->text, t->text_bytes, t->segments, t->segments_numbers,
                                    t->leaves, t->leaves_numbers, answer, SARGACEU_READ_ANSWER);
     *place = answer[0];
     memcpy(t->card, answer + 1, SARGACEU_CARD * sizeof *t->card);
@@ -26,8 +28,28 @@ uint8_t read_table(const uint8_t *message, size_t bytes, struct table *t, size_t
 
 uint8_t write_table(const struct table *t, uint8_t *output, size_t *answer)
 {
-    return sargaceu_write(t->card, t->card_numbers, t->segments, t->segments_numbers, t->leaves, t->leaves_numbers,
-                          t->text, t->text_bytes, output, SARGACEU_OUTPUT, answer, SARGACEU_WRITE_ANSWER);
+    return sargaceu_write(t->form, t->card, t->card_numbers, t->segments, t->segments_numbers, t->leaves, t->leaves_numbers,
+                          t->text, t->text_bytes, output, sizes_of(t->form)->output, answer, SARGACEU_WRITE_ANSWER);
+}
+
+bool is_table(const struct table *t)
+{
+    return sargaceu_is_table(t->form, t->card, t->card_numbers, t->segments, t->segments_numbers, t->leaves, t->leaves_numbers,
+                             t->text, t->text_bytes);
+}
+
+/* What its buffers hold; what lies past them is not copied. */
+void copy_table(struct table *to, const struct table *from)
+{
+    to->form = from->form;
+    to->card_numbers = from->card_numbers;
+    to->segments_numbers = from->segments_numbers;
+    to->leaves_numbers = from->leaves_numbers;
+    to->text_bytes = from->text_bytes;
+    memcpy(to->card, from->card, sizeof to->card);
+    memcpy(to->segments, from->segments, from->segments_numbers * sizeof *to->segments);
+    memcpy(to->leaves, from->leaves, from->leaves_numbers * sizeof *to->leaves);
+    memcpy(to->text, from->text, from->text_bytes);
 }
 
 void expect_same_table(const struct table *a, const struct table *b, const char *what)
@@ -61,15 +83,15 @@ size_t leaves_there(const struct table *t)
     return rows_there(t->card[CARD_LEAVES], t->leaves_numbers, SARGACEU_LEAF_ROW);
 }
 
-uint16_t draw_order(const struct table *t)
+uint32_t draw_order(const struct table *t)
 {
     size_t rows = segments_there(t), row = one_in(8) ? wild() : below(rows + 2), orders = 0;
     if (one_in(8))
-        return (uint16_t)row;
+        return (uint32_t)row;
     for (size_t i = 0; i < rows; i++)
         if (t->segments[i * SARGACEU_SEGMENT_ROW] == SARGACEU_OBR && one_in(++orders))
             row = i + 1;
-    return (uint16_t)row;
+    return (uint32_t)row;
 }
 
 void expect_owners(const struct table *t)
@@ -83,17 +105,42 @@ void expect_owners(const struct table *t)
 
 /* ---- drawing ---- */
 
-/* What the reader makes of a message that is drawn in some way. */
-static void draw_read_table(struct table *t, void (*draw)(struct message *))
+struct room draw_room(uint8_t form)
 {
-    size_t place;
+    const struct sizes *sizes = sizes_of(form);
+    size_t text = sizes->text + TEXT_SLACK, segments = sizes->segments + SEGMENTS_SLACK, leaves = sizes->leaves + LEAVES_SLACK;
+    struct room room = { enough(sizes->text, text), enough(sizes->segments, segments), enough(sizes->leaves, leaves),
+                         former(text), former(segments * sizeof(uint32_t)), former(leaves * sizeof(uint32_t)) };
+    switch (below(20)) {
+    case 0: room.text = short_of(sizes->text); break;
+    case 1: room.segments = short_of(sizes->segments); break;
+    case 2: room.leaves = short_of(sizes->leaves); break;
+    default: break;
+    }
+    return room;
+}
+
+bool is_short(struct room room, uint8_t form)
+{
+    const struct sizes *sizes = sizes_of(form);
+    return room.text < sizes->text || room.segments < sizes->segments || room.leaves < sizes->leaves;
+}
+
+typedef void draw_it(struct message *, uint8_t);
+
+/* What the reader makes of a message that is drawn in some way. */
+static void draw_read_table(struct table *t, uint8_t form, draw_it *draw)
+{
+    const struct sizes *sizes = sizes_of(form);
+    size_t place, text = sizes->text + TEXT_SLACK, segments = (sizes->segments + SEGMENTS_SLACK) * sizeof *t->segments,
+                  leaves = (sizes->leaves + LEAVES_SLACK) * sizeof *t->leaves;
     memcpy(t->card, former(sizeof t->card), sizeof t->card);
-    memcpy(t->segments, former(sizeof t->segments), sizeof t->segments);
-    memcpy(t->leaves, former(sizeof t->leaves), sizeof t->leaves);
-    memcpy(t->text, former(sizeof t->text), sizeof t->text);
-    draw(&source);
-    if (read_table(source.bytes, source.length, t, &place) != SARGACEU_ACCEPTED)
-        read_table((const uint8_t *)least, sizeof least - 1, t, &place);
+    memcpy(t->segments, former(segments), segments);
+    memcpy(t->leaves, former(leaves), leaves);
+    memcpy(t->text, former(text), text);
+    draw(&source, form);
+    if (read_table(form, source.bytes, source.length, t, &place) != SARGACEU_ACCEPTED)
+        read_table(form, (const uint8_t *)least, sizeof least - 1, t, &place);
 }
 
 /* A number that is one off, or any. */
@@ -106,18 +153,18 @@ static size_t other_than(size_t number)
     }
 }
 
-static void change_number(uint16_t *numbers, size_t count)
+static void change_number(uint32_t *numbers, size_t count)
 {
     size_t at = below(count);
-    numbers[at] = (uint16_t)other_than(numbers[at]);
+    numbers[at] = (uint32_t)other_than(numbers[at]);
 }
 
 /* Row `to` becomes what row `from` is, or both change places. */
-static void copy_row(uint16_t *rows, size_t count, size_t row, bool swap)
+static void copy_row(uint32_t *rows, size_t count, size_t row, bool swap)
 {
-    uint16_t kept[SARGACEU_LEAF_ROW];
+    uint32_t kept[SARGACEU_LEAF_ROW];
     size_t size = row * sizeof *rows;
-    uint16_t *from = rows + below(count) * row, *to = rows + below(count) * row;
+    uint32_t *from = rows + below(count) * row, *to = rows + below(count) * row;
     memcpy(kept, to, size);
     memmove(to, from, size);
     if (swap)
@@ -127,28 +174,28 @@ static void copy_row(uint16_t *rows, size_t count, size_t row, bool swap)
 /* A leaf takes another's place, so that one place is there twice, with two texts. */
 static void double_place(struct table *t, size_t leaves)
 {
-    uint16_t *from = t->leaves + below(leaves) * SARGACEU_LEAF_ROW, *to = t->leaves + below(leaves) * SARGACEU_LEAF_ROW;
+    uint32_t *from = t->leaves + below(leaves) * SARGACEU_LEAF_ROW, *to = t->leaves + below(leaves) * SARGACEU_LEAF_ROW;
     memmove(to, from, 5 * sizeof *to);
 }
 
 /* The last leaf gets more text, and everything else fits it: a sound table, unless its message passes the limit. */
 static void lengthen(struct table *t, size_t leaves)
 {
-    uint16_t *last = t->leaves + (leaves - 1) * SARGACEU_LEAF_ROW;
-    size_t more = below(one_in(2) ? 20 : 9000);
-    if (t->card[CARD_TEXT] + more > SARGACEU_TEXT)
-        more = SARGACEU_TEXT - t->card[CARD_TEXT];
+    uint32_t *last = t->leaves + (leaves - 1) * SARGACEU_LEAF_ROW;
+    size_t room = sizes_of(t->form)->text, more = below(one_in(2) ? 20 : room / 2);
+    if (t->card[CARD_TEXT] + more > room)
+        more = room - t->card[CARD_TEXT];
     memset(t->text + t->card[CARD_TEXT], 'x', more);
-    last[6] = (uint16_t)(last[6] + more);
+    last[6] = (uint32_t)(last[6] + more);
     t->card[CARD_TEXT] += more;
 }
 
 /* Orders and invoices go under the nearest cover before them, an ACT under the nearest REG: owners that they had once. */
 static void move_owners(struct table *t, size_t segments)
 {
-    uint16_t cover = 0, line = 0;
+    uint32_t cover = 0, line = 0;
     for (size_t i = 0; i < segments; i++) {
-        uint16_t *row = t->segments + i * SARGACEU_SEGMENT_ROW, number = (uint16_t)(i + 1);
+        uint32_t *row = t->segments + i * SARGACEU_SEGMENT_ROW, number = (uint32_t)(i + 1);
         switch (row[0]) {
         case SARGACEU_P: case SARGACEU_AP: case SARGACEU_AC: cover = number; break;
         case SARGACEU_OBR: row[1] = cover; break;
@@ -199,9 +246,19 @@ static bool fit(struct table *t, size_t segments, size_t leaves, size_t text)
     return false;
 }
 
-static bool draw_and_damage(struct table *t, void (*draw)(struct message *))
+/* The table is judged by the other form now and then. One of the small form is one of the large form, too; the other way it may be too large. */
+static bool change_form(struct table *t)
 {
-    draw_read_table(t, draw);
+    bool large = t->form == SARGACEU_LARGE;
+    if (!one_in(large ? 8 : 1000))
+        return true;
+    t->form = large ? SARGACEU_SMALL : SARGACEU_LARGE;
+    return !large;
+}
+
+static bool draw_and_damage(struct table *t, uint8_t form, draw_it *draw)
+{
+    draw_read_table(t, form, draw);
     size_t segments = t->card[CARD_SEGMENTS], leaves = t->card[CARD_LEAVES], text = t->card[CARD_TEXT];
     bool sound = true;
     if (one_in(2)) {
@@ -211,17 +268,18 @@ static bool draw_and_damage(struct table *t, void (*draw)(struct message *))
     } else if (one_in(3)) {
         t->card_numbers = CARD_MOST; /* the first five count */
     }
-    if (t->card[CARD_TEXT] > text && t->card[CARD_TEXT] <= SARGACEU_TEXT)
+    if (t->card[CARD_TEXT] > text && t->card[CARD_TEXT] <= sizes_of(form)->text)
         text = t->card[CARD_TEXT]; /* it was made longer */
-    return fit(t, segments, leaves, text) && sound;
+    bool fits = fit(t, segments, leaves, text), stays = change_form(t);
+    return fits && stays && sound;
 }
 
-bool draw_table(struct table *t)
+bool draw_table(struct table *t, uint8_t form)
 {
-    return draw_and_damage(t, draw_sound_message);
+    return draw_and_damage(t, form, draw_sound_message);
 }
 
-bool draw_report_table(struct table *t)
+bool draw_report_table(struct table *t, uint8_t form)
 {
-    return draw_and_damage(t, draw_report);
+    return draw_and_damage(t, form, draw_report);
 }

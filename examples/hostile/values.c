@@ -3,7 +3,7 @@
 
 #include <string.h>
 
-enum { LONG_TEXT = 40000, ANSWER_MOST = 5, OUTPUT_MOST = SARGACEU_VALUE_TEXT + 16, PLACES_MOST = SARGACEU_VALUES + 16 };
+enum { LONG_TEXT = 40000, ANSWER_MOST = 5, OUTPUT_MOST = SARGACEU_VALUE_TEXT + 16, PLACES_MOST = SARGACEU_LARGE_VALUES + 16 };
 
 static struct table drawn;
 
@@ -120,11 +120,11 @@ struct places {
 
 static size_t draw_places(size_t count)
 {
-    return one_in(8) ? SARGACEU_VALUES : enough(count, count + 4);
+    return one_in(8) ? sizes_of(drawn.form)->values : enough(count, count + 4);
 }
 
 /* Room for so many values, or one buffer that has less. */
-static struct places draw_room(size_t count)
+static struct places draw_all_places(size_t count)
 {
     struct places places = { draw_places(count), draw_places(count), draw_places(count) };
     size_t *const each[3] = { &places.numbers, &places.wholes, &places.decimals };
@@ -133,9 +133,9 @@ static struct places draw_room(size_t count)
     return places;
 }
 
-static uint8_t expected_number(bool is_table, uint16_t order, struct places places, size_t count)
+static uint8_t expected_number(bool sound, uint32_t order, struct places places, size_t count)
 {
-    if (!is_table)
+    if (!sound)
         return SARGACEU_NO_TABLE;
     if (!plain_is_order(&drawn, order))
         return SARGACEU_NOT_AN_ORDER;
@@ -144,14 +144,14 @@ static uint8_t expected_number(bool is_table, uint16_t order, struct places plac
 
 /* The values' parts, as they stand in three buffers. */
 struct parts {
-    uint8_t numbers[SARGACEU_VALUES];
-    int64_t wholes[SARGACEU_VALUES];
-    uint8_t decimals[SARGACEU_VALUES];
+    uint8_t numbers[SARGACEU_LARGE_VALUES];
+    int64_t wholes[SARGACEU_LARGE_VALUES];
+    uint8_t decimals[SARGACEU_LARGE_VALUES];
 };
 
-static size_t expected_parts(uint16_t order, struct parts *parts)
+static size_t expected_parts(uint32_t order, struct parts *parts)
 {
-    static struct value values[SARGACEU_VALUES];
+    static struct value values[SARGACEU_LARGE_VALUES];
     size_t count = plain_order_values(&drawn, order, values);
     for (size_t i = 0; i < count; i++) {
         parts->numbers[i] = values[i].number;
@@ -164,23 +164,22 @@ static size_t expected_parts(uint16_t order, struct parts *parts)
 int try_order_values(void)
 {
     static struct parts parts;
-    draw_table(&drawn);
-    uint16_t order = draw_order(&drawn);
-    bool is_table = sargaceu_is_table(drawn.card, drawn.card_numbers, drawn.segments, drawn.segments_numbers,
-                                      drawn.leaves, drawn.leaves_numbers, drawn.text, drawn.text_bytes);
-    size_t count = is_table && plain_is_order(&drawn, order) ? expected_parts(order, &parts) : 0;
-    struct places places = draw_room(count);
+    draw_table(&drawn, draw_form());
+    uint32_t order = draw_order(&drawn);
+    bool sound = is_table(&drawn);
+    size_t count = sound && plain_is_order(&drawn, order) ? expected_parts(order, &parts) : 0;
+    struct places places = draw_all_places(count);
     size_t numbers = one_in(16) ? below(SARGACEU_ORDER_ANSWER) : enough(SARGACEU_ORDER_ANSWER, ANSWER_MOST);
     const void *numbers_was = former(PLACES_MOST), *wholes_was = former(PLACES_MOST * sizeof(int64_t)), *decimals_was = former(PLACES_MOST),
                *answer_was = former(ANSWER_MOST * sizeof(size_t));
     bool told = numbers >= SARGACEU_ORDER_ANSWER;
-    uint8_t expected = told ? expected_number(is_table, order, places, count) : SARGACEU_SHORT_BUFFER;
+    uint8_t expected = told ? expected_number(sound, order, places, count) : SARGACEU_SHORT_BUFFER;
     if (expected != SARGACEU_ACCEPTED)
         count = 0;
     const size_t answer[SARGACEU_ORDER_ANSWER] = { 0, count };
     for (int side = 0; side < SIDES; side++) {
         begin_side(side);
-        uint8_t number = sargaceu_order_values(lend(CARD, drawn.card, drawn.card_numbers), drawn.card_numbers,
+        uint8_t number = sargaceu_order_values(drawn.form, lend(CARD, drawn.card, drawn.card_numbers), drawn.card_numbers,
                                                lend(SEGMENTS, drawn.segments, drawn.segments_numbers), drawn.segments_numbers,
                                                lend(LEAVES, drawn.leaves, drawn.leaves_numbers), drawn.leaves_numbers,
                                                lend(TEXT, drawn.text, drawn.text_bytes), drawn.text_bytes, order,
@@ -189,7 +188,7 @@ int try_order_values(void)
                                                lend_to_write(VALUE_DECIMALS, decimals_was, places.decimals), places.decimals,
                                                lend_to_write(ANSWER, answer_was, numbers), numbers);
         if (number != expected)
-            fail("answers %d for row %d, and %d was expected", number, order, expected);
+            fail("answers %d for row %u, and %d was expected", number, order, expected);
         expect_front(VALUE_NUMBERS, parts.numbers, count);
         expect_front(VALUE_WHOLES, parts.wholes, count);
         expect_front(VALUE_DECIMALS, parts.decimals, count);

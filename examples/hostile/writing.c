@@ -4,7 +4,7 @@
 #include <string.h>
 
 static struct table drawn, again;
-static uint8_t written[SARGACEU_OUTPUT];
+static uint8_t written[SARGACEU_LARGE_OUTPUT];
 
 /* Each addendum follows a line that is full. */
 static void expect_full_lines(const uint8_t *message, size_t bytes)
@@ -31,7 +31,7 @@ static uint8_t expected_number(size_t *answer)
         fail("the writer answers %d, though the output is enough", number);
     if (number == SARGACEU_NO_TABLE)
         return number;
-    if (read_table(written, answer[1], &again, &place) != SARGACEU_ACCEPTED)
+    if (read_table(drawn.form, written, answer[1], &again, &place) != SARGACEU_ACCEPTED)
         fail("the reader refuses what was written");
     expect_same_table(&drawn, &again, "what was written and read again");
     expect_owners(&drawn);
@@ -41,20 +41,20 @@ static uint8_t expected_number(size_t *answer)
 
 int try_write(void)
 {
-    bool sound = draw_table(&drawn);
-    size_t bytes = one_in(16) ? short_of(SARGACEU_OUTPUT) : enough(SARGACEU_OUTPUT, SARGACEU_OUTPUT + 64);
+    bool sound = draw_table(&drawn, draw_form());
+    size_t least = sizes_of(drawn.form)->output, bytes = one_in(16) ? short_of(least) : enough(least, least + TEXT_SLACK);
     size_t numbers = one_in(16) ? below(SARGACEU_WRITE_ANSWER) : enough(SARGACEU_WRITE_ANSWER, 6), answer[SARGACEU_WRITE_ANSWER];
-    const void *output_was = former(SARGACEU_OUTPUT + 64), *answer_was = former(8 * sizeof(size_t));
+    const void *output_was = former(least + TEXT_SLACK), *answer_was = former(8 * sizeof(size_t));
     uint8_t expected = expected_number(answer);
     if (sound && expected != SARGACEU_ACCEPTED)
         fail("refuses a table that was read");
-    if (numbers < SARGACEU_WRITE_ANSWER || bytes < SARGACEU_OUTPUT) {
+    if (numbers < SARGACEU_WRITE_ANSWER || bytes < least) {
         expected = numbers < SARGACEU_WRITE_ANSWER ? SARGACEU_SHORT_BUFFER : SARGACEU_SHORT_OUTPUT;
         memset(answer, 0, sizeof answer);
     }
     for (int side = 0; side < SIDES; side++) {
         begin_side(side);
-        uint8_t number = sargaceu_write(lend(CARD, drawn.card, drawn.card_numbers), drawn.card_numbers,
+        uint8_t number = sargaceu_write(drawn.form, lend(CARD, drawn.card, drawn.card_numbers), drawn.card_numbers,
                                         lend(SEGMENTS, drawn.segments, drawn.segments_numbers), drawn.segments_numbers,
                                         lend(LEAVES, drawn.leaves, drawn.leaves_numbers), drawn.leaves_numbers,
                                         lend(TEXT, drawn.text, drawn.text_bytes), drawn.text_bytes,
@@ -68,15 +68,27 @@ int try_write(void)
     return expected;
 }
 
+/* A table of the small form is one of the large form. */
+static void expect_large(void)
+{
+    struct table *t = &again;
+    copy_table(t, &drawn);
+    t->form = SARGACEU_LARGE;
+    if (!is_table(t))
+        fail("a table of one form is none of the large form");
+}
+
 int try_is_table(void)
 {
     size_t answer[SARGACEU_WRITE_ANSWER];
-    bool sound = draw_table(&drawn), expected = expected_number(answer) == SARGACEU_ACCEPTED;
+    bool sound = draw_table(&drawn, draw_form()), expected = expected_number(answer) == SARGACEU_ACCEPTED;
     if (sound && !expected)
         fail("the writer refuses a table that was read");
+    if (expected)
+        expect_large();
     for (int side = 0; side < SIDES; side++) {
         begin_side(side);
-        bool yes = sargaceu_is_table(lend(CARD, drawn.card, drawn.card_numbers), drawn.card_numbers,
+        bool yes = sargaceu_is_table(drawn.form, lend(CARD, drawn.card, drawn.card_numbers), drawn.card_numbers,
                                      lend(SEGMENTS, drawn.segments, drawn.segments_numbers), drawn.segments_numbers,
                                      lend(LEAVES, drawn.leaves, drawn.leaves_numbers), drawn.leaves_numbers,
                                      lend(TEXT, drawn.text, drawn.text_bytes), drawn.text_bytes);

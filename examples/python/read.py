@@ -6,18 +6,25 @@ The archive's code may stand at any address, so one command makes a shared libra
     python3 examples/python/read.py target/libsargaceu.so <samples/report.hpr
 """
 import sys
-from ctypes import CDLL, POINTER, c_char_p, c_size_t, c_uint8, c_uint16
+from ctypes import CDLL, POINTER, c_char_p, c_size_t, c_uint8, c_uint32
 from enum import IntEnum
 
-BYTES, NUMBERS, SIZES = POINTER(c_uint8), POINTER(c_uint16), POINTER(c_size_t)
+BYTES, NUMBERS, SIZES = POINTER(c_uint8), POINTER(c_uint32), POINTER(c_size_t)
+
+SMALL, VERSION = 0, 2  # the form of the messages, and the version that the declarations below are of
 
 library = CDLL(sys.argv[1])
+library.sargaceu_version.restype = c_uint32
+library.sargaceu_version.argtypes = []
+if library.sargaceu_version() != VERSION:
+    sys.exit("the library has another version")
 # Without these ctypes would pass every number as an int, which is too narrow for a length.
 library.sargaceu_read.restype = c_uint8
-library.sargaceu_read.argtypes = [c_char_p, c_size_t, BYTES, c_size_t, NUMBERS, c_size_t, NUMBERS, c_size_t, SIZES, c_size_t]
+library.sargaceu_read.argtypes = [c_uint8, c_char_p, c_size_t, BYTES, c_size_t, NUMBERS, c_size_t, NUMBERS, c_size_t,
+                                  SIZES, c_size_t]
 library.sargaceu_find_leaf_in_segment.restype = c_uint8
 library.sargaceu_find_leaf_in_segment.argtypes = [SIZES, c_size_t, NUMBERS, c_size_t, NUMBERS, c_size_t, BYTES, c_size_t,
-                                                  c_uint16, c_uint16, c_uint16, c_uint16, c_uint16, SIZES, c_size_t]
+                                                  c_uint32, c_uint32, c_uint32, c_uint32, c_uint32, SIZES, c_size_t]
 
 
 class Sought(IntEnum):
@@ -28,10 +35,10 @@ class Sought(IntEnum):
 
 
 message = sys.stdin.buffer.read()
-text, segments, leaves = (c_uint8 * 16384)(), (c_uint16 * 1024)(), (c_uint16 * 14336)()
+text, segments, leaves = (c_uint8 * 16384)(), (c_uint32 * 1024)(), (c_uint32 * 14336)()
 answer, leaf = (c_size_t * 6)(), (c_size_t * 2)()
 
-number = library.sargaceu_read(message, len(message), text, len(text), segments, len(segments), leaves, len(leaves),
+number = library.sargaceu_read(SMALL, message, len(message), text, len(text), segments, len(segments), leaves, len(leaves),
                                answer, len(answer))
 if number != 0:
     print(f"refused: {number} at {answer[0]}")

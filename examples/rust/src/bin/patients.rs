@@ -1,13 +1,13 @@
 //! From patient to orders to results, with the comments of each: takes a message from standard input and prints texts as they are.
 
-use sargaceu::{Buffers, Kind, Place, Row, Table};
+use sargaceu::{Buffers, Entry, Form, Kind, Place, Row, Table};
 use std::io::{self, Read, Write};
 use std::process::ExitCode;
 
 fn main() -> io::Result<ExitCode> {
     let mut message = Vec::new();
     io::stdin().read_to_end(&mut message)?;
-    let mut buffers = Buffers::new();
+    let mut buffers = Buffers::new(Form::Small);
     match buffers.read(&message) {
         Ok(table) => patients(&table).map(|()| ExitCode::SUCCESS),
         Err(refusal) => {
@@ -54,7 +54,7 @@ fn show(table: &Table, what: &str, place: Place) -> io::Result<()> {
 }
 
 /// A line with every leaf of a field: a unit of `10^9/L` is two repetitions, and the second line of a text is one.
-fn show_whole(table: &Table, what: &str, row: Row, field: u16) -> io::Result<()> {
+fn show_whole(table: &Table, what: &str, row: Row, field: Entry) -> io::Result<()> {
     let leaves = table
         .row(row)
         .into_iter()

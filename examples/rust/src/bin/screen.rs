@@ -1,14 +1,14 @@
 //! A check before sending: takes a message from standard input and says whether it meets the rules for screening reports, else the first rule that
 //! it does not meet, with the row and its kind. The status is 0 for yes, and 1 for no, for a refused message and where the input could not be read.
 
-use sargaceu::{Buffers, Refusal, Row, Table};
+use sargaceu::{Buffers, Form, Refusal, Row, Table};
 use std::io::{self, Read};
 use std::process::ExitCode;
 
 fn main() -> io::Result<ExitCode> {
     let mut message = Vec::new();
     io::stdin().read_to_end(&mut message)?;
-    let mut buffers = Buffers::new();
+    let mut buffers = Buffers::new(Form::Small);
     let table = match buffers.read(&message) {
         Ok(table) => table,
         Err(refusal) => {

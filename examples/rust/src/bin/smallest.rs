@@ -1,13 +1,13 @@
 //! The smallest reader: takes a message from standard input and prints the value (10.6) of each result, and its unit (10.7) in parentheses.
 
-use sargaceu::{Buffers, Kind, Sought};
+use sargaceu::{Buffers, Form, Kind, Sought};
 use std::io::{self, Read, Write};
 use std::process::ExitCode;
 
 fn main() -> io::Result<ExitCode> {
     let mut message = Vec::new();
     io::stdin().read_to_end(&mut message)?;
-    let mut buffers = Buffers::new();
+    let mut buffers = Buffers::new(Form::Small);
     let table = match buffers.read(&message) {
         Ok(table) => table,
         Err(refusal) => {

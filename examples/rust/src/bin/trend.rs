@@ -1,14 +1,14 @@
 //! A trend view: takes a message from standard input and shows the numeric results of each order (9.4.2), by the code of the test (10.4): whole
 //! number, decimals and the text that is written of them again, or the number that the value is refused with.
 
-use sargaceu::{Buffers, Kind, Place, Refusal, Row, Table};
+use sargaceu::{Buffers, Form, Kind, Place, Refusal, Row, Table};
 use std::io::{self, Read, Write};
 use std::process::ExitCode;
 
 fn main() -> io::Result<ExitCode> {
     let mut message = Vec::new();
     io::stdin().read_to_end(&mut message)?;
-    let mut buffers = Buffers::new();
+    let mut buffers = Buffers::new(Form::Small);
     match buffers.read(&message) {
         Ok(table) => orders(&table).map(|()| ExitCode::SUCCESS),
         Err(refusal) => {

@@ -1,6 +1,6 @@
 //! Reads a message from standard input, writes its table again and reads what was written.
 
-use sargaceu::{size, Buffers, Refusal};
+use sargaceu::{Buffers, Form, Refusal};
 use std::io::{self, Read};
 use std::process::ExitCode;
 
@@ -19,14 +19,14 @@ fn main() -> io::Result<ExitCode> {
 
 /// Whether what was written reads to the same table.
 fn write_back(message: &[u8]) -> Result<bool, Refusal> {
-    let mut buffers = Buffers::new();
+    let mut buffers = Buffers::new(Form::Small);
     let table = buffers.read(message)?;
 
-    let mut output = [0; size::OUTPUT];
+    let mut output = vec![0; table.form().output()];
     let written = table.write(&mut output)?;
     println!("wrote {} bytes in {} lines", written.bytes, written.lines);
 
-    let mut others = Buffers::new();
+    let mut others = Buffers::new(Form::Small);
     let again = others.read(&output[..written.bytes])?;
     let same = again == table;
     println!(
