@@ -30,7 +30,7 @@ static struct name gather(struct name name, uint8_t field, const uint8_t *p, con
 struct survey {
     size_t segments, separators;
     uint8_t context;
-    uint8_t kinds[SEGMENTS];
+    uint8_t kinds[MOST_SEGMENTS]; /* nothing is touched past the form's segments */
 };
 
 struct verdict { uint8_t number; size_t place; };
@@ -66,7 +66,7 @@ static bool is_addendum(const uint8_t *line, const uint8_t *end, uint8_t field)
 }
 
 /* Every line is judged, separators and segments are counted, kinds and the context are taken down. */
-static struct verdict survey(const uint8_t *class, uint8_t field, const uint8_t *message, size_t bytes, struct survey *seen)
+static struct verdict survey(const uint8_t *class, uint8_t field, const uint8_t *message, size_t bytes, size_t most, struct survey *seen)
 {
     const uint8_t *end = message + bytes, *line = message, *from = message + 7;
     struct name kind = { 'H', 0 }, context = { 0, 5 };
@@ -86,7 +86,7 @@ static struct verdict survey(const uint8_t *class, uint8_t field, const uint8_t 
             from += 2;
             continue;
         }
-        if (segments < SEGMENTS)
+        if (segments < most)
             seen->kinds[segments] = kind_named(kind.letters);
         segments++;
         if (line == end)
@@ -106,9 +106,9 @@ static size_t leaf_count(const struct survey *seen)
 }
 
 /* Tests 7 to 11. */
-static struct verdict judge(const struct survey *seen)
+static struct verdict judge(const struct survey *seen, struct form form)
 {
-    if (seen->segments > SEGMENTS)
+    if (seen->segments > form.segments)
         return verdict(7, 0);
     for (size_t i = 0; i < seen->segments; i++)
         if (seen->kinds[i] == 0)
@@ -118,22 +118,22 @@ static struct verdict judge(const struct survey *seen)
     size_t place = misplaced(seen->context, seen->kinds, seen->segments);
     if (place)
         return verdict(10, place);
-    return verdict(leaf_count(seen) > LEAVES ? 11 : 0, 0);
+    return verdict(leaf_count(seen) > form.leaves ? 11 : 0, 0);
 }
 
 /* ---- the reader's second pass ---- */
 
 /* The open leaf, where its text begins, and where rows and text go. */
 struct filling {
-    uint16_t *row;
+    uint32_t *row;
     uint8_t *out;
     const uint8_t *begin;
-    uint16_t segment, field, repetition, subfield, subsubfield, start;
+    uint32_t segment, field, repetition, subfield, subsubfield, start;
 };
 
 static inline void put_leaf(struct filling *f)
 {
-    uint16_t length = f->out - f->begin;
+    uint32_t length = f->out - f->begin;
     f->row[0] = f->segment;
     f->row[1] = f->field;
     f->row[2] = f->repetition;
@@ -180,9 +180,9 @@ static inline const uint8_t *fill_line(const uint8_t *class, const uint8_t *p, s
     }
 }
 
-static inline struct filling put_header(const uint8_t *message, uint8_t *text, uint16_t *leaves)
+static inline struct filling put_header(const uint8_t *message, uint8_t *text, uint32_t *leaves)
 {
-    static const uint16_t rows[2 * LEAF_ROW] = { 1, 1, 1, 1, 1, 0, 1, 1, 2, 1, 1, 1, 1, 4 };
+    static const uint32_t rows[2 * LEAF_ROW] = { 1, 1, 1, 1, 1, 0, 1, 1, 2, 1, 1, 1, 1, 4 };
     text[0] = 'H';
     memcpy(text + 1, message + 2, 4);
     memcpy(leaves, rows, sizeof rows);
@@ -191,10 +191,10 @@ static inline struct filling put_header(const uint8_t *message, uint8_t *text, u
 
 /* Text and leaf rows of all segments, and first leaf and leaf count of each; answers the bytes of text. */
 static size_t fill_leaves(const uint8_t *class, uint8_t field, const uint8_t *message, size_t bytes,
-                          uint8_t *restrict text, uint16_t *restrict segments, uint16_t *restrict leaves)
+                          uint8_t *restrict text, uint32_t *restrict segments, uint32_t *restrict leaves)
 {
     const uint8_t *end = message + bytes, *p = message + 7;
-    const uint16_t *first = leaves;
+    const uint32_t *first = leaves;
     struct filling f = put_header(message, text, leaves);
     for (;;) {
         p = skip_low(fill_line(class, p, &f) + 1, end);
@@ -214,7 +214,7 @@ static size_t fill_leaves(const uint8_t *class, uint8_t field, const uint8_t *me
     }
 }
 
-static void fill_kinds(const struct survey *seen, uint16_t *segments)
+static void fill_kinds(const struct survey *seen, uint32_t *segments)
 {
     const uint8_t *level = levels[seen->context], *kinds = seen->kinds;
     unsigned before = 0;
@@ -233,15 +233,15 @@ static uint8_t refuse(uint8_t number, size_t place, size_t *answer, size_t count
     return number;
 }
 
-static uint8_t read_sound(struct separators s, const uint8_t *message, size_t bytes,
-                          uint8_t *text, uint16_t *segments, uint16_t *leaves, size_t *answer)
+static uint8_t read_sound(struct form form, struct separators s, const uint8_t *message, size_t bytes,
+                          uint8_t *text, uint32_t *segments, uint32_t *leaves, size_t *answer)
 {
     uint8_t class[256];
     struct survey seen;
     set_classes(class, s);
-    struct verdict v = survey(class, s.field, message, bytes, &seen);
+    struct verdict v = survey(class, s.field, message, bytes, form.segments, &seen);
     if (v.number == 0)
-        v = judge(&seen);
+        v = judge(&seen, form);
     if (v.number)
         return refuse(v.number, v.place, answer, 5);
     answer[0] = 0;
@@ -254,24 +254,26 @@ static uint8_t read_sound(struct separators s, const uint8_t *message, size_t by
     return 0;
 }
 
-uint8_t base_read(const uint8_t *message, size_t message_bytes,
+uint8_t base_read(uint8_t form,
+                  const uint8_t *message, size_t message_bytes,
                   uint8_t *text, size_t text_bytes,
-                  uint16_t *segments, size_t segments_numbers,
-                  uint16_t *leaves, size_t leaves_numbers,
+                  uint32_t *segments, size_t segments_numbers,
+                  uint32_t *leaves, size_t leaves_numbers,
                   size_t *answer, size_t answer_numbers)
 {
     if (answer_numbers < 6)
         return 1;
-    if (text_bytes < BYTES || segments_numbers < SEGMENTS * SEGMENT_ROW || leaves_numbers < LEAVES * LEAF_ROW)
+    struct form limits = form_of(form);
+    if (text_bytes < limits.bytes || segments_numbers < limits.segments * SEGMENT_ROW || leaves_numbers < limits.leaves * LEAF_ROW)
         return refuse(1, 0, answer, 5);
-    if (message_bytes > BYTES)
+    if (message_bytes > limits.bytes)
         return refuse(2, 0, answer, 5);
     if (message_bytes < 7 || message[0] != 'H' || message[6] != message[1])
         return refuse(3, 0, answer, 5);
     struct separators s = { message[1], message[2], message[3], message[4], message[5] };
     if (!sound(s))
         return refuse(3, 0, answer, 5);
-    return read_sound(s, message, message_bytes, text, segments, leaves, answer);
+    return read_sound(limits, s, message, message_bytes, text, segments, leaves, answer);
 }
 
 /* ---- the writer's pass ---- */
@@ -331,7 +333,7 @@ static inline void put_text(struct writing *w, const uint8_t *p, size_t bytes)
 }
 
 /* The separator between two leaves of a segment: that of the coarsest number that differs. */
-static inline uint8_t between(struct separators s, const uint16_t *row, const uint16_t *next)
+static inline uint8_t between(struct separators s, const uint32_t *row, const uint32_t *next)
 {
     if (row[1] != next[1])
         return s.field;
@@ -344,9 +346,9 @@ static uint8_t write_table(const struct table *t, uint8_t *restrict output, size
 {
     struct writing w = { output, output, 0, t->separators.field };
     const uint8_t *text = t->text;
-    const uint16_t *row = t->leaves;
+    const uint32_t *row = t->leaves;
     for (size_t i = 0; i < t->many; i++) {
-        const uint16_t *end = row + t->segments[i * SEGMENT_ROW + 3] * LEAF_ROW;
+        const uint32_t *end = row + t->segments[i * SEGMENT_ROW + 3] * LEAF_ROW;
         w.full = w.out + LINE;
         for (;;) {
             put_text(&w, text, row[6]);
@@ -364,22 +366,22 @@ static uint8_t write_table(const struct table *t, uint8_t *restrict output, size
     return 0;
 }
 
-uint8_t base_write(const size_t *card, size_t card_numbers,
-                   const uint16_t *segments, size_t segments_numbers,
-                   const uint16_t *leaves, size_t leaves_numbers,
+uint8_t base_write(uint8_t form,
+                   const size_t *card, size_t card_numbers,
+                   const uint32_t *segments, size_t segments_numbers,
+                   const uint32_t *leaves, size_t leaves_numbers,
                    const uint8_t *text, size_t text_bytes,
                    uint8_t *output, size_t output_bytes,
                    size_t *answer, size_t answer_numbers)
 {
     if (answer_numbers < 3)
         return 1;
-    if (output_bytes < BYTES)
+    struct form limits = form_of(form);
+    if (output_bytes < limits.bytes)
         return refuse(12, 0, answer, 2);
-    if (card_numbers < 5 || card[0] > 255 || card[1] > 255 || card[2] > SEGMENTS || card[3] > LEAVES || card[4] > BYTES)
+    if (!is_lent_card(limits, card, card_numbers, segments_numbers, leaves_numbers, text_bytes))
         return refuse(13, 0, answer, 2);
-    if (card[2] * SEGMENT_ROW > segments_numbers || card[3] * LEAF_ROW > leaves_numbers || card[4] > text_bytes)
-        return refuse(13, 0, answer, 2);
-    struct table t = { card[1], card[2], card[3], card[4], segments, leaves, text, { 0 } };
+    struct table t = { limits.bytes, card[1], card[2], card[3], card[4], segments, leaves, text, { 0 } };
     if (!is_table(&t, card[0]))
         return refuse(13, 0, answer, 2);
     return write_table(&t, output, answer);
@@ -394,10 +396,10 @@ enum { NOT_THERE, FOUND, FOUND_EMPTY };
  * five instructions and one jump, where it would take two jumps and twice the time.
  */
 uint8_t base_find_leaf(const size_t *card, size_t card_numbers,
-                       const uint16_t *segments, size_t segments_numbers,
-                       const uint16_t *leaves, size_t leaves_numbers,
+                       const uint32_t *segments, size_t segments_numbers,
+                       const uint32_t *leaves, size_t leaves_numbers,
                        const uint8_t *text, size_t text_bytes,
-                       uint16_t segment, uint16_t field, uint16_t repetition, uint16_t subfield, uint16_t subsubfield,
+                       uint32_t segment, uint32_t field, uint32_t repetition, uint32_t subfield, uint32_t subsubfield,
                        size_t *answer, size_t answer_numbers)
 {
     (void)segments, (void)text;
@@ -405,7 +407,7 @@ uint8_t base_find_leaf(const size_t *card, size_t card_numbers,
         return NOT_THERE;
     if (card[2] > segments_numbers / SEGMENT_ROW || card[3] > leaves_numbers / LEAF_ROW || card[4] > text_bytes)
         return NOT_THERE;
-    const uint16_t *row = leaves;
+    const uint32_t *row = leaves;
     for (size_t left = card[3]; left > 0; left--, row += LEAF_ROW) {
         if (__builtin_expect(row[0] != segment, 1))
             continue;

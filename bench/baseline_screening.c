@@ -16,7 +16,7 @@ enum { ORU = 6 };
 /* ---- the leaves of a row ---- */
 
 /* The table has been tested, so the leaf rows run on field by field, and what is sought next lies behind what was found. */
-struct leaves { const uint16_t *row, *end; };
+struct leaves { const uint32_t *row, *end; };
 
 /* Goes on to the leaf of a field and a subfield; whether it is there. */
 static inline bool seek(struct leaves *l, unsigned field, unsigned subfield)
@@ -73,12 +73,12 @@ static unsigned judge_order(struct leaves l)
     return filled(&l, 8, 1) ? KEPT : NO_SAMPLE_TIME;
 }
 
-/* How many results have each code, a byte for each: a table has under 256 segments that are results. */
-enum { PAYS = 1, TYPOR = 1 << 8, PROSS = 1 << 16, FINGE = 1 << 24 };
-static const uint32_t one_of_each = PAYS | TYPOR | PROSS | FINGE;
+/* How many results have each code, 16 bits for each: a table has at most 4,096 segments. */
+static const uint64_t PAYS = 1, TYPOR = (uint64_t)1 << 16, PROSS = (uint64_t)1 << 32, FINGE = (uint64_t)1 << 48;
+static const uint64_t one_of_each = PAYS | TYPOR | PROSS | FINGE;
 
 /* What a result adds to these counts. */
-static inline uint32_t code_of(struct leaves *l, const uint8_t *text)
+static inline uint64_t code_of(struct leaves *l, const uint8_t *text)
 {
     if (!seek(l, 4, 1))
         return 0;
@@ -90,13 +90,13 @@ static inline uint32_t code_of(struct leaves *l, const uint8_t *text)
     return memcmp(code, "TYPOR", 5) == 0 ? TYPOR : memcmp(code, "PROSS", 5) == 0 ? PROSS : memcmp(code, "FINGE", 5) == 0 ? FINGE : 0;
 }
 
-static inline unsigned judge_result(struct leaves l, const uint8_t *text, uint32_t *counts)
+static inline unsigned judge_result(struct leaves l, const uint8_t *text, uint64_t *counts)
 {
     static const uint32_t residences = LETTER('I') | LETTER('H') | LETTER('E') | LETTER('C') | LETTER('A') | LETTER('U');
     static const uint32_t professions = LETTER('O') | LETTER('N') | LETTER('U');
     static const uint32_t outcomes = LETTER('P') | LETTER('N') | LETTER('I') | LETTER('X');
     bool coded = says(&l, 3, 1, text, "CE");
-    uint32_t code = code_of(&l, text);
+    uint64_t code = code_of(&l, text);
     *counts += code;
     coded = coded && (says(&l, 4, 3, text, "LN") || says(&l, 4, 6, text, "LN"));
     if (code == TYPOR && !says_letter(&l, 6, 1, text, residences))
@@ -107,11 +107,11 @@ static inline unsigned judge_result(struct leaves l, const uint8_t *text, uint32
 }
 
 /* The first code that not exactly one of a patient's results has. */
-static inline unsigned judge_counts(uint32_t counts)
+static inline unsigned judge_counts(uint64_t counts)
 {
     if (counts == one_of_each)
         return KEPT;
-    return NOT_ONE_PAYS + (unsigned)__builtin_ctz(counts ^ one_of_each) / 8;
+    return NOT_ONE_PAYS + (unsigned)__builtin_ctzll(counts ^ one_of_each) / 16;
 }
 
 /* ---- the table ---- */
@@ -125,13 +125,13 @@ static inline void note(struct lowest *lowest, unsigned number, size_t place)
         *lowest = (struct lowest){ number, place };
 }
 
-static struct lowest judge(const uint16_t *segments, size_t many, const uint16_t *leaves, const uint8_t *text)
+static struct lowest judge(const uint32_t *segments, size_t many, const uint32_t *leaves, const uint8_t *text)
 {
     struct lowest lowest = { KEPT, 0 };
     size_t patient = 0;
-    uint32_t counts = one_of_each;
+    uint64_t counts = one_of_each;
     for (size_t i = 1; i <= many; i++, segments += SEGMENT_ROW) {
-        const uint16_t *row = leaves + (segments[2] - 1) * LEAF_ROW;
+        const uint32_t *row = leaves + (segments[2] - 1) * LEAF_ROW;
         struct leaves l = { row, row + segments[3] * LEAF_ROW };
         switch (segments[0]) {
         case OBX:
@@ -155,16 +155,17 @@ static struct lowest judge(const uint16_t *segments, size_t many, const uint16_t
     return lowest;
 }
 
-uint8_t base_screen(const size_t *card, size_t card_numbers,
-                    const uint16_t *segments, size_t segments_numbers,
-                    const uint16_t *leaves, size_t leaves_numbers,
+uint8_t base_screen(uint8_t form,
+                    const size_t *card, size_t card_numbers,
+                    const uint32_t *segments, size_t segments_numbers,
+                    const uint32_t *leaves, size_t leaves_numbers,
                     const uint8_t *text, size_t text_bytes,
                     size_t *answer, size_t answer_numbers)
 {
     if (answer_numbers < 1)
         return 1;
     answer[0] = 0;
-    if (!is_lent_table(card, card_numbers, segments, segments_numbers, leaves, leaves_numbers, text, text_bytes))
+    if (!is_lent_table(form, card, card_numbers, segments, segments_numbers, leaves, leaves_numbers, text, text_bytes))
         return NO_TABLE;
     if (card[1] != ORU)
         return NOT_A_REPORT;

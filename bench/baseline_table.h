@@ -12,7 +12,18 @@
 
 /* ---- limits, bytes and names ---- */
 
-enum { LINE = 219, MORE = 217, SEGMENTS = 256, LEAVES = 2048, BYTES = 16384 };
+/* The two forms differ in these alone, which a call looks up once; any number but the large form's is the small one's. */
+struct form { uint32_t segments, leaves, bytes; };
+
+enum { MOST_SEGMENTS = 4096 };
+static const struct form forms[2] = { { 256, 2048, 16384 }, { MOST_SEGMENTS, 65536, 1048576 } };
+
+static inline struct form form_of(uint8_t number)
+{
+    return forms[number == 1];
+}
+
+enum { LINE = 219, MORE = 217 };
 enum { SEGMENT_ROW = 4, LEAF_ROW = 7 };
 enum { CR = 13, SPACE = 32 };
 enum { H = 1, P, AP, AC, OBR, OBX, FAC, REG, ACT, ERR, L, C };
@@ -135,7 +146,7 @@ static size_t misplaced(uint8_t context, const uint8_t *kinds, size_t many)
  * The owner of a row of this kind, by the row before it, C aside, or 0: whoever stands between that row and its owner is no lower in
  * level than the row itself, so the way up leads over owners alone.
  */
-static unsigned owner_of(const uint8_t *level, const uint8_t *kinds, const uint16_t *segments, unsigned before, uint8_t kind)
+static unsigned owner_of(const uint8_t *level, const uint8_t *kinds, const uint32_t *segments, unsigned before, uint8_t kind)
 {
     if (kind == C)
         return before;
@@ -147,15 +158,16 @@ static unsigned owner_of(const uint8_t *level, const uint8_t *kinds, const uint1
 /* ---- the table test ---- */
 
 struct table {
+    size_t most; /* the bytes that a message of the form may have */
     uint8_t context;
     size_t many, count, bytes; /* segments, leaves, bytes of text */
-    const uint16_t *segments, *leaves;
+    const uint32_t *segments, *leaves;
     const uint8_t *text;
     struct separators separators;
 };
 
 /* No message has a split field 1, so what follows a first leaf there is field 2; else every kind of step is sound. */
-static inline bool comes_next(const uint16_t *row, const uint16_t *next)
+static inline bool comes_next(const uint32_t *row, const uint32_t *next)
 {
     if (next[1] != row[1])
         return next[1] == row[1] + 1 && next[2] == 1 && next[3] == 1 && next[4] == 1;
@@ -170,13 +182,13 @@ static inline bool comes_next(const uint16_t *row, const uint16_t *next)
 
 /*
  * Whether so many leaf rows from `row` on are all of this segment's leaves, their texts end to end from `start` on; answers the end of
- * the last, or `none` where not. Numbers that run on from 1 stay far below 65,536, so no number here wraps.
+ * the last, or `none` where not. Numbers that run on from 1 stay far below what 32 bits hold, so no number here wraps.
  */
 static const size_t none = (size_t)-1;
 
-static size_t leaves_end(const uint16_t *row, size_t count, unsigned segment, size_t start, size_t bytes)
+static size_t leaves_end(const uint32_t *row, size_t count, unsigned segment, size_t start, size_t bytes)
 {
-    const uint16_t *last = row + (count - 1) * LEAF_ROW;
+    const uint32_t *last = row + (count - 1) * LEAF_ROW;
     if (row[1] != 1 || row[2] != 1 || row[3] != 1 || row[4] != 1)
         return none;
     for (;; row += LEAF_ROW) {
@@ -193,7 +205,7 @@ static size_t leaves_end(const uint16_t *row, size_t count, unsigned segment, si
 }
 
 /* The name that a leaf is; longer ones are none. */
-static uint32_t name_of(const uint16_t *row, const uint8_t *text)
+static uint32_t name_of(const uint32_t *row, const uint8_t *text)
 {
     const uint8_t *p = text + row[5];
     switch (row[6]) {
@@ -205,9 +217,9 @@ static uint32_t name_of(const uint16_t *row, const uint8_t *text)
 }
 
 /* The context that field 7 of the first segment names; 0 where it is missing, split or no name. */
-static uint8_t stated_context(const uint16_t *row, size_t count, const uint8_t *text)
+static uint8_t stated_context(const uint32_t *row, size_t count, const uint8_t *text)
 {
-    const uint16_t *end = row + count * LEAF_ROW;
+    const uint32_t *end = row + count * LEAF_ROW;
     while (row < end && row[1] != 7)
         row += LEAF_ROW;
     if (row == end || (row + LEAF_ROW < end && row[LEAF_ROW + 1] == 7))
@@ -222,11 +234,11 @@ static size_t in_lines(size_t bytes)
 }
 
 /* Whether the segment rows and the leaf rows agree, within the form's bytes; the kinds are taken down. */
-static bool rows_agree(const struct table *t, uint8_t kinds[SEGMENTS])
+static bool rows_agree(const struct table *t, uint8_t *kinds)
 {
     size_t first = 0, start = 0, written = 0;
     for (size_t i = 0; i < t->many; i++) {
-        const uint16_t *segment = t->segments + i * SEGMENT_ROW, *row = t->leaves + first * LEAF_ROW;
+        const uint32_t *segment = t->segments + i * SEGMENT_ROW, *row = t->leaves + first * LEAF_ROW;
         size_t count = segment[3];
         if (segment[2] != first + 1 || count == 0 || count > t->count - first)
             return false;
@@ -240,7 +252,7 @@ static bool rows_agree(const struct table *t, uint8_t kinds[SEGMENTS])
         start = end;
         first += count;
     }
-    return first == t->count && start == t->bytes && written <= BYTES;
+    return first == t->count && start == t->bytes && written <= t->most;
 }
 
 static bool owners_agree(const struct table *t, const uint8_t *kinds)
@@ -270,7 +282,7 @@ static bool is_plain(struct separators s, const uint8_t *p, const uint8_t *end)
 /* The first leaf is `H`, the second the four bytes of a sound header, and both are fields of one leaf. */
 static bool header_sound(struct table *t, uint8_t field)
 {
-    const uint16_t *row = t->leaves;
+    const uint32_t *row = t->leaves;
     const uint8_t *p = t->text;
     if (t->count < 3 || t->bytes < 5 || p[0] != 'H' || row[6] != 1 || row[LEAF_ROW + 6] != 4)
         return false;
@@ -283,9 +295,9 @@ static bool header_sound(struct table *t, uint8_t field)
 /* Whether some message reads to this table: whether the reader would give it for what the writer would write. */
 static bool is_table(struct table *t, uint8_t field)
 {
-    uint8_t kinds[SEGMENTS];
     if (t->many == 0 || t->context == 0 || t->context > 7 || !header_sound(t, field))
         return false;
+    uint8_t kinds[t->many];
     return rows_agree(t, kinds)
         && kinds[0] == H
         && is_plain(t->separators, t->text + 5, t->text + t->bytes)
@@ -294,17 +306,25 @@ static bool is_table(struct table *t, uint8_t field)
         && owners_agree(t, kinds);
 }
 
-/* The same of what a caller lends: the card is held to the form and to the buffers first. */
-static inline bool is_lent_table(const size_t *card, size_t card_numbers,
-                                 const uint16_t *segments, size_t segments_numbers,
-                                 const uint16_t *leaves, size_t leaves_numbers,
+/* Whether a card counts no more than the form allows and the buffers hold. */
+static inline bool is_lent_card(struct form form, const size_t *card, size_t card_numbers,
+                                size_t segments_numbers, size_t leaves_numbers, size_t text_bytes)
+{
+    return card_numbers >= 5 && card[0] <= 255 && card[1] <= 255
+        && card[2] <= form.segments && card[3] <= form.leaves && card[4] <= form.bytes
+        && card[2] * SEGMENT_ROW <= segments_numbers && card[3] * LEAF_ROW <= leaves_numbers && card[4] <= text_bytes;
+}
+
+/* Whether some message reads to what a caller lends: the card is held to the form and to the buffers first. */
+static inline bool is_lent_table(uint8_t number, const size_t *card, size_t card_numbers,
+                                 const uint32_t *segments, size_t segments_numbers,
+                                 const uint32_t *leaves, size_t leaves_numbers,
                                  const uint8_t *text, size_t text_bytes)
 {
-    if (card_numbers < 5 || card[0] > 255 || card[1] > 255 || card[2] > SEGMENTS || card[3] > LEAVES || card[4] > BYTES)
+    struct form form = form_of(number);
+    if (!is_lent_card(form, card, card_numbers, segments_numbers, leaves_numbers, text_bytes))
         return false;
-    if (card[2] * SEGMENT_ROW > segments_numbers || card[3] * LEAF_ROW > leaves_numbers || card[4] > text_bytes)
-        return false;
-    struct table t = { card[1], card[2], card[3], card[4], segments, leaves, text, { 0 } };
+    struct table t = { form.bytes, card[1], card[2], card[3], card[4], segments, leaves, text, { 0 } };
     return is_table(&t, card[0]);
 }
 

@@ -114,22 +114,23 @@ uint8_t base_write_value(int64_t whole, size_t decimals, uint8_t *output, size_t
 
 /* ---- an order's values ---- */
 
-bool base_is_table(const size_t *card, size_t card_numbers,
-                   const uint16_t *segments, size_t segments_numbers,
-                   const uint16_t *leaves, size_t leaves_numbers,
+bool base_is_table(uint8_t form,
+                   const size_t *card, size_t card_numbers,
+                   const uint32_t *segments, size_t segments_numbers,
+                   const uint32_t *leaves, size_t leaves_numbers,
                    const uint8_t *text, size_t text_bytes)
 {
-    return is_lent_table(card, card_numbers, segments, segments_numbers, leaves, leaves_numbers, text, text_bytes);
+    return is_lent_table(form, card, card_numbers, segments, segments_numbers, leaves, leaves_numbers, text, text_bytes);
 }
 
 /* The fields of a result's type and of its value. */
 enum { TYPE_FIELD = 3, VALUE_FIELD = 6 };
 
 /* A numeric result: the leaf rows from its type on. */
-struct result { const uint16_t *row, *end; };
+struct result { const uint32_t *row, *end; };
 
 /* Here and below the table has been tested, so a segment's leaf rows run on field by field, and a field begins with its first leaf. */
-static inline const uint16_t *seek_field(const uint16_t *row, const uint16_t *end, unsigned field)
+static inline const uint32_t *seek_field(const uint32_t *row, const uint32_t *end, unsigned field)
 {
     while (row < end && row[1] < field)
         row += LEAF_ROW;
@@ -140,15 +141,15 @@ static inline const uint16_t *seek_field(const uint16_t *row, const uint16_t *en
  * The numeric results of an order, in the order of their rows: what is under it lies behind it, before any row that an earlier one owns, and an OBX
  * among that is the order's own.
  */
-static inline size_t seek_results(unsigned order, const uint16_t *segments, size_t many, const uint16_t *leaves, const uint8_t *text,
+static inline size_t seek_results(unsigned order, const uint32_t *segments, size_t many, const uint32_t *leaves, const uint8_t *text,
                                   struct result *results)
 {
-    const uint16_t *segment = segments + order * SEGMENT_ROW, *past = segments + many * SEGMENT_ROW;
+    const uint32_t *segment = segments + order * SEGMENT_ROW, *past = segments + many * SEGMENT_ROW;
     size_t count = 0;
     for (; segment < past && segment[1] >= order; segment += SEGMENT_ROW) {
         if (segment[0] != OBX)
             continue;
-        const uint16_t *row = leaves + (segment[2] - 1) * LEAF_ROW, *end = row + segment[3] * LEAF_ROW;
+        const uint32_t *row = leaves + (segment[2] - 1) * LEAF_ROW, *end = row + segment[3] * LEAF_ROW;
         row = seek_field(row, end, TYPE_FIELD);
         if (row < end && row[6] == 2 && text[row[5]] == 'N' && text[row[5] + 1] == 'M')
             results[count++] = (struct result){ row, end };
@@ -159,7 +160,7 @@ static inline size_t seek_results(unsigned order, const uint16_t *segments, size
 /* What a result's value says, where its field is one leaf. */
 static inline struct value result_value(struct result result, const uint8_t *text)
 {
-    const uint16_t *row = seek_field(result.row, result.end, VALUE_FIELD), *next = row + LEAF_ROW;
+    const uint32_t *row = seek_field(result.row, result.end, VALUE_FIELD), *next = row + LEAF_ROW;
     if (row == result.end || (next < result.end && next[1] == VALUE_FIELD))
         return no_value(NOT_A_NUMBER);
     return value_of(text + row[5], row[6]);
@@ -171,23 +172,24 @@ static uint8_t refuse(uint8_t number, size_t *answer)
     return number;
 }
 
-uint8_t base_order_values(const size_t *card, size_t card_numbers,
-                          const uint16_t *segments, size_t segments_numbers,
-                          const uint16_t *leaves, size_t leaves_numbers,
+uint8_t base_order_values(uint8_t form,
+                          const size_t *card, size_t card_numbers,
+                          const uint32_t *segments, size_t segments_numbers,
+                          const uint32_t *leaves, size_t leaves_numbers,
                           const uint8_t *text, size_t text_bytes,
-                          uint16_t order,
+                          uint32_t order,
                           uint8_t *numbers, size_t numbers_bytes,
                           int64_t *wholes, size_t wholes_numbers,
                           uint8_t *decimals, size_t decimals_bytes,
                           size_t *answer, size_t answer_numbers)
 {
-    struct result results[SEGMENTS];
     if (answer_numbers < 2)
         return 1;
-    if (!base_is_table(card, card_numbers, segments, segments_numbers, leaves, leaves_numbers, text, text_bytes))
+    if (!base_is_table(form, card, card_numbers, segments, segments_numbers, leaves, leaves_numbers, text, text_bytes))
         return refuse(NO_TABLE, answer);
     if (order == 0 || order > card[2] || segments[(order - 1) * SEGMENT_ROW] != OBR)
         return refuse(NOT_AN_ORDER, answer);
+    struct result results[card[2]];
     size_t count = seek_results(order, segments, card[2], leaves, text, results);
     if (numbers_bytes < count || wholes_numbers < count || decimals_bytes < count)
         return refuse(LITTLE_ROOM, answer);

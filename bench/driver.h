@@ -13,37 +13,51 @@
 #include <stdlib.h>
 #include <string.h>
 
-/* Some room past each limit, to see that longer buffers are used at their front alone. */
-enum {
-    TEXT = SARGACEU_TEXT + 64,
-    SEGMENTS = SARGACEU_SEGMENTS + 32,
-    LEAVES = SARGACEU_LEAVES + 56,
-    OUTPUT = SARGACEU_OUTPUT + 64,
-    MESSAGE = 3 * SARGACEU_MESSAGE
-};
+/* The sizes of a form, in elements; `values` do for any order. */
+struct form { size_t message, text, segments, leaves, output, values; };
 
-struct table {
-    uint8_t text[TEXT];
-    uint16_t segments[SEGMENTS];
-    uint16_t leaves[LEAVES];
-    size_t answer[SARGACEU_READ_ANSWER];
-};
+enum { FORMS = 2 };
+extern const struct form forms[FORMS];
+
+/* Some room past each size, to see that longer buffers are used at their front alone. */
+enum { TEXT_PAST = 64, SEGMENTS_PAST = 32, LEAVES_PAST = 56, OUTPUT_PAST = 64 };
+
+/* Some bytes more than the large form has. */
+enum { MESSAGE = SARGACEU_LARGE_MESSAGE + 65536 };
 
 struct message {
     uint8_t bytes[MESSAGE];
     size_t length;
 };
 
-/* How much of each buffer is lent. */
-struct lent { size_t text, segments, leaves, answer, card, output; };
+/* How much of each buffer counts, from its front on. */
+struct reach { size_t text, segments, leaves; };
+
+/*
+ * A table of a form, its buffers as long as the form asks and some more. What counts is filled, copied and compared: in the small form all of
+ * it, in the large one what the message at hand can fill, and some more.
+ */
+struct table {
+    uint8_t form;
+    uint8_t *text;
+    uint32_t *segments, *leaves;
+    size_t answer[SARGACEU_READ_ANSWER];
+    struct reach reach;
+};
+
+/* The form's number that is said, and how much of each buffer is lent. */
+struct lent {
+    uint8_t form;
+    size_t text, segments, leaves, answer, card, output;
+};
 
 /* ---- driver.c ---- */
 
 /* The names of the two. */
 extern const char *const names[2];
 
-/* All of each buffer. */
-extern const struct lent whole;
+/* All of each buffer, by form. */
+extern const struct lent whole[FORMS];
 
 /* The table of the message that is repeated. */
 extern struct table held;
@@ -56,6 +70,12 @@ void show(const char *what, const struct message *m);
 
 /* Puts a text behind a message. */
 void add(struct message *m, const char *text);
+
+/* Makes a table of a form: buffers that are there until the program ends. */
+void make_table(struct table *t, uint8_t form);
+
+/* Copies a table, as far as it counts, into one of the same form. */
+void copy_table(struct table *to, const struct table *from);
 
 /* Reads a message's file, and a message. */
 void load(struct message *m, const char *path);

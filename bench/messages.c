@@ -5,10 +5,12 @@
 #include <stdlib.h>
 #include <string.h>
 
-enum { MOST = 16384, LINE = 219, MORE = 217 };
+/* What a message of each form may have. */
+enum { SMALL = 16384, LARGE = 1048576 };
+enum { LINE = 219, MORE = 217 };
 
-static char message[MOST + 1];
-static size_t bytes;
+static char message[LARGE + 1];
+static size_t bytes, most = SMALL;
 
 static void begin(void)
 {
@@ -21,11 +23,29 @@ static void add(const char *form, ...)
     va_start(words, form);
     int more = vsnprintf(message + bytes, sizeof message - bytes, form, words);
     va_end(words);
-    if (more < 0 || bytes + (size_t)more > MOST) {
-        fprintf(stderr, "messages: a message passes %d bytes\n", MOST);
+    if (more < 0 || bytes + (size_t)more > most) {
+        fprintf(stderr, "messages: a message passes %zu bytes\n", most);
         exit(2);
     }
     bytes += more;
+}
+
+/* The bytes that a segment of so many takes in lines (W2). */
+static size_t in_lines(size_t length)
+{
+    return length + 1 + (length > LINE ? (length - LINE + MORE - 1) / MORE * 3 : 0);
+}
+
+/* Puts a segment behind the message, in filled lines. */
+static void add_in_lines(const char *segment)
+{
+    size_t left = strlen(segment), room = LINE;
+    for (; left > room; room = MORE) {
+        add("%.*s\rA|", (int)room, segment);
+        segment += room;
+        left -= room;
+    }
+    add("%s\r", segment);
 }
 
 static void save(const char *folder, const char *name)
@@ -120,7 +140,7 @@ static void long_text(void)
     begin();
     add("H|~^\\&|||LAB||ORU\rP|1||||X~Y\rOBR|1\r");
     add("OBX|1|TX|CONCL||");
-    for (size_t used = 16, room = LINE, w = 0; bytes < MOST - 5; used++) {
+    for (size_t used = 16, room = LINE, w = 0; bytes < SMALL - 5; used++) {
         if (used == room) {
             add("\rA|");
             used = 0;
@@ -236,6 +256,72 @@ static void of_size(size_t size)
     add("\rL|1\r");
 }
 
+/* ---- messages of the large form ---- */
+
+/* A document as it is sent within a result: one text in addenda, of the letters of base 64, each line filled, and just so many bytes in all. */
+static void document(size_t size)
+{
+    static const char letters[] = "ABCDEFGHIJKLMNOPQRSTUVWXYZabcdefghijklmnopqrstuvwxyz0123456789+/";
+    static char segment[LARGE];
+    uint32_t drawn = 1;
+    begin();
+    add("H|~^\\&|||LAB||ORU\rP|1||||X~Y\rOBR|1\r");
+    static const char front[] = "OBX|1|ED|CR||", end[] = "L|1\r";
+    size_t room = size - bytes - strlen(end), length = strlen(front);
+    memcpy(segment, front, length);
+    while (in_lines(length + 1) <= room) {
+        drawn = drawn * 1103515245 + 12345;
+        segment[length++] = letters[drawn >> 16 & 63];
+    }
+    segment[length] = 0;
+    add_in_lines(segment);
+    add("%s", end);
+    if (bytes != size) {
+        fprintf(stderr, "messages: a document of %zu bytes has %zu\n", size, bytes);
+        exit(2);
+    }
+}
+
+/* Puts a remark behind a segment, so that it has so many bytes. */
+static void fill_up(char *segment, size_t length)
+{
+    static const char remark[] = "Prelevement recu a temperature ambiante dans les deux heures, tube conforme, identite verifiee, sans hemolyse visible, dosage "
+                                 "repete sur un second prelevement, resultat confirme, a rapprocher du contexte clinique et du bilan precedent";
+    size_t used = strlen(segment);
+    memcpy(segment + used, remark, length - used);
+    segment[length] = 0;
+}
+
+/*
+ * Orders of eight results, as far as they go into a size. All segments but the last have 14 to 16 leaves and some 260 bytes: so 4,096 segments and 65,536
+ * leaves do for a megabyte, and a byte of a short message costs about what one of a long message does.
+ */
+static void results(size_t size)
+{
+    enum { HEADER = 238, HEAD = 253, RESULT = 258, EACH = 8 };
+    static const char end[] = "L|1\r";
+    char segment[RESULT + 1];
+    begin();
+    snprintf(segment, sizeof segment, "H|~^\\&|A0001||LAB~Laboratoire Essai||ORU|||RECEP~Clinique Essai|P|");
+    fill_up(segment, HEADER);
+    add_in_lines(segment);
+    snprintf(segment, sizeof segment, "P|1|PAT00001||DOS00001|ESSAI~PATIENT||19700101|F||1 RUE DE L'ESSAI~~VILLE|");
+    fill_up(segment, HEAD);
+    add_in_lines(segment);
+    for (int i = 0; bytes + (i % EACH ? 0 : in_lines(HEAD)) + in_lines(RESULT) + strlen(end) <= size; i++) {
+        const char *const *a = analyses[i % 16];
+        if (i % EACH == 0) {
+            snprintf(segment, sizeof segment, "OBR|%d|D%05d~DEMANDE|L%05d~LABO|BIO~Bilan annuel||202401020304|||202401020405|SANG VEINEUX||", i / EACH + 1, i, i);
+            fill_up(segment, HEAD);
+            add_in_lines(segment);
+        }
+        snprintf(segment, sizeof segment, "OBX|%d|NM|%s~%s||%s|%s|%s|N|||F|202401020405~TECH01|", i % EACH + 1, a[0], a[1], a[2], a[3], a[4]);
+        fill_up(segment, RESULT);
+        add_in_lines(segment);
+    }
+    add("%s", end);
+}
+
 int main(int words, char **word)
 {
     if (words != 2) {
@@ -281,6 +367,18 @@ int main(int words, char **word)
         char name[16];
         snprintf(name, sizeof name, "grow-%02zu", size);
         of_size(size * 1024);
+        save(word[1], name);
+    }
+    most = LARGE;
+    for (size_t size = 1; size <= 1024; size *= 4) {
+        char name[16];
+        results(size * 1024);
+        snprintf(name, sizeof name, "results-%zu", size);
+        save(word[1], name);
+        if (size * 1024 <= SMALL)
+            continue;
+        document(size * 1024);
+        snprintf(name, sizeof name, "document-%zu", size);
         save(word[1], name);
     }
     return 0;

@@ -1,7 +1,7 @@
 /* The screening check: compared, repeated and timed by both implementations, as driver.c does it with messages and tables. */
 #include "driver.h"
 
-typedef uint8_t screener(const size_t *, size_t, const uint16_t *, size_t, const uint16_t *, size_t, const uint8_t *, size_t, size_t *, size_t);
+typedef uint8_t screener(uint8_t, const size_t *, size_t, const uint32_t *, size_t, const uint32_t *, size_t, const uint8_t *, size_t, size_t *, size_t);
 
 static screener *volatile screeners[2] = { sargaceu_screen, base_screen };
 
@@ -9,7 +9,8 @@ static size_t verdicts, by_number[SARGACEU_WRONG_RESULT + 1];
 
 static uint8_t screen_by(int which, const struct table *t, struct lent lent, size_t *answer, size_t room)
 {
-    return screeners[which](t->answer + 1, lent.card, t->segments, lent.segments, t->leaves, lent.leaves, t->text, lent.text, answer, room);
+    return screeners[which](lent.form, t->answer + 1, lent.card, t->segments, lent.segments, t->leaves, lent.leaves, t->text, lent.text,
+                            answer, room);
 }
 
 /* ---- comparing ---- */
@@ -167,13 +168,14 @@ static void hold_report(const char *path)
     static struct message m;
     size_t segments, patients, many = 0, answer[SARGACEU_SCREEN_ANSWER];
     load(&m, path);
-    if (!report_shape(path, &segments, &patients) || read_by(0, &m, &held, whole) != 0) {
+    make_table(&held, SARGACEU_SMALL);
+    if (!report_shape(path, &segments, &patients) || read_by(0, &m, &held, whole[SARGACEU_SMALL]) != 0) {
         fprintf(stderr, "driver: %s is refused, or is no message for the screening check\n", path);
         exit(1);
     }
     for (size_t i = 0; i < held.answer[3]; i++)
         many += held.segments[i * SARGACEU_SEGMENT_ROW] == SARGACEU_P;
-    uint8_t given = screen_by(1, &held, whole, answer, SARGACEU_SCREEN_ANSWER);
+    uint8_t given = screen_by(1, &held, whole[SARGACEU_SMALL], answer, SARGACEU_SCREEN_ANSWER);
     if (held.answer[3] != segments || many != patients || given != SARGACEU_ACCEPTED) {
         fprintf(stderr, "driver: %s has %zu segments and %zu patients, and its verdict is %u: not the shape that is measured\n", path,
                 held.answer[3], many, given);
@@ -185,7 +187,7 @@ static void repeat_screening(int which, size_t times)
 {
     size_t answer[SARGACEU_SCREEN_ANSWER];
     for (size_t i = 0; i < times; i++)
-        screen_by(which, &held, whole, answer, SARGACEU_SCREEN_ANSWER);
+        screen_by(which, &held, whole[SARGACEU_SMALL], answer, SARGACEU_SCREEN_ANSWER);
 }
 
 int run_screening(const char *mode, const char *who, const char *path, size_t times)

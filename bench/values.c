@@ -5,9 +5,9 @@
 
 typedef uint8_t value_reader(const uint8_t *, size_t, int64_t *, size_t);
 typedef uint8_t value_writer(int64_t, size_t, uint8_t *, size_t, size_t *, size_t);
-typedef bool tester(const size_t *, size_t, const uint16_t *, size_t, const uint16_t *, size_t, const uint8_t *, size_t);
-typedef uint8_t order_reader(const size_t *, size_t, const uint16_t *, size_t, const uint16_t *, size_t, const uint8_t *, size_t,
-                             uint16_t, uint8_t *, size_t, int64_t *, size_t, uint8_t *, size_t, size_t *, size_t);
+typedef bool tester(uint8_t, const size_t *, size_t, const uint32_t *, size_t, const uint32_t *, size_t, const uint8_t *, size_t);
+typedef uint8_t order_reader(uint8_t, const size_t *, size_t, const uint32_t *, size_t, const uint32_t *, size_t, const uint8_t *, size_t,
+                             uint32_t, uint8_t *, size_t, int64_t *, size_t, uint8_t *, size_t, size_t *, size_t);
 
 static value_reader *volatile value_readers[2] = { sargaceu_read_value, base_read_value };
 static value_writer *volatile value_writers[2] = { sargaceu_write_value, base_write_value };
@@ -167,9 +167,9 @@ void compare_values(void)
 
 /* The buffers that an order's values go to, and how much of each is lent. */
 struct places {
-    uint8_t numbers[SARGACEU_VALUES];
-    int64_t wholes[SARGACEU_VALUES];
-    uint8_t decimals[SARGACEU_VALUES];
+    uint8_t numbers[SARGACEU_LARGE_VALUES];
+    int64_t wholes[SARGACEU_LARGE_VALUES];
+    uint8_t decimals[SARGACEU_LARGE_VALUES];
     size_t answer[3];
 };
 
@@ -179,26 +179,50 @@ static struct places places[2];
 
 static bool test_by(int which, const struct table *t, struct lent lent)
 {
-    return testers[which](t->answer + 1, lent.card, t->segments, lent.segments, t->leaves, lent.leaves, t->text, lent.text);
+    return testers[which](lent.form, t->answer + 1, lent.card, t->segments, lent.segments, t->leaves, lent.leaves, t->text, lent.text);
 }
 
-static uint8_t order_by(int which, const struct table *t, struct lent lent, uint16_t order, struct places *p, struct room room, size_t answer)
+static uint8_t order_by(int which, const struct table *t, struct lent lent, uint32_t order, struct places *p, struct room room, size_t answer)
 {
-    return order_readers[which](t->answer + 1, lent.card, t->segments, lent.segments, t->leaves, lent.leaves, t->text, lent.text, order,
-                                p->numbers, room.numbers, p->wholes, room.wholes, p->decimals, room.decimals, p->answer, answer);
+    return order_readers[which](lent.form, t->answer + 1, lent.card, t->segments, lent.segments, t->leaves, lent.leaves, t->text, lent.text,
+                                order, p->numbers, room.numbers, p->wholes, room.wholes, p->decimals, room.decimals, p->answer, answer);
+}
+
+/* The places that count: all that do for any order, and of the large form's as many as the table has rows, and some more. */
+static size_t places_reach(const struct table *t)
+{
+    enum { PAST = 8 };
+    size_t rows = t->answer[3], all = forms[t->form].values;
+    return t->form == SARGACEU_SMALL || rows > all - PAST ? all : rows + PAST;
+}
+
+static void soil(struct places *p, size_t reach, int with)
+{
+    memset(p->numbers, with, reach);
+    memset(p->wholes, with, reach * sizeof *p->wholes);
+    memset(p->decimals, with, reach);
+    memset(p->answer, with, sizeof p->answer);
+}
+
+static bool same_places(const struct places *a, const struct places *b, size_t reach)
+{
+    return memcmp(a->answer, b->answer, sizeof a->answer) == 0
+        && memcmp(a->numbers, b->numbers, reach) == 0
+        && memcmp(a->wholes, b->wholes, reach * sizeof *a->wholes) == 0
+        && memcmp(a->decimals, b->decimals, reach) == 0;
 }
 
 /* Both give the order's values, in buffers that held the same before; answers the number. */
-static uint8_t same_order(const struct table *t, struct lent lent, uint16_t order, struct room room, const struct message *m)
+static uint8_t same_order(const struct table *t, struct lent lent, uint32_t order, struct room room, const struct message *m)
 {
     uint8_t given[2];
     int with = (int)below(256);
-    size_t answer = below(8) ? SARGACEU_ORDER_ANSWER : below(4);
+    size_t answer = below(8) ? SARGACEU_ORDER_ANSWER : below(4), reach = places_reach(t);
     for (int i = 0; i < 2; i++) {
-        memset(&places[i], with, sizeof places[i]);
+        soil(&places[i], reach, with);
         given[i] = order_by(i, t, lent, order, &places[i], room, answer);
     }
-    if (given[0] != given[1] || memcmp(&places[0], &places[1], sizeof places[0]) != 0) {
+    if (given[0] != given[1] || !same_places(&places[0], &places[1], reach)) {
         fprintf(stderr, "row %u, room for %zu, %zu and %zu, numbers %u %u, counts %zu %zu\n", order, room.numbers, room.wholes, room.decimals,
                 given[0], given[1], places[0].answer[1], places[1].answer[1]);
         show("the values of an order", m);
@@ -209,9 +233,10 @@ static uint8_t same_order(const struct table *t, struct lent lent, uint16_t orde
 }
 
 /* One row in buffers that do for any order; and where it has values, in none, in just enough, and in one too few of one of the three. */
-static void compare_order(const struct table *t, struct lent lent, uint16_t order, const struct message *m)
+static void compare_order(const struct table *t, struct lent lent, uint32_t order, const struct message *m)
 {
-    static const struct room any = { SARGACEU_VALUES, SARGACEU_VALUES, SARGACEU_VALUES };
+    size_t values = forms[t->form].values;
+    const struct room any = { values, values, values };
     if (same_order(t, lent, order, any, m) > SARGACEU_SHORT_BUFFER)
         return;
     if (order_by(1, t, lent, order, &places[1], any, SARGACEU_ORDER_ANSWER) != SARGACEU_ACCEPTED)
@@ -231,31 +256,44 @@ static void compare_order(const struct table *t, struct lent lent, uint16_t orde
 /* The row behind the last one that is counted looks like an order, and is none. */
 static void compare_past(const struct table *t, struct lent lent, const struct message *m)
 {
-    static struct table past;
+    static struct table tables[FORMS];
+    struct table *past = &tables[t->form];
     size_t rows = t->answer[3];
-    past = *t;
-    memcpy(past.segments + rows * SARGACEU_SEGMENT_ROW, (uint16_t[]){ SARGACEU_OBR, 2, 1, 1 }, SARGACEU_SEGMENT_ROW * sizeof(uint16_t));
-    compare_order(&past, lent, (uint16_t)(rows + 1), m);
+    if (!past->text)
+        make_table(past, t->form);
+    copy_table(past, t);
+    memcpy(past->segments + rows * SARGACEU_SEGMENT_ROW, (uint32_t[]){ SARGACEU_OBR, 2, 1, 1 }, SARGACEU_SEGMENT_ROW * sizeof(uint32_t));
+    compare_order(past, lent, (uint32_t)(rows + 1), m);
 }
 
-/* Where the table is none, no row is looked at. Else every row number up to one past the count; in a long table the orders' and some. */
-void compare_orders(const struct table *t, struct lent lent, bool all, const struct message *m)
+/* In a long table the rows of orders and some more; in the large form about one of either, since every one of them costs a test of the table. */
+static bool is_sought(const struct table *t, bool all, size_t row, size_t orders_there)
 {
     enum { FEW = 32 };
     size_t rows = t->answer[3];
+    bool outside = row == 0 || row > rows, order = !outside && t->segments[(row - 1) * SARGACEU_SEGMENT_ROW] == SARGACEU_OBR;
+    if (t->form != SARGACEU_SMALL)
+        return outside || below(order ? orders_there : rows) == 0;
+    return all || rows <= FEW || outside || order || below(rows / 4) == 0;
+}
+
+/* Where the table is none, no row is looked at. Else every row number up to one past the count, or those that are sought. */
+void compare_orders(const struct table *t, struct lent lent, bool all, const struct message *m)
+{
+    size_t rows = t->answer[3], orders_there = 0;
     bool tested = test_by(1, t, lent);
     if (test_by(0, t, lent) != tested)
         show("the table test", m);
     if (!tested) {
-        compare_order(t, lent, (uint16_t)below(rows + 2), m);
+        compare_order(t, lent, (uint32_t)below(rows + 2), m);
         return;
     }
-    for (size_t row = 0; row <= rows + 1; row++) {
-        bool outside = row == 0 || row > rows;
-        if (all || rows <= FEW || outside || t->segments[(row - 1) * SARGACEU_SEGMENT_ROW] == SARGACEU_OBR || below(rows / 4) == 0)
-            compare_order(t, lent, (uint16_t)row, m);
-    }
-    compare_order(t, lent, UINT16_MAX, m);
+    for (size_t row = 0; row < rows; row++)
+        orders_there += t->segments[row * SARGACEU_SEGMENT_ROW] == SARGACEU_OBR;
+    for (size_t row = 0; row <= rows + 1; row++)
+        if (is_sought(t, all, row, orders_there))
+            compare_order(t, lent, (uint32_t)row, m);
+    compare_order(t, lent, UINT32_MAX, m);
     compare_past(t, lent, m);
 }
 
@@ -380,7 +418,7 @@ bool is_for_orders(const char *path)
 }
 
 /* The order that is measured: its row, and how many numeric results it has. */
-struct middle { uint16_t row; size_t results; };
+struct middle { uint32_t row; size_t results; };
 
 /* Reads a message for orders and answers its middle order. Another shape would measure another thing. */
 static struct middle middle_order(const char *path)
@@ -388,7 +426,8 @@ static struct middle middle_order(const char *path)
     static struct message m;
     size_t results_each, leaves, many = 0, row = 0;
     load(&m, path);
-    if (!order_shape(path, &results_each, &leaves) || read_by(0, &m, &held, whole) != 0) {
+    make_table(&held, SARGACEU_SMALL);
+    if (!order_shape(path, &results_each, &leaves) || read_by(0, &m, &held, whole[SARGACEU_SMALL]) != 0) {
         fprintf(stderr, "driver: %s is refused, or is no message for orders\n", path);
         exit(1);
     }
@@ -396,28 +435,28 @@ static struct middle middle_order(const char *path)
         many += held.segments[i * SARGACEU_SEGMENT_ROW] == SARGACEU_OBR;
     for (size_t left = (many + 1) / 2; left > 0; row++)
         left -= held.segments[row * SARGACEU_SEGMENT_ROW] == SARGACEU_OBR;
-    struct room any = { SARGACEU_VALUES, SARGACEU_VALUES, SARGACEU_VALUES };
-    uint8_t given = order_by(1, &held, whole, (uint16_t)row, &places[1], any, SARGACEU_ORDER_ANSWER);
+    struct room any = { SARGACEU_SMALL_VALUES, SARGACEU_SMALL_VALUES, SARGACEU_SMALL_VALUES };
+    uint8_t given = order_by(1, &held, whole[SARGACEU_SMALL], (uint32_t)row, &places[1], any, SARGACEU_ORDER_ANSWER);
     if (held.answer[4] != leaves || given != SARGACEU_ACCEPTED || places[1].answer[1] != results_each) {
         fprintf(stderr, "driver: %s has %zu leaves, and %zu results in its middle order: not the shape that is measured\n", path, held.answer[4],
                 places[1].answer[1]);
         exit(1);
     }
-    return (struct middle){ (uint16_t)row, results_each };
+    return (struct middle){ (uint32_t)row, results_each };
 }
 
 /* With so many places in each of the three buffers. */
-static void repeat_order(int which, uint16_t row, size_t many, size_t times)
+static void repeat_order(int which, uint32_t row, size_t many, size_t times)
 {
     struct room room = { many, many, many };
     for (size_t i = 0; i < times; i++)
-        order_by(which, &held, whole, row, &places[0], room, SARGACEU_ORDER_ANSWER);
+        order_by(which, &held, whole[SARGACEU_SMALL], row, &places[0], room, SARGACEU_ORDER_ANSWER);
 }
 
 void repeat_test(int which, size_t times)
 {
     for (size_t i = 0; i < times; i++)
-        test_by(which, &held, whole);
+        test_by(which, &held, whole[SARGACEU_SMALL]);
 }
 
 /* The values of a message's middle order, in places that do for any order or just enough; or the test of its table. */
@@ -426,7 +465,7 @@ static int run_orders(const char *mode, int which, const char *path, size_t time
     bool just = strcmp(mode, "order-values-just") == 0;
     if (just || strcmp(mode, "order-values") == 0) {
         struct middle order = middle_order(path);
-        repeat_order(which, order.row, just ? order.results : SARGACEU_VALUES, times);
+        repeat_order(which, order.row, just ? order.results : SARGACEU_SMALL_VALUES, times);
     } else if (strcmp(mode, "is-table") == 0) {
         middle_order(path);
         repeat_test(which, times);
@@ -482,7 +521,7 @@ void time_orders(const char *path)
     for (int round = 0; round < 9; round++) {
         for (int which = 0; which < 2; which++) {
             double began = seconds();
-            repeat_order(which, order.row, SARGACEU_VALUES, TIMES);
+            repeat_order(which, order.row, SARGACEU_SMALL_VALUES, TIMES);
             keep_least(&all[which], began, TIMES);
             began = seconds();
             repeat_order(which, order.row, order.results, TIMES);
