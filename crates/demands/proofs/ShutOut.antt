@@ -62,7 +62,9 @@ k1-counted = refl
 
 -- what is written of it is K1 itself, in five lines, in either form
 k1-message : (f : Form) → written (limitsOf f) k1 ≡ K1
-unfolding K1 k1 filed concat bytes values lineCount roundedUp splitting pieces addenda cut cuts unlines onto split leafAt leavesOf separatorsAt between unsplitFrom unsplit segmentsOf linesOf written limitsOf
+unfolding
+    K1 k1 filed concat bytes values lineCount roundedUp splitting pieces addenda cut cuts unlines onto split leafAt leavesOf separatorsAt between unsplitFrom unsplit
+    segmentsOf linesOf written limitsOf
 k1-message Small = refl
 k1-message Large = refl
 
