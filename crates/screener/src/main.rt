@@ -13,19 +13,19 @@ mod verdict;
 use crate::refused::put_refused;
 use crate::verdict::put_verdict;
 use form::forms::Form;
-use form::forms::LargeForm;
+use form::forms::SmallForm;
 use form::number::Number;
 use table::rows;
 
 // One byte past the longest message, enough to tell that a message is too long.
-const MESSAGE: usize = LargeForm::BYTES + 1;
+const MESSAGE: usize = SmallForm::BYTES + 1;
 
 // The sizes of the reader's buffers.
-const TEXT: usize = LargeForm::BYTES;
+const TEXT: usize = SmallForm::BYTES;
 
-const SEGMENTS: usize = LargeForm::SEGMENTS * rows::SEGMENT_ROW;
+const SEGMENTS: usize = SmallForm::SEGMENTS * rows::SEGMENT_ROW;
 
-const LEAVES: usize = LargeForm::LEAVES * rows::LEAF_ROW;
+const LEAVES: usize = SmallForm::LEAVES * rows::LEAF_ROW;
 
 fn main() {
     let mut message = [0; MESSAGE];
@@ -42,7 +42,7 @@ fn put_answer(message: &[u8]) {
     let mut text = [0; TEXT];
     let mut segments = [0; SEGMENTS];
     let mut leaves = [0; LEAVES];
-    let answer = read::read(Form::Large, message, &mut text, &mut segments, &mut leaves);
+    let answer = read::read(Form::Small, message, &mut text, &mut segments, &mut leaves);
     if answer.number == Number::ACCEPTED {
         put_verdict(answer.card, &segments, &leaves, &text);
     } else {
