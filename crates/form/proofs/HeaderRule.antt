@@ -1,15 +1,15 @@
 -- The header rule taken apart: what a sound header says of each byte, the converse, and what breaks one.
 -- Assumes nothing.
-use mathlib.Core.Bool.{true, false, not, _&&_}
+use mathlib.Core.Bool.{Bool, true, false, not, _&&_, false≢true}
 use mathlib.Core.List.{List, [], _∷_}
 use mathlib.Core.Logic.{⊎-elim}
 use mathlib.Core.Path.{_≡_, refl, sym, ap, subst, _∙_}
 use Prim.Native.Nat.{ℕ, zero, suc, _≤_, _<_}
 use native.Mathlib.Nat.{le-of-suc-le-suc, not-suc-le-zero}
 use native.Mathlib.Omega.{arith}
-use lib.Dec.{leb, eqb, lit<}
+use lib.Dec.{leb, ltb, eqb, lit<}
 use lib.ListN.{length, getD}
-use borrow.Author.Tests.{leb-true, eqb-true, le-leb, lt-leb, eq-eqb, not-true}
+use borrow.Author.Tests.{leb-true, leb-false, ltb-true, ltb-false, eqb-true, le-leb, eq-eqb, not-true}
 use Rattle.laws.specs.Lists.{among}
 use Rattle.laws.proofs.Lists.{Absent, Absent.nowhere, Absent.past, absent-among, not-among-at}
 use Rattle.laws.proofs.Tests.{either, never-both, and-first, and-second, and-both, not-holds}
@@ -64,10 +64,6 @@ module _ (low high b : ℕ) where
   unfolding within
   bounds-within l h = and-both (le-leb low b l) (le-leb b high h)
 
-  pub below-within : b < low → within low high b ≡ false
-  unfolding within
-  below-within h = rw (lt-leb low b h, within)
-
   outside : within low high b ≡ false → low ≤ b → b ≤ high → ⊥
   outside h l u = never-both (bounds-within l u) h
 
@@ -105,6 +101,40 @@ module _ (b : ℕ) where
       (and-both (bounds-within 33 126 b (w .low) (w .high)) (not-holds (within 65 90 b) (outside-within 65 90 b (w .noCapital))))
       (not-holds (within 97 122 b) (outside-within 97 122 b (w .noSmall))))
       (not-holds (within 48 57 b) (outside-within 48 57 b (w .noDigit)))
+
+  -- a test that passes just those bytes that H2 allows
+  exactly : (r : Bool) → (r ≡ true → Allowed b) → (r ≡ false → Allowed b → ⊥) → r ≡ allowed b
+  exactly true passes fails = sym (facts-allowed (passes refl))
+  exactly false passes fails =
+      ⊎-elim (λ (e : allowed b ≡ true). absurd (fails refl (allowed-facts e))) (λ e. sym e) (either (allowed b))
+
+  -- the bytes in runs, each up to the next bound of H2, and what is left to ask in a run
+  pub below-digits : b < 48 → leb 33 b ≡ allowed b
+  below-digits u = exactly (leb 33 b) (λ h. between (leb-true 33 b h)) (λ h w. omega (arith, leb-false 33 b h, w .low))
+    where
+      between : 33 ≤ b → Allowed b
+      between l = omega arith
+
+  pub digit-or-past : 48 ≤ b → b < 65 → ltb 57 b ≡ allowed b
+  digit-or-past l u = exactly (ltb 57 b) (λ h. past (ltb-true 57 b h)) (λ h w. w .noDigit l (ltb-false 57 b h))
+    where
+      past : 57 < b → Allowed b
+      past p = omega arith
+
+  pub capital-or-past : 65 ≤ b → b < 97 → ltb 90 b ≡ allowed b
+  capital-or-past l u = exactly (ltb 90 b) (λ h. past (ltb-true 90 b h)) (λ h w. w .noCapital l (ltb-false 90 b h))
+    where
+      past : 90 < b → Allowed b
+      past p = omega arith
+
+  pub small-letter : 97 ≤ b → b ≤ 122 → false ≡ allowed b
+  small-letter l u = exactly false (λ h. absurd (false≢true h)) (λ h w. w .noSmall l u)
+
+  pub past-letters : 122 < b → leb b 126 ≡ allowed b
+  past-letters l = exactly (leb b 126) (λ h. between (leb-true b 126 h)) (λ h w. omega (arith, leb-false b 126 h, w .high))
+    where
+      between : b ≤ 126 → Allowed b
+      between u = omega arith
 
 -- all of a list are allowed: each is, and one that is not breaks it
 pub allowed-at : (s : List ℕ) → allAllowed s ≡ true → (i : ℕ) → i < length s → allowed (getD s i 0) ≡ true

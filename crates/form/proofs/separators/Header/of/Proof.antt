@@ -50,29 +50,29 @@ shared-slice-read-t15 c = search needs
 shared-slice-read-t17 : tie.Need-shared-slice-read-t17
 shared-slice-read-t17 c = search needs
 
-allowed-requires : tie.Need-allowed-requires
-allowed-requires c κs = search needs
+different-requires : tie.Need-different-requires
+different-requires c κs = search needs
 
 returns-4 : tie.Need-returns-4
 unfolding separatorsOf
 returns-4 c =
-    let at-allowed = c .before in
-    let at-if3 = at-allowed .before .before .before .before .before .before in
+    let at-different = c .before in
+    let at-if3 = at-different .before .before .before .before .before .before in
     let at-args = at-if3 .before .before .before .before .before .before .before .args in
     let at-if4 = c .if4 in
-    sym (allowed-broken (at-args .message .now) (sym (at-allowed .allowed .ensures) ∙ not-true _ (at-if4 .taken)))
+    sym (different-broken (at-args .message .now) (sym (at-different .different .ensures) ∙ not-true _ (at-if4 .taken)))
 
-different-requires : tie.Need-different-requires
-different-requires c κs = search needs
+allowed-requires : tie.Need-allowed-requires
+allowed-requires c κs = search needs
 
 returns-5 : tie.Need-returns-5
 unfolding separatorsOf
 returns-5 c =
-    let at-different = c .before in
-    let at-if3 = at-different .before .before .before .before .before .before .before .before in
+    let at-allowed = c .before in
+    let at-if3 = at-allowed .before .before .before .before .before .before .before .before in
     let at-args = at-if3 .before .before .before .before .before .before .before .args in
     let at-if5 = c .if5 in
-    sym (different-broken (at-args .message .now) (sym (at-different .different .ensures) ∙ not-true _ (at-if5 .taken)))
+    sym (allowed-broken (at-args .message .now) (sym (at-allowed .allowed .ensures) ∙ not-true _ (at-if5 .taken)))
 
 returns-6 : tie.Need-returns-6
 unfolding separatorsOf
@@ -83,14 +83,14 @@ returns-6 c =
     let at-if1 = to-if1 .if1 in
     let at-if2 = to-if3 .before .before .before .if2 in
     let at-if3 = to-if3 .if3 in
-    let at-allowed = c .before .before .before .allowed in
+    let at-different = c .before .before .before .different in
     let at-if4 = c .before .before .if4 in
-    let at-different = c .before .different in
+    let at-allowed = c .before .allowed in
     let at-if5 = c .if5 in
     sym
     (tests-sound (at-args .message .now) (at-if1 .left) (at-if2 .left) (at-if3 .left)
-    (sym (at-allowed .ensures) ∙ not-false _ (at-if4 .left))
-    (sym (at-different .ensures) ∙ not-false _ (at-if5 .left)))
+    (sym (at-allowed .ensures) ∙ not-false _ (at-if5 .left))
+    (sym (at-different .ensures) ∙ not-false _ (at-if4 .left)))
 
 pub of-spec : {M : Type 1} → statement M
 of-spec =
@@ -107,8 +107,8 @@ of-spec =
     shared-slice-read-t13
     shared-slice-read-t15
     shared-slice-read-t17
-    allowed-requires
-    returns-4
     different-requires
+    returns-4
+    allowed-requires
     returns-5
     returns-6)
