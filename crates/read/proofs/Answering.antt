@@ -2,7 +2,7 @@
 -- Assumes nothing.
 use mathlib.Core.List.{List}
 use mathlib.Core.Path.{_≡_, refl, sym, ap, _∙_, subst⁻¹, subst₂}
-use Prim.Native.Nat.{ℕ, _≤_}
+use Prim.Native.Nat.{ℕ}
 use lib.ListN.{length}
 use Rattle.form.specs.declared.limits.Limits.{Limits}
 use Rattle.form.specs.declared.forms.Form.{Form}
@@ -93,12 +93,12 @@ read-same {L} {L′} {levels} {levels′} p q message {text} {segments} {leaves}
 
 -- what the reader under any limits asks, at the limits of a form, with kinds for as many segments
 pub form-within : (f : Form) {L : Limits} → L ≡ limitsOf f → {levels : List ℕ} → LevelsBelow (levelIn levels) → {kinds : List ℕ}
-    → limitsOf f .segments ≤ length kinds → ReadsWithin L levels kinds
-form-within f e below {kinds} room =
+    → length kinds ≡ limitsOf f .segments → ReadsWithin L levels kinds
+form-within f e below {kinds} notes =
     record {
       fits = subst⁻¹ FitsRows e (form-fits f);
       below = below;
-      notes = subst⁻¹ (λ (M : Limits). M .segments ≤ length kinds) e room;
+      notes = notes ∙ ap (λ (M : Limits). M .segments) (sym e);
     }
 
 -- what is read within the limits of a form that is known is read in that form

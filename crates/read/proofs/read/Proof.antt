@@ -1,7 +1,7 @@
 -- `read::read` meets its contract: the limits of the form (T6, T8), the levels in force (O1), and as many bytes for kinds as the form has
 -- segments.
 -- Assumes nothing.
-use lib.Dec.{lit≤}
+use mathlib.Core.Path.{refl}
 use borrow.Author.Needs.{needs}
 use Rattle.form.specs.declared.forms.Form.the-variants.{Small, Large}
 use Rattle.form.specs.Forms.{limitsOf}
@@ -14,13 +14,13 @@ read-within-requires : tie.Need-read-within-requires
 unfolding limitsOf
 read-within-requires c κs =
     let limited = c .before .before .before .before .before in
-    form-within Small (limited .limits .ensures) (levels-below (limited .before .before .before .table .ensures)) (lit≤ tt)
+    form-within Small (limited .limits .ensures) (levels-below (limited .before .before .before .table .ensures)) refl
 
 read-within-requires-2 : tie.Need-read-within-requires-2
 unfolding limitsOf
 read-within-requires-2 c κs =
     let limited = c .before .before .before .before .before in
-    form-within Large (limited .limits2 .ensures) (levels-below (limited .before .before .before .table .ensures)) (lit≤ tt)
+    form-within Large (limited .limits2 .ensures) (levels-below (limited .before .before .before .table .ensures)) refl
 
 returns : tie.Need-returns
 unfolding limitsOf

@@ -93,8 +93,9 @@ pub record HeaderPassed (L : Limits) (ps : Separators) (message class kinds : Li
   pub header : headerOf message ≡ Sound ps
   pub bytes : length message ≤ L .bytes
 
--- what reading asks: limits that fit the rows, levels below the number above all levels, and room to note the kinds
+-- what reading asks: limits that fit the rows, levels below the number above all levels, and a place to note each kind, with none beside: so
+-- no reading clears the kinds of a larger form
 pub record ReadsWithin (L : Limits) (levels kinds : List ℕ) : Type 0 where
   pub fits : FitsRows L
   pub below : LevelsBelow (levelIn levels)
-  pub notes : L .segments ≤ length kinds
+  pub notes : length kinds ≡ L .segments
