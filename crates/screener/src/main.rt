@@ -13,38 +13,55 @@ mod verdict;
 use crate::refused::put_refused;
 use crate::verdict::put_verdict;
 use form::forms::Form;
-use form::forms::SmallForm;
+use form::forms::LargeForm;
 use form::number::Number;
 use table::rows;
 
 // One byte past the longest message, enough to tell that a message is too long.
-const MESSAGE: usize = SmallForm::BYTES + 1;
+const MESSAGE: usize = LargeForm::BYTES + 1;
 
 // The sizes of the reader's buffers.
-const TEXT: usize = SmallForm::BYTES;
+const TEXT: usize = LargeForm::BYTES;
 
-const SEGMENTS: usize = SmallForm::SEGMENTS * rows::SEGMENT_ROW;
+const SEGMENTS: usize = LargeForm::SEGMENTS * rows::SEGMENT_ROW;
 
-const LEAVES: usize = SmallForm::LEAVES * rows::LEAF_ROW;
+const LEAVES: usize = LargeForm::LEAVES * rows::LEAF_ROW;
 
 fn main() {
     let mut message = [0; MESSAGE];
-    let input = input::read_input(&mut message);
+    let mut text = [0; TEXT];
+    let mut segments = [0; SEGMENTS];
+    let mut leaves = [0; LEAVES];
+    answer_input(&mut message, &mut text, &mut segments, &mut leaves);
+}
+
+// Takes in the message and says what there is to say of it. The buffers come as arrays: their types state their lengths then, and no proof
+// counts a megabyte.
+fn answer_input(
+    message: &mut [u8; MESSAGE],
+    text: &mut [u8; TEXT],
+    segments: &mut [rows::Entry; SEGMENTS],
+    leaves: &mut [rows::Entry; LEAVES],
+) {
+    let input = input::read_input(message);
     if !input.sound {
         return;
     }
     let bytes = input.bytes;
-    put_answer(&message[0..bytes]);
+    let whole = &message[..];
+    put_answer(&whole[0..bytes], text, segments, leaves);
 }
 
 // Reads a message; says why it is refused, or the verdict on its table.
-fn put_answer(message: &[u8]) {
-    let mut text = [0; TEXT];
-    let mut segments = [0; SEGMENTS];
-    let mut leaves = [0; LEAVES];
-    let answer = read::read(Form::Small, message, &mut text, &mut segments, &mut leaves);
+fn put_answer(
+    message: &[u8],
+    text: &mut [u8; TEXT],
+    segments: &mut [rows::Entry; SEGMENTS],
+    leaves: &mut [rows::Entry; LEAVES],
+) {
+    let answer = read::read(Form::Large, message, text, segments, leaves);
     if answer.number == Number::ACCEPTED {
-        put_verdict(answer.card, &segments, &leaves, &text);
+        put_verdict(answer.card, segments, leaves, text);
     } else {
         put_refused(answer.number, answer.place);
     }

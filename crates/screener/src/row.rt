@@ -1,5 +1,5 @@
 // What a row of the table says: its kind, and a leaf by its name (S5).
-use form::forms::SmallForm;
+use form::forms::LargeForm;
 use look::leaf::Place;
 use look::leaf::Sought;
 use look::leaf::find_leaf_in_segment;
@@ -8,7 +8,7 @@ use table::rows;
 
 // A row's number as the table has it (T1), or 0, which is no row, where it is past the most that there are.
 pub fn numbered(row: usize) -> rows::Entry {
-    if SmallForm::SEGMENTS < row {
+    if LargeForm::SEGMENTS < row {
         return 0;
     }
     row as rows::Entry

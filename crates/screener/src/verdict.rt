@@ -20,7 +20,7 @@ ghost use Rattle.screen.specs.Refusals.{firstRule};
 
 // Screens a table, and says yes, or no with what is wrong.
 pub fn put_verdict(card: Card, segments: &[Entry], leaves: &[Entry], text: &[u8]) {
-    let verdict = screen(Form::Small, card, segments, leaves, text);
+    let verdict = screen(Form::Large, card, segments, leaves, text);
     let number = verdict.number;
     let place = verdict.place;
     match number {
