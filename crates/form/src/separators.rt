@@ -115,8 +115,8 @@ impl Separators {
     }
 }
 
-// Whether a byte may be a separator (H2): one of the four runs that the digits and letters leave between ! and ~ has it. The byte is held to
-// the bounds of the runs by halving, so that three or four comparisons tell, and not seven.
+// Whether a byte may be a separator (H2): it stands in one of the four runs that digits and letters leave from ! to ~. The byte is held to the
+// bounds of the runs by halving, so that three or four comparisons tell.
 fn allowed(b: u8) -> bool
     ensures { λ r. ⌜ r ≡ allowed b ⌝ }
 {

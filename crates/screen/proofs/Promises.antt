@@ -175,6 +175,6 @@ screening L lawful few =
           never-both (filed-table L lawful level message text segments leaves T read) (none-exactly L level _ .0 n);
     }
 
--- of the form itself
+-- of either form
 pub form-screening : (f : Form) → Screening (limitsOf f)
 form-screening f = screening (limitsOf f) (form-lawful f) (omega (arith, form-fits f .segments))
