@@ -1,4 +1,4 @@
-pub mod AtTheFront
+pub mod FourStores
 pub mod OwnedRows
 pub mod CountedRows
 pub mod OtherLevels

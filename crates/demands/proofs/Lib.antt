@@ -4,3 +4,11 @@ pub mod Belonging
 pub mod OwnersShutOut
 pub mod LimitsShutOut
 pub mod ShutOut
+pub mod Counting
+pub mod IndexMeans
+pub mod GivenEntries
+pub mod MessageAdded
+pub mod Counts
+pub mod Histories
+pub mod CountsShutOut
+pub mod CountsExample

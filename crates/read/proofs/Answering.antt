@@ -19,8 +19,8 @@ use Rattle.table.proofs.Width.{form-fits}
 use Rattle.read.specs.declared.Answer.{Answer}
 use Rattle.read.specs.declared.decide.Decision.{Decision}
 use Rattle.read.specs.Answering.{Gives, ReadAs, answerOf, textPut, segmentsPut, leavesPut}
-use Rattle.read.specs.inner.Deciding.{DecidesAs, ReadsWithin}
-use Rattle.read.specs.inner.Filling.{tableIn, Prepared, Filled}
+use Rattle.read.specs.inner.Deciding.{DecidesAs, ReadsWithin, Fileable}
+use Rattle.read.specs.inner.Filling.{tableIn, Filled}
 use Rattle.read.proofs.Deciding.{decided-refuses, decided-accepts}
 
 module _ {o : Outcome} {text segments leaves : List ℕ} where
@@ -39,49 +39,64 @@ module _ {o : Outcome} {text segments leaves : List ℕ} where
   gives-table e f a =
       rw e (record { answer = a; textArea = f .texts; segmentRows = f .segmentRows; leafRows = f .leafRows })
 
--- what was decided, by a table of levels: a refusal answered, and what filling asks and gives where it accepts
-module _ {L : Limits} {message class kinds : List ℕ} {d : Decision} (text segments leaves : List ℕ)
-    (w : DecidesAs L message class kinds (λ levels. reading L levels (roomOf text segments leaves) message) d) (table : List ℕ) where
+-- what filing gives, once the buffers are filled in: the table, with its card
+module _ {L : Limits} {class kinds table : List ℕ} {d : Decision} {message text segments leaves : List ℕ}
+    (w : Fileable L class kinds table d message text segments leaves) where
+  card-filled : (bytes : ℕ) → bytes ≡ tableIn L table (d .separators) message .card .text
+      → _≡_ {A = Card}
+      (record { separator = d .separators .field; context = d .context; segments = d .segments; leaves = d .leaves; text = bytes })
+      (tableIn L table (d .separators) message .card)
+  unfolding tableOf
+  card-filled bytes e =
+      λ i. record { separator = d .separators .field; context = w .prepared .given .named i; segments = w .segments i; leaves = w .leaves i; text = e i }
+
+  pub table-filed : {text′ segments′ leaves′ : List ℕ} {bytes : ℕ}
+      → Filled (tableIn L table (d .separators) message) text segments leaves text′ segments′ leaves′ bytes
+      → Gives (accepted (tableIn L table (d .separators) message)) text segments leaves
+      (record {
+        number = 0;
+        place = 0;
+        card = record { separator = d .separators .field; context = d .context; segments = d .segments; leaves = d .leaves; text = bytes };
+      })
+      text′ segments′ leaves′
+  table-filed {bytes = bytes} f = gives-table refl f (ap (λ (k : Card). record { number = 0; place = 0; card = k }) (card-filled bytes (f .counted)))
+
+-- what was decided, by a table of levels: a refusal answered, and what filing asks and gives where it accepts
+module _ {L : Limits} {message class kinds starts : List ℕ} {d : Decision} (text segments leaves : List ℕ)
+    (w : DecidesAs L message class kinds starts (λ levels. reading L levels (roomOf text segments leaves) message) d) (table : List ℕ) where
+  pub refuses-reading : (d .number ≡ 0 → ⊥) → reading L (levelIn table) (roomOf text segments leaves) message ≡ refused (d .number) (d .place)
+  refuses-reading h = w .stands (levelIn table) ∙ decided-refuses L message d (levelIn table) h
+
   pub refusal-read : (d .number ≡ 0 → ⊥) → {r : Answer} → r ≡ answerOf (refused (d .number) (d .place))
       → ReadAs L (levelIn table) message text segments leaves r text segments leaves
-  refusal-read h = gives-refusal (w .stands (levelIn table) ∙ decided-refuses L message d (levelIn table) h)
+  refusal-read h = gives-refusal (refuses-reading h)
 
   module _ (yes : d .number ≡ 0) where
-    accepts-table : reading L (levelIn table) (roomOf text segments leaves) message ≡ accepted (tableIn L table (d .separators) message)
+    pub accepts-table : reading L (levelIn table) (roomOf text segments leaves) message ≡ accepted (tableIn L table (d .separators) message)
     accepts-table = w .stands (levelIn table) ∙ decided-accepts L message d (levelIn table) yes
 
-    pub accepted-prepared : LevelsBelow (levelIn table) → Prepared L class kinds table (d .separators) (d .context) message text segments leaves
-    accepted-prepared below =
+    pub accepted-fileable : LevelsBelow (levelIn table) → Fileable L class kinds table d message text segments leaves
+    accepted-fileable below =
         let room = roomOf text segments leaves in
         let roomy = accepting L (levelIn table) room message (tableIn L table (d .separators) message) .0 accepts-table .roomy in
         record {
-          given = w .accepts yes .fillable;
-          below = below;
-          textRoom = roomy-text L room roomy;
-          segmentRoom = roomy-segments L room roomy;
-          leafRoom = roomy-leaves L room roomy;
+          prepared =
+              record {
+                given = w .accepts yes .fillable;
+                below = below;
+                textRoom = roomy-text L room roomy;
+                segmentRoom = roomy-segments L room roomy;
+                leafRoom = roomy-leaves L room roomy;
+              };
+          segments = w .accepts yes .segments;
+          leaves = w .accepts yes .leaves;
         }
 
-    card-filled : (bytes : ℕ) → bytes ≡ tableIn L table (d .separators) message .card .text
-        → _≡_ {A = Card}
-        (record { separator = d .separators .field; context = d .context; segments = d .segments; leaves = d .leaves; text = bytes })
-        (tableIn L table (d .separators) message .card)
-    unfolding tableOf
-    card-filled bytes e =
-        let says = w .accepts yes in
-        λ i. record { separator = d .separators .field; context = says .fillable .named i; segments = says .segments i; leaves = says .leaves i; text = e i }
-
-    pub table-read : {text′ segments′ leaves′ : List ℕ} {bytes : ℕ}
-        → Filled (tableIn L table (d .separators) message) text segments leaves text′ segments′ leaves′ bytes
-        → ReadAs L (levelIn table) message text segments leaves
-        (record {
-          number = 0;
-          place = 0;
-          card = record { separator = d .separators .field; context = d .context; segments = d .segments; leaves = d .leaves; text = bytes };
-        })
-        text′ segments′ leaves′
-    table-read {bytes = bytes} f =
-        gives-table accepts-table f (ap (λ (k : Card). record { number = 0; place = 0; card = k }) (card-filled bytes (f .counted)))
+    pub table-read : {r : Answer} {text′ segments′ leaves′ : List ℕ}
+        → Gives (accepted (tableIn L table (d .separators) message)) text segments leaves r text′ segments′ leaves′
+        → ReadAs L (levelIn table) message text segments leaves r text′ segments′ leaves′
+    table-read {r} {text′} {segments′} {leaves′} g =
+        subst⁻¹ (λ (o : Outcome). Gives o text segments leaves r text′ segments′ leaves′) accepts-table g
 
 -- the contract under the same limits and levels, however these are written
 pub read-same : {L L′ : Limits} {levels levels′ : ℕ → ℕ → ℕ} → L ≡ L′ → levels ≡ levels′ → (message : List ℕ) {text segments leaves : List ℕ} {r : Answer}

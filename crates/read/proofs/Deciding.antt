@@ -22,7 +22,7 @@ use Rattle.read.specs.declared.survey.Survey.{Survey}
 use Rattle.table.specs.inner.Classes.{classTable}
 use Rattle.read.specs.Sound.{segmentsIn}
 use Rattle.read.specs.inner.Deciding.{refusedAt, acceptedBy, decideIf, decideAt, decisionOf, decided, Accepts, DecidesAs}
-use Rattle.read.specs.inner.Noting.{Noted}
+use Rattle.read.specs.inner.Noting.{Noted, Started}
 use Rattle.read.specs.inner.Surveying.{SegmentsKnown, placeSeen}
 
 -- the place of refusal 10 by what was seen
@@ -129,12 +129,12 @@ module _ (L : Limits) (message : List ℕ) (d : Decision) (levels : ℕ → ℕ 
   decided-accepts h = rw (eq-eqb (d .number) 0 h, decided)
 
 -- so a refusal decides whatever outcome has its number and its place
-pub refusal-decides : (L : Limits) (message class kinds : List ℕ) {outcome : (ℕ → ℕ → ℕ) → Outcome} {number place : ℕ} {d : Decision}
+pub refusal-decides : (L : Limits) (message class kinds starts : List ℕ) {outcome : (ℕ → ℕ → ℕ) → Outcome} {number place : ℕ} {d : Decision}
     → (number ≡ 0 → ⊥) → ((levels : ℕ → ℕ → ℕ) → outcome levels ≡ refused number place) → d ≡ refusedAt number place
-    → DecidesAs L message class kinds outcome d
+    → DecidesAs L message class kinds starts outcome d
 unfolding refusedAt
-refusal-decides L message class kinds some same e =
-    subst⁻¹ (DecidesAs L message class kinds _) e
+refusal-decides L message class kinds starts some same e =
+    subst⁻¹ (DecidesAs L message class kinds starts _) e
     (record { stands = λ levels. same levels ∙ sym (decided-refuses L message _ levels some); accepts = λ z. absurd (some z) })
 
 -- test by test a decision stands for what the outcome's tests say
@@ -266,8 +266,8 @@ module _ (L : Limits) (levels : ℕ → ℕ → ℕ) (room : Room) (message : Li
 -- a decision on the message behind its header is one on the message, once the first three tests are passed
 module _ (L : Limits) (room : Room) (message : List ℕ) (text : L .bytes ≤ room .text) (segments : L .segments * segmentRowSize ≤ room .segmentRows)
     (leaves : L .leaves * leafRowSize ≤ room .leafRows) (fits : length message ≤ L .bytes) {ps : Separators} (header : headerOf message ≡ Sound ps) where
-  pub header-decides : {class kinds : List ℕ} {d : Decision} → DecidesAs L message class kinds (λ levels. ofMessage L levels message ps) d
-      → DecidesAs L message class kinds (λ levels. reading L levels room message) d
+  pub header-decides : {class kinds starts : List ℕ} {d : Decision} → DecidesAs L message class kinds starts (λ levels. ofMessage L levels message ps) d
+      → DecidesAs L message class kinds starts (λ levels. reading L levels room message) d
   header-decides w =
       record {
         stands = λ levels. header-passes L levels room message text segments leaves fits ps header ∙ w .stands levels;
@@ -275,17 +275,17 @@ module _ (L : Limits) (room : Room) (message : List ℕ) (text : L .bytes ≤ ro
       }
 
 -- what the first pass comes to decides: a fault of the lines refuses, else the tests of what was seen do
-module _ (L : Limits) (ps : Separators) (message class kinds : List ℕ) where
+module _ (L : Limits) (ps : Separators) (message class kinds starts : List ℕ) where
   pub fault-decides : {n p : ℕ} {d : Decision} → (n ≡ faultNumber (walk L message)) × (n ≡ 0 → ⊥) × (p ≡ faultPlace (walk L message))
-      → d ≡ refusedAt n p → DecidesAs L message class kinds (λ levels. ofMessage L levels message ps) d
+      → d ≡ refusedAt n p → DecidesAs L message class kinds starts (λ levels. ofMessage L levels message ps) d
   fault-decides fault =
-      refusal-decides L message class kinds (fault .1)
+      refusal-decides L message class kinds starts (fault .1)
       (λ levels.
       message-fault L levels message ps (λ e. fault .1 (fault .0 ∙ e)) ∙ ap₂ refused (sym (fault .0)) (sym (fault .2)))
 
   module _ (fits : FitsRows L) (header : headerOf message ≡ Sound ps) (bytes : length message ≤ L .bytes) (notes : L .segments ≤ length kinds)
       (classes : class ≡ classTable ps) (sound : faultNumber (walk L message) ≡ 0) {s : Survey} (known : SegmentsKnown ps (segmentsIn L ps message) s)
-      (noted : Noted ps (segmentsIn L ps message) (s .segments) kinds) where
+      (noted : Noted ps (segmentsIn L ps message) (s .segments) kinds) (begun : Started L ps message (s .segments) starts) where
     tests-seen : (levels : ℕ → ℕ → ℕ) → ofMessage L levels message ps ≡ testsSeen L s (tableOf levels ps (segmentsIn L ps message))
     unfolding judged
     tests-seen levels =
@@ -294,15 +294,15 @@ module _ (L : Limits) (ps : Separators) (message class kinds : List ℕ) where
         (λ i. judgedBy L (known .count i) (known .unknown i) (known .context i) (known .place i) (known .leaves i)
         (tableOf levels ps (segmentsIn L ps message)))
 
-    pub survey-decides : {d : Decision} → d ≡ decisionOf L ps s → DecidesAs L message class kinds (λ levels. ofMessage L levels message ps) d
+    pub survey-decides : {d : Decision} → d ≡ decisionOf L ps s → DecidesAs L message class kinds starts (λ levels. ofMessage L levels message ps) d
     unfolding acceptedBy
     survey-decides e =
-        subst⁻¹ (DecidesAs L message class kinds (λ levels. ofMessage L levels message ps)) e
+        subst⁻¹ (DecidesAs L message class kinds starts (λ levels. ofMessage L levels message ps)) e
         (record {
           stands = λ levels. tests-seen levels ∙ sym (seen-decided L message levels ps s);
           accepts = λ z.
               let p = decision-passed L ps s z in
-              subst⁻¹ (Accepts L message class kinds) (p .is)
+              subst⁻¹ (Accepts L message class kinds starts) (p .is)
               (record {
                 fillable =
                     record {
@@ -319,5 +319,6 @@ module _ (L : Limits) (ps : Separators) (message class kinds : List ℕ) where
                     };
                 segments = known .count;
                 leaves = known .leaves;
+                begun = begun;
               });
         })

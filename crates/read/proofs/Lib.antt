@@ -24,3 +24,12 @@ pub mod CutLines
 pub mod CutAnyhow
 pub mod ShutOut
 pub mod Contract
+pub mod Coding
+pub mod AtTheFront
+pub mod CountedRows
+pub mod CountedAll
+pub mod TakenLines
+pub mod CodeLines
+pub mod CountState
+pub mod Admitting
+pub mod Indexing

@@ -165,7 +165,7 @@ first-stays [] last more = refl
 first-stays (h ∷ ds) last more = refl
 
 -- a segment that begins with the header bytes is an H
-header-kind : (ps : Separators) → (72 ≡ ps .field → ⊥) → (t : List ℕ) → kindOfSegment ps (headerBytes ps ++ t) ≡ 1
+pub header-kind : (ps : Separators) → (72 ≡ ps .field → ⊥) → (t : List ℕ) → kindOfSegment ps (headerBytes ps ++ t) ≡ 1
 unfolding headerBytes kindOfSegment kindOf numberAmong kindNames firstFrom same bytes
 header-kind ps other t =
     let rest : List ℕ = drop 2 (headerBytes ps) ++ t in

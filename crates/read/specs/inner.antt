@@ -1,5 +1,8 @@
 -- Beside the meaning: models of loops, and what functions ask of each other. Where a contract of a public function names one of these, a
 -- theorem says what it means.
+pub mod Admitting
+pub mod Census
+pub mod Coding
 pub mod Deciding
 pub mod Filling
 pub mod Laying

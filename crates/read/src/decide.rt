@@ -1,4 +1,5 @@
-// Deciding: the tests 1 to 11 on a message (N2), before anything is written but the classes of bytes and the kinds, which filling goes by.
+// Deciding: the tests 1 to 11 on a message (N2), before anything is written but the classes of bytes and the kinds, which filling goes by, and
+// where the segments begin.
 use crate::survey::Survey;
 use crate::survey::Surveyed;
 use crate::survey::survey_message;
@@ -25,18 +26,19 @@ pub struct Decision {
 }
 
 // Tests 1 to 11, for buffers of these lengths, under any limits whose numbers fit the rows. Where it accepts, the class table is that of
-// the separators, and the kinds of all segments are noted.
+// the separators, the kinds of all segments are noted, and where each behind the first begins, as far as there is room.
 pub(crate) fn decide(
     limits: Limits,
     class: &mut [u8; 256],
     kinds: &mut [u8],
+    starts: &mut [usize],
     message: &[u8],
     text: usize,
     segments: usize,
     leaves: usize,
 ) -> Decision
     requires { ⌜ Decidable limits (now class) (now kinds) ⌝ }
-    ensures { λ r. ⌜ DecidesAs limits (now (message .entry)) (now (class .exit)) (now (kinds .exit))
+    ensures { λ r. ⌜ DecidesAs limits (now (message .entry)) (now (class .exit)) (now (kinds .exit)) (now (starts .exit))
         (λ levels. reading limits levels (record { text = text; segmentRows = segments; leafRows = leaves }) (now (message .entry))) r ⌝ }
 {
     if text < limits.bytes {
@@ -52,7 +54,14 @@ pub(crate) fn decide(
         return refuse(Number::LONG_MESSAGE, 0);
     }
     match Header::of(message) {
-        Header::Sound(separators) => decide_sound(limits, separators, class, kinds, message),
+        Header::Sound(separators) => decide_sound(
+            limits,
+            separators,
+            class,
+            kinds,
+            starts,
+            message,
+        ),
         Header::Broken => refuse(Number::BROKEN_HEADER, 0),
     }
 }
@@ -63,15 +72,24 @@ fn decide_sound(
     separators: Separators,
     class: &mut [u8; 256],
     kinds: &mut [u8],
+    starts: &mut [usize],
     message: &[u8],
 ) -> Decision
     requires { ⌜ HeaderPassed limits separators (now message) (now class) (now kinds) ⌝ }
-    ensures { λ r. ⌜ DecidesAs limits (now (message .entry)) (now (class .exit)) (now (kinds .exit))
+    ensures { λ r. ⌜ DecidesAs limits (now (message .entry)) (now (class .exit)) (now (kinds .exit)) (now (starts .exit))
         (λ levels. ofMessage limits levels (now (message .entry)) separators) r ⌝ }
 {
     set_classes(class, separators);
     let followers = order::followers::table();
-    match survey_message(class, &followers, limits, separators, message, kinds) {
+    match survey_message(
+        class,
+        &followers,
+        limits,
+        separators,
+        message,
+        kinds,
+        starts,
+    ) {
         Surveyed::Whole(seen) => judge(limits, separators, seen),
         Surveyed::Fault { number, place } => refuse(number, place),
     }

@@ -1,5 +1,6 @@
 // The reader: from the bytes of one message into a lent text area, segment rows and leaf rows. The first pass surveys the message and
 // decides every refusal; only then does the second pass write. Both read the message where it lies.
+use decide::Decision;
 use decide::decide;
 use fill::fill;
 use form::forms::Form;
@@ -13,12 +14,17 @@ ghost use mathlib.Core.Path.{_≡_};
 ghost use Rattle.form.specs.Forms.{limitsOf};
 ghost use Rattle.order.specs.inner.Levels.{levelIn};
 ghost use Rattle.order.specs.Owners.{level};
-ghost use Rattle.table.specs.Reading.{refused};
-ghost use Rattle.read.specs.Answering.{ReadAs, answerOf};
-ghost use Rattle.read.specs.inner.Deciding.{ReadsWithin};
+ghost use Rattle.table.specs.Reading.{refused, accepted};
+ghost use Rattle.read.specs.Answering.{ReadAs, Gives, answerOf};
+ghost use Rattle.read.specs.inner.Deciding.{ReadsWithin, Fileable};
+ghost use Rattle.read.specs.inner.Filling.{tableIn};
 
+mod admit;
+mod census;
+mod codes;
 mod decide;
 mod fill;
+pub mod indexed;
 mod lay;
 mod name;
 mod scan;
@@ -90,10 +96,13 @@ fn read_within(
         r (now (text .exit)) (now (segments .exit)) (now (leaves .exit)) ⌝ }
 {
     let mut class = [0u8; 256];
+    // filling asks for no start of a segment
+    let mut none = [0usize; 0];
     let decision = decide(
         limits,
         &mut class,
         kinds,
+        &mut none,
         message,
         text.len(),
         segments.len(),
@@ -102,9 +111,38 @@ fn read_within(
     if decision.number != Number::ACCEPTED {
         return refusal(decision.number, decision.place);
     }
+    file(
+        decision,
+        limits,
+        levels,
+        &class,
+        kinds,
+        message,
+        text,
+        segments,
+        leaves,
+    )
+}
+
+// Files a message that was decided on: the answer that accepts it, and its table in the three buffers.
+fn file(
+    decision: Decision,
+    limits: Limits,
+    levels: &[u8; 84],
+    class: &[u8; 256],
+    kinds: &[u8],
+    message: &[u8],
+    text: &mut [u8],
+    segments: &mut [Entry],
+    leaves: &mut [Entry],
+) -> Answer
+    requires { ⌜ Fileable limits (now class) (now kinds) (now levels) decision (now message) (now text) (now segments) (now leaves) ⌝ }
+    ensures { λ r. ⌜ Gives (accepted (tableIn limits (now (levels .entry)) (decision .separators) (now (message .entry))))
+        (now (text .entry)) (now (segments .entry)) (now (leaves .entry)) r (now (text .exit)) (now (segments .exit)) (now (leaves .exit)) ⌝ }
+{
     let separators = decision.separators;
     let bytes = fill(
-        &class,
+        class,
         kinds,
         levels,
         decision.context,

@@ -1,5 +1,5 @@
 // The first pass: lines are judged up to the first fault, segments and separators are counted, kinds, context and order are looked at.
-// Nothing is written but the kinds, which it notes for the second pass.
+// Nothing is written but the kinds, which it notes for the second pass, and where the segments begin, for whoever lends room for it.
 use crate::name::Name;
 use crate::name::gather;
 use crate::scan::scan;
@@ -160,6 +160,17 @@ fn note(kinds: &mut [u8], segment: usize, kind: u8)
     kinds[segment - 1] = kind;
 }
 
+// Where the segment with this number begins is noted, where there is room for it.
+fn note_start(starts: &mut [usize], segment: usize, at: usize)
+    requires { ⌜ 1 ≤ segment ⌝ }
+    ensures { λ _. ⌜ now (starts .exit) ≡ set (now (starts .entry)) (segment - 1) at ⌝ }
+{
+    if starts.len() < segment {
+        return;
+    }
+    starts[segment - 1] = at;
+}
+
 // The first place at which a test held, 0 standing for none: the earlier one, or this place where the test holds here.
 fn first_of(earlier: usize, holds: bool, place: usize) -> usize
     ensures { λ r. ⌜ r ≡ firstHeld earlier holds place ⌝ }
@@ -197,7 +208,8 @@ fn see_line(
 }
 
 // All lines of a message whose header is sound. Each line is seen at one place in the code, the first behind its seven header bytes: the
-// compiler then keeps the survey where it is. An addendum carries the open segment on, any other line closes it and begins the next.
+// compiler then keeps the survey where it is. An addendum carries the open segment on, any other line closes it and begins the next, whose
+// start is noted.
 pub(crate) fn survey_message(
     class: &[u8; 256],
     followers: &[u8; 847],
@@ -205,9 +217,10 @@ pub(crate) fn survey_message(
     separators: Separators,
     message: &[u8],
     kinds: &mut [u8],
+    starts: &mut [usize],
 ) -> Surveyed
     requires { ⌜ Ready limits separators (now class) (now followers) (now message) ⌝ }
-    ensures { λ r. ⌜ SurveyOf limits separators (now (message .entry)) (now (kinds .exit)) r ⌝ }
+    ensures { λ r. ⌜ SurveyOf limits separators (now (message .entry)) (now (kinds .exit)) (now (starts .exit)) r ⌝ }
 {
     let mut seen = Survey::begin();
     let mut at = 0;
@@ -232,6 +245,7 @@ pub(crate) fn survey_message(
                 return Surveyed::Whole(seen);
             }
             seen = seen.next_segment();
+            note_start(starts, seen.segments, at);
         }
     }
 }

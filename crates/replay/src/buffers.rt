@@ -28,7 +28,12 @@ pub fn least(asked: usize, all: usize) -> usize
 
 // The sum of a buffer of bytes.
 pub fn sum_bytes(bytes: &[u8]) -> usize {
-    let mut sum = 0;
+    sum_on(0, bytes)
+}
+
+// A sum carried on over bytes: that of several parts laid end to end is taken part by part.
+pub fn sum_on(before: usize, bytes: &[u8]) -> usize {
+    let mut sum = before;
     let mut i = 0;
     while i < bytes.len() {
         sum = summed(sum, wide(bytes[i]));
@@ -68,7 +73,7 @@ pub fn fill_bytes(bytes: &mut [u8]) {
 }
 
 // Byte i of them. The remainder of i gives the same, and its product fits a number whatever i is.
-fn byte_before(i: usize) -> u8 {
+pub fn byte_before(i: usize) -> u8 {
     ((BYTE_STEP * (i % SMALL) + 3) % SMALL) as u8
 }
 

@@ -5,6 +5,7 @@ use crate::buffers::SEGMENT_ROWS;
 use crate::comparing;
 use crate::filing;
 use crate::finding;
+use crate::indexing;
 use crate::input::ROOM;
 use crate::input::number;
 use crate::judging;
@@ -20,7 +21,8 @@ use table::rows::Entry;
 
 // The pieces of an operation's case, as digits from the right to the left: B bytes, A a row of numbers, C a whole number with its sign, D a
 // message in parts, 1 to 9 so many numbers. A table is BAA5: five numbers, segment rows, leaf rows, text area; a table by reading is AD: a
-// message in parts, changes. 0 where there is no such operation.
+// message in parts, changes. Of a case with an index these are the index's own numbers, and `indexing` takes in what follows. 0 where there is
+// no such operation.
 fn pieces_of(operation: usize) -> usize {
     match operation {
         1 => 0x3B,
@@ -34,12 +36,14 @@ fn pieces_of(operation: usize) -> usize {
         104 => 0xBAA5,
         105 => 0xB,
         106 => 0x3BAA5,
+        107 => 0x3,
         1021 => 0xB,
         1022 => 0x2C,
         1023 => 0x2BAA5,
         10001 => 0x3D,
         10002 => 0x1AD,
         10104 => 0xAD,
+        10107 => 0x3,
         11023 => 0x2AD,
         _ => 0,
     }
@@ -55,11 +59,15 @@ pub fn next_case(
     leaves: &mut [Entry; LEAF_ROWS],
 ) -> bool {
     let operation = number();
-    if take_in(pieces_of(operation), numbers, bytes, message) {
-        run(operation, numbers, bytes, message, text, segments, leaves);
-        true
-    } else {
-        false
+    if !take_in(pieces_of(operation), numbers, bytes, message) {
+        return false;
+    }
+    match operation {
+        107 | 10107 => indexing::run(operation, numbers, bytes, message, text, segments, leaves),
+        _ => {
+            run(operation, numbers, bytes, message, text, segments, leaves);
+            true
+        }
     }
 }
 

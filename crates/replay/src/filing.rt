@@ -66,6 +66,7 @@ fn put_filing(
     begin(operation);
     put_answer(file(operation, numbers, bytes, message, text, segments, leaves));
     put_sums(text, segments, leaves);
+    end();
 }
 
 // Files by the operation.
@@ -92,14 +93,14 @@ fn file(
 }
 
 // Fills the three buffers of a table.
-fn fill(text: &mut [u8], segments: &mut [Entry], leaves: &mut [Entry]) {
+pub fn fill(text: &mut [u8], segments: &mut [Entry], leaves: &mut [Entry]) {
     fill_bytes(text);
     fill_numbers(segments);
     fill_numbers(leaves);
 }
 
 // The number, the place and the card's five numbers.
-fn put_answer(answer: Answer) {
+pub fn put_answer(answer: Answer) {
     let card = answer.card;
     put(answer.number as usize);
     put(answer.place);
@@ -111,9 +112,8 @@ fn put_answer(answer: Answer) {
 }
 
 // The sums of the three buffers of a table.
-fn put_sums(text: &[u8], segments: &[Entry], leaves: &[Entry]) {
+pub fn put_sums(text: &[u8], segments: &[Entry], leaves: &[Entry]) {
     put(sum_bytes(text));
     put(sum_numbers(segments));
     put(sum_numbers(leaves));
-    end();
 }

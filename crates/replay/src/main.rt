@@ -14,6 +14,8 @@ mod changes;
 mod comparing;
 mod filing;
 mod finding;
+mod indexes;
+mod indexing;
 mod input;
 mod judging;
 mod looking;

@@ -1,19 +1,22 @@
 -- `read::read_within` meets its contract: what was decided is refused, or filled in.
 -- Assumes nothing.
 use borrow.Author.Needs.{needs}
-use Rattle.read.proofs.Answering.{refusal-read, accepted-prepared, table-read}
+use Rattle.read.proofs.Answering.{refusal-read, accepted-fileable, table-read}
 use Rattle.read.proofs.read_within.Statement.{statement}
 use Rattle.read.proofs.read_within.Tie as tie
 
 -- the places behind others: where the function begins, where it has decided, and where it is not refused
 abbrev start : tie.After-decide → tie.Start
-start c = c .before .before .before .before .before .before .before .before
+start c = c .before .before .before .before .before .before .before .before .before
 
 abbrev deciding : tie.Else1 → tie.After-decide
-deciding c = c .before .before .before .before
+deciding c = c .before .before .before .before .before
 
-abbrev passed : tie.After-fill → tie.Else1
-passed c = c .before .before .before .before .before .before .before
+abbrev passed : tie.After-file → tie.Else1
+passed c = c .before .before .before .before .before .before
+
+slice-aggregate-decide : tie.Need-slice-aggregate-decide
+slice-aggregate-decide c = search needs
 
 decide-requires : tie.Need-decide-requires
 decide-requires c κs = search needs
@@ -26,14 +29,14 @@ same-length c = search needs
 
 returns : tie.Need-returns
 returns c =
-    let at-decide = c .before .before .before .before .before in
+    let at-decide = c .before .before .before .before .before .before in
     refusal-read _ _ _ (at-decide .decide .ensures) (start at-decide .args .levels .now) (c .before .if1 .taken) (c .refusal .ensures)
 
-fill-requires : tie.Need-fill-requires
-fill-requires c κs =
-    let else = c .before .before .before .before .before .before in
+file-requires : tie.Need-file-requires
+file-requires c κs =
+    let else = c .before .before .before .before .before in
     let at-decide = deciding else in
-    accepted-prepared _ _ _ (at-decide .decide .ensures) (start at-decide .args .levels .now) (else .if1 .left) (start at-decide .pre .below)
+    accepted-fileable _ _ _ (at-decide .decide .ensures) (start at-decide .args .levels .now) (else .if1 .left) (start at-decide .pre .below)
 
 same-length-2 : tie.Need-same-length-2
 same-length-2 c = search needs
@@ -49,20 +52,21 @@ same-length-5 c = search needs
 
 returns-2 : tie.Need-returns-2
 returns-2 c =
-    let at-fill = c .before .before .before .before .before .before in
-    let else = passed at-fill in
+    let at-file = c .before .before .before .before .before .before in
+    let else = passed at-file in
     let at-decide = deciding else in
-    table-read _ _ _ (at-decide .decide .ensures) (start at-decide .args .levels .now) (else .if1 .left) (at-fill .fill .ensures)
+    table-read _ _ _ (at-decide .decide .ensures) (start at-decide .args .levels .now) (else .if1 .left) (at-file .file .ensures)
 
 pub read-within-spec : {M : Type 1} → statement M
 read-within-spec =
     tie.close
     (tie.spec
+    slice-aggregate-decide
     decide-requires
     refusal-requires
     same-length
     returns
-    fill-requires
+    file-requires
     same-length-2
     same-length-3
     same-length-4

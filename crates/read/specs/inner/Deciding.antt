@@ -17,7 +17,8 @@ use Rattle.table.specs.inner.Fitting.{FitsRows}
 use Rattle.table.specs.Reading.{Outcome, refused, accepted}
 use Rattle.read.specs.declared.decide.Decision.{Decision}
 use Rattle.read.specs.declared.survey.Survey.{Survey}
-use Rattle.read.specs.inner.Filling.{Fillable}
+use Rattle.read.specs.inner.Filling.{Fillable, Prepared}
+use Rattle.read.specs.inner.Noting.{Started}
 use Rattle.read.specs.Sound.{segmentsIn}
 use Rattle.read.specs.inner.Surveying.{placeSeen}
 
@@ -70,16 +71,25 @@ decided L message d levels =
       | false ↦ refused (d .number) (d .place)
     ]
 
--- what a decision that accepts a message says: it can be filled, and has so many segments and leaves
-pub record Accepts (L : Limits) (message class kinds : List ℕ) (d : Decision) : Type 0 where
+-- what a decision that accepts a message says: it can be filled, has so many segments and leaves, and where they begin is noted
+pub record Accepts (L : Limits) (message class kinds starts : List ℕ) (d : Decision) : Type 0 where
   pub fillable : Fillable L class kinds (d .separators) (d .context) message
+  pub segments : d .segments ≡ length (segmentsIn L (d .separators) message)
+  pub leaves : d .leaves ≡ length (allLeaves (d .separators) (segmentsIn L (d .separators) message))
+  pub begun : Started L (d .separators) message (d .segments) starts
+
+-- what filing asks: such a message, levels below the number above all levels, and buffers of the stated sizes
+pub record Fileable
+    (L : Limits) (class kinds levels : List ℕ) (d : Decision) (message text segmentRows leafRows : List ℕ)
+    : Type 0 where
+  pub prepared : Prepared L class kinds levels (d .separators) (d .context) message text segmentRows leafRows
   pub segments : d .segments ≡ length (segmentsIn L (d .separators) message)
   pub leaves : d .leaves ≡ length (allLeaves (d .separators) (segmentsIn L (d .separators) message))
 
 -- the contract of deciding: the outcome, whose number and place the decision has, and where it accepts, what it says
-pub record DecidesAs (L : Limits) (message class kinds : List ℕ) (outcome : (ℕ → ℕ → ℕ) → Outcome) (d : Decision) : Type 0 where
+pub record DecidesAs (L : Limits) (message class kinds starts : List ℕ) (outcome : (ℕ → ℕ → ℕ) → Outcome) (d : Decision) : Type 0 where
   pub stands : (levels : ℕ → ℕ → ℕ) → outcome levels ≡ decided L message d levels
-  pub accepts : d .number ≡ 0 → Accepts L message class kinds d
+  pub accepts : d .number ≡ 0 → Accepts L message class kinds starts d
 
 -- what deciding asks: limits that fit the rows, a class table of zeros, and room to note the kinds
 pub record Decidable (L : Limits) (class kinds : List ℕ) : Type 0 where

@@ -21,7 +21,7 @@ use Rattle.read.specs.declared.survey.Survey.{Survey}
 use Rattle.read.specs.declared.survey.Surveyed.{Surveyed}
 use Rattle.read.specs.declared.survey.Surveyed.the-variants.{Whole, Fault}
 use Rattle.table.specs.inner.Classes.{classTable}
-use Rattle.read.specs.inner.Noting.{Noted}
+use Rattle.read.specs.inner.Noting.{Noted, Started}
 
 -- what the first pass may count on
 pub record Ready (L : Limits) (ps : Separators) (class followerTable message : List ℕ) : Type 0 where
@@ -46,11 +46,12 @@ pub record SegmentsKnown (ps : Separators) (joinedSegments : List (List ℕ)) (s
   pub context : s .watcher .context ≡ contextIn ps joinedSegments
   pub place : placeSeen s ≡ misplaced (contextIn ps joinedSegments) (kindsOf ps joinedSegments)
 
--- what the survey of a message is: its first fault, or what is known of its segments, with their kinds noted
-abbrev pub SurveyOf : Limits → Separators → List ℕ → List ℕ → Surveyed → Type 0
-SurveyOf L ps message kinds (Whole s) =
+-- what the survey of a message is: its first fault, or what is known of its segments, with their kinds and their starts noted
+abbrev pub SurveyOf : Limits → Separators → List ℕ → List ℕ → List ℕ → Surveyed → Type 0
+SurveyOf L ps message kinds starts (Whole s) =
     (faultNumber (walk L message) ≡ 0)
     × SegmentsKnown ps (joined (ps .field) (texts (walk L message))) s
     × Noted ps (joined (ps .field) (texts (walk L message))) (s .segments) kinds
-SurveyOf L ps message kinds (Fault n p) =
+    × Started L ps message (s .segments) starts
+SurveyOf L ps message kinds starts (Fault n p) =
     (n ≡ faultNumber (walk L message)) × (n ≡ 0 → ⊥) × (p ≡ faultPlace (walk L message))

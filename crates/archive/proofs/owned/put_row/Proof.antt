@@ -7,7 +7,7 @@ use mathlib.Core.List.{List, [], _∷_}
 use native.Mathlib.Omega.{arith}
 use lib.ListN.{set, length-set}
 use lib.Seq.{sets}
-use Rattle.archive.proofs.AtTheFront.{four-stores}
+use Rattle.archive.proofs.FourStores.{four-stores}
 use Rattle.archive.proofs.owned.put_row.Statement.{statement}
 use Rattle.archive.proofs.owned.put_row.Tie as tie
 

@@ -4,7 +4,7 @@ use mathlib.Core.Path.{refl}
 use Prim.Native.Nat.{_-_}
 use native.Mathlib.Omega.{arith}
 use lib.ListN.{length}
-use Rattle.archive.proofs.AtTheFront.{Putting, putting-begins, putting-next, putting-done}
+use Rattle.read.proofs.AtTheFront.{Putting, putting-begins, putting-next, putting-done}
 use Rattle.archive.proofs.putting.put_bytes.Statement.{statement}
 use Rattle.archive.proofs.putting.put_bytes.Tie as tie
 

@@ -10,7 +10,7 @@ use Rattle.read.proofs.decide.decide.Tie as tie
 
 -- the places behind each test that was passed, and the lengths of the buffers
 abbrev start : tie.Else1 → tie.Start
-start c = c .before .before .before .before
+start c = c .before .before .before .before .before
 
 abbrev texts : tie.Else2 → tie.Else1
 texts c = c .before .before
@@ -32,9 +32,9 @@ refuse-requires c κs = search needs
 
 returns : tie.Need-returns
 returns c =
-    let at-start = c .before .before .before .before .before in
+    let at-start = c .before .before .before .before .before .before in
     let a = at-start .args in
-    refusal-decides (a .limits) (a .message .now) _ _ (λ z. omega arith)
+    refusal-decides (a .limits) (a .message .now) _ _ _ (λ z. omega arith)
     (λ levels. short-text (a .limits) levels (room at-start) (a .message .now) (c .before .if1 .taken)) (c .refuse .ensures)
 
 mul-if2 : tie.Need-mul-if2
@@ -48,7 +48,7 @@ returns-2 c =
     let one = c .before .before .before in
     let at-start = start one in
     let a = at-start .args in
-    refusal-decides (a .limits) (a .message .now) _ _ (λ z. omega arith)
+    refusal-decides (a .limits) (a .message .now) _ _ _ (λ z. omega arith)
     (λ levels. short-segments (a .limits) levels (room at-start) (a .message .now) (one .if1 .left) (c .before .if2 .taken)) (c .refuse2 .ensures)
 
 mul-if3 : tie.Need-mul-if3
@@ -63,7 +63,7 @@ returns-3 c =
     let one = texts two in
     let at-start = start one in
     let a = at-start .args in
-    refusal-decides (a .limits) (a .message .now) _ _ (λ z. omega arith)
+    refusal-decides (a .limits) (a .message .now) _ _ _ (λ z. omega arith)
     (λ levels. short-leaves (a .limits) levels (room at-start) (a .message .now) (one .if1 .left) (two .if2 .left) (c .before .if3 .taken)) (c .refuse3 .ensures)
 
 refuse-requires-4 : tie.Need-refuse-requires-4
@@ -76,7 +76,7 @@ returns-4 c =
     let one = texts two in
     let at-start = start one in
     let a = at-start .args in
-    refusal-decides (a .limits) (a .message .now) _ _ (λ z. omega arith)
+    refusal-decides (a .limits) (a .message .now) _ _ _ (λ z. omega arith)
     (λ levels. long-refused (a .limits) levels (room at-start) (a .message .now) (one .if1 .left) (two .if2 .left) (three .if3 .left) (c .before .if4 .taken)) (c .refuse4 .ensures)
 
 of-requires : tie.Need-of-requires
@@ -87,7 +87,7 @@ enum-known-separators c = search needs
 
 decide-sound-requires : tie.Need-decide-sound-requires
 decide-sound-requires c κs =
-    let at-separators = c .before .before .before in
+    let at-separators = c .before .before .before .before in
     let at-of = at-separators .before .before in
     let fits = at-of .before in
     record { asked = begins fits .pre; header = sym (at-of .of .ensures) ∙ at-separators .separators .given .1; bytes = fits .if4 .left }
@@ -101,10 +101,13 @@ refuse-requires-5 c κs = search needs
 same-length : tie.Need-same-length
 same-length c = search needs
 
+same-length-2 : tie.Need-same-length-2
+same-length-2 c = search needs
+
 returns-5 : tie.Need-returns-5
 returns-5 c =
-    let at-sound = c .before .before in
-    let at-separators = at-sound .before .before .before .before in
+    let at-sound = c .before .before .before .before in
+    let at-separators = at-sound .before .before .before .before .before in
     let at-of = at-separators .before .before in
     let four = at-of .before in
     let three = leaves four in
@@ -123,7 +126,7 @@ returns-6 c =
     let one = texts two in
     let at-start = start one in
     let a = at-start .args in
-    refusal-decides (a .limits) (a .message .now) _ _ (λ z. omega arith)
+    refusal-decides (a .limits) (a .message .now) _ _ _ (λ z. omega arith)
     (λ levels. header-refused (a .limits) levels (room at-start) (a .message .now) (one .if1 .left) (two .if2 .left) (three .if3 .left) (four .if4 .left)
     (sym (at-of .of .ensures) ∙ c .before .enum-told .given .1)) (c .refuse5 .ensures)
 
@@ -147,5 +150,6 @@ decide-spec =
     enum-told
     refuse-requires-5
     same-length
+    same-length-2
     returns-5
     returns-6)

@@ -35,13 +35,3 @@ module _ {buffer entries stands : List ℕ} {at : ℕ} (u : Putting buffer entri
       let all : at ≡ length entries = omega (arith, u .within) in
       let none : drop at entries ≡ [] = rw all (drop-length entries) in
       sym (ap (λ (s : List ℕ). sets stands at s) none) ∙ u .rest
-
--- four stores in a row
-pub four-stores : (l : List ℕ) (at a b c d : ℕ) → set (set (set (set l at a) (at + 1) b) (at + 2) c) (at + 3) d ≡ sets l at (a ∷ b ∷ c ∷ d ∷ [])
-four-stores l at a b c d =
-    sym
-    (sets-first l at a (b ∷ c ∷ d ∷ [])
-    ∙ sets-first (set l at a) (at + 1) b (c ∷ d ∷ [])
-    ∙ ap (λ (n : ℕ). sets (set (set l at a) (at + 1) b) n (c ∷ d ∷ [])) (let e : at + 1 + 1 ≡ at + 2 = omega arith in e)
-    ∙ sets-first (set (set l at a) (at + 1) b) (at + 2) c (d ∷ [])
-    ∙ ap (λ (n : ℕ). sets (set (set (set l at a) (at + 1) b) (at + 2) c) n (d ∷ [])) (let e : at + 2 + 1 ≡ at + 3 = omega arith in e))

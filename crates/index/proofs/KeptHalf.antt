@@ -1,0 +1,148 @@
+-- Finding a place by halving: the turns of the loop, and that the place found is among those that are named, or right behind them.
+-- Assumes nothing.
+use mathlib.Core.Bool.{true, false≢true}
+use mathlib.Core.List.{List}
+use mathlib.Core.Path.{_≡_, refl, sym, _∙_}
+use Prim.Native.Nat.{ℕ, zero, suc, _+_, _/_, _<_, _≤_}
+use native.Mathlib.Omega.{arith}
+use borrow.Author.Tests.{lt-ltb, le-ltb, ltb-true}
+use lib.Dec.{ltb}
+use Rattle.laws.proofs.Tests.{Tested, passed, failed, tested}
+use Rattle.index.specs.declared.code.Compared.{Compared}
+use Rattle.index.specs.declared.code.Compared.the-variants.{Before, Same, After}
+use Rattle.index.specs.declared.finding.Found.{Found}
+use Rattle.index.specs.Index.{codesMost}
+use Rattle.index.specs.inner.Halving.{comparedAt, foundAt, missingAt, halved, soughtBy}
+
+-- one step: the half before the middle is kept, or the one behind it, or the code stands there
+module _ (n : ℕ) (codes code : List ℕ) (low high : ℕ) where
+  pub halved-none : high ≤ low → halved (suc n) codes code low high ≡ missingAt low
+  unfolding halved
+  halved-none h = rw (le-ltb low high h, halved)
+
+  module _ (h : low < high) where
+    pub halved-before : comparedAt codes code ((low + high) / 2) ≡ Before
+        → halved (suc n) codes code low high ≡ halved n codes code low ((low + high) / 2)
+    unfolding halved
+    halved-before e = rw (lt-ltb low high h, e, halved)
+
+    pub halved-same : comparedAt codes code ((low + high) / 2) ≡ Same → halved (suc n) codes code low high ≡ foundAt ((low + high) / 2)
+    unfolding halved
+    halved-same e = rw (lt-ltb low high h, e, halved)
+
+    pub halved-after : comparedAt codes code ((low + high) / 2) ≡ After
+        → halved (suc n) codes code low high ≡ halved n codes code ((low + high) / 2 + 1) high
+    unfolding halved
+    halved-after e = rw (lt-ltb low high h, e, halved)
+
+-- so many places are halved by so many comparisons, until none is left
+unfoldable pub doubled : ℕ → ℕ
+doubled zero = 1
+doubled (suc n) = doubled n + doubled n
+
+-- before a turn: some comparisons that do for what is left, and they come to the place
+pub record Halving (codes : List ℕ) (named : ℕ) (code : List ℕ) (low high : ℕ) : Type 0 where
+  pub comparisons : ℕ
+  pub enough : high < low + doubled comparisons
+  pub ordered : low ≤ high
+  pub within : high ≤ named
+  pub rest : halved comparisons codes code low high ≡ soughtBy codes named code
+
+pub halving-begins : (codes : List ℕ) (named : ℕ) (code : List ℕ) → named ≤ codesMost → Halving codes named code 0 named
+unfolding soughtBy doubled
+halving-begins codes named code few =
+    record { comparisons = 10; enough = omega arith; ordered = omega arith; within = omega arith; rest = refl }
+
+module _ {codes : List ℕ} {named : ℕ} {code : List ℕ} {low high : ℕ} (u : Halving codes named code low high) where
+  module _ (h : low < high) where
+    abbrev middle : ℕ
+    middle = (low + high) / 2
+
+    pub middle-named : middle < named
+    middle-named = omega (arith, u .within)
+
+    keep-before : (n : ℕ) → high < low + doubled n → halved n codes code low high ≡ soughtBy codes named code
+        → comparedAt codes code middle ≡ Before → Halving codes named code low middle
+    unfolding doubled
+    keep-before zero enough rest e = absurd (omega arith)
+    keep-before (suc n) enough rest e =
+        record {
+          comparisons = n;
+          enough = omega arith;
+          ordered = omega arith;
+          within = omega (arith, u .within);
+          rest = sym (halved-before n codes code low high h e) ∙ rest;
+        }
+
+    keep-after : (n : ℕ) → high < low + doubled n → halved n codes code low high ≡ soughtBy codes named code
+        → comparedAt codes code middle ≡ After → Halving codes named code (middle + 1) high
+    unfolding doubled
+    keep-after zero enough rest e = absurd (omega arith)
+    keep-after (suc n) enough rest e =
+        record {
+          comparisons = n;
+          enough = omega arith;
+          ordered = omega arith;
+          within = omega (arith, u .within);
+          rest = sym (halved-after n codes code low high h e) ∙ rest;
+        }
+
+    stop : (n : ℕ) → high < low + doubled n → halved n codes code low high ≡ soughtBy codes named code
+        → comparedAt codes code middle ≡ Same → foundAt middle ≡ soughtBy codes named code
+    unfolding doubled
+    stop zero enough rest e = absurd (omega arith)
+    stop (suc n) enough rest e = sym (halved-same n codes code low high h e) ∙ rest
+
+    pub keeps-before : comparedAt codes code middle ≡ Before → Halving codes named code low middle
+    keeps-before e = keep-before (u .comparisons) (u .enough) (u .rest) e
+
+    pub keeps-after : comparedAt codes code middle ≡ After → Halving codes named code (middle + 1) high
+    keeps-after e = keep-after (u .comparisons) (u .enough) (u .rest) e
+
+    pub stops : comparedAt codes code middle ≡ Same → foundAt middle ≡ soughtBy codes named code
+    stops e = stop (u .comparisons) (u .enough) (u .rest) e
+
+  end-here : (n : ℕ) → halved n codes code low high ≡ soughtBy codes named code → high ≤ low → missingAt low ≡ soughtBy codes named code
+  unfolding halved
+  end-here zero rest h = rest
+  end-here (suc n) rest h = sym (halved-none n codes code low high h) ∙ rest
+
+  pub halving-ends : high ≤ low → missingAt low ≡ soughtBy codes named code
+  halving-ends h = end-here (u .comparisons) (u .rest) h
+
+-- a place up to the end; where the code is named, before it
+pub record Within (high : ℕ) (f : Found) : Type 0 where
+  pub place : f .at ≤ high
+  pub entry : f .named ≡ true → f .at < high
+
+pub missing-within : (low high : ℕ) → low ≤ high → Within high (missingAt low)
+missing-within low high h = record { place = h; entry = λ e. absurd (false≢true e) }
+
+within-further : (middle high : ℕ) (f : Found) → middle ≤ high → Within middle f → Within high f
+within-further middle high f h w = record { place = omega (arith, w .place); entry = λ e. omega (arith, w .entry e) }
+
+pub halved-within : (n : ℕ) (codes code : List ℕ) (low high : ℕ) → low ≤ high → Within high (halved n codes code low high)
+unfolding halved
+halved-within zero codes code low high h = missing-within low high h
+halved-within (suc n) codes code low high h =
+    go (tested (ltb low high)) (comparedAt codes code ((low + high) / 2)) refl
+    (λ l. halved-within n codes code low ((low + high) / 2) (omega (arith, l)))
+    (λ l. halved-within n codes code ((low + high) / 2 + 1) high (omega (arith, l)))
+  where
+    go : Tested (ltb low high) → (o : Compared) → comparedAt codes code ((low + high) / 2) ≡ o
+        → (low < high → Within ((low + high) / 2) (halved n codes code low ((low + high) / 2)))
+        → (low < high → Within high (halved n codes code ((low + high) / 2 + 1) high))
+        → Within high (halved (suc n) codes code low high)
+    go (failed t) o e first second = rw (t, halved) (missing-within low high h)
+    go (passed t) Before e first second =
+        let l = ltb-true low high t in
+        rw (halved-before n codes code low high l e) (within-further ((low + high) / 2) high (halved n codes code low ((low + high) / 2)) (omega (arith, l)) (first l))
+    go (passed t) Same e first second =
+        let l = ltb-true low high t in
+        rw (halved-same n codes code low high l e) (record { place = omega (arith, l); entry = λ q. omega (arith, l) })
+    go (passed t) After e first second =
+        let l = ltb-true low high t in rw (halved-after n codes code low high l e) (second l)
+
+pub sought-within : (codes : List ℕ) (named : ℕ) (code : List ℕ) → Within named (soughtBy codes named code)
+unfolding soughtBy
+sought-within codes named code = halved-within 10 codes code 0 named (omega arith)

@@ -1,0 +1,106 @@
+// The analysis code of a segment (X2): 10.4.1 in its first repetition, gathered from the lines that the segment takes.
+use crate::start::text_from;
+use form::limits::Limits;
+use form::separators::Separators;
+use index::CODE;
+use line::finder::low_end;
+use table::class::index;
+ghost use mathlib.Core.Bool.{true, false};
+ghost use mathlib.Core.Path.{_≡_};
+ghost use Prim.Native.Nat.{_-_, _≤_};
+ghost use lib.Dec.{eqb};
+ghost use lib.ListN.{length};
+ghost use Rattle.index.specs.Index.{codeMost};
+ghost use Rattle.read.specs.inner.Coding.{kept, TakesLine, LineTaken, CodeAhead, CodeTaken, codeOfRow};
+
+// How far a segment's code has come: field separators that are to come up to the one that ends field 4, 1 in that field itself, 0 once the code is
+// whole; the bytes of the code; and where the last byte stands that was looked at.
+pub struct Taken {
+    pub left: usize,
+    pub length: usize,
+    pub at: usize,
+}
+
+// What a line has of the code, from `from` on. Of a code that is too long the first 22 bytes are kept.
+fn take_line(class: &[u8; 256], message: &[u8], from: usize, taken: Taken, code: &mut [u8]) -> Taken
+    requires { ⌜ TakesLine (now class) (now message) from (taken .left) (taken .length) (now code) ⌝ }
+    ensures { λ r. ⌜ LineTaken (now (class .entry)) (now (message .entry)) from (taken .left) (taken .length) (now (code .entry)) r (now (code .exit)) ⌝ }
+{
+    let mut left = taken.left;
+    let mut length = taken.length;
+    let mut at = from;
+    loop {
+        let b = message[at];
+        let sort = class[index(b)];
+        if sort == 5 {
+            return Taken { left, length, at };
+        }
+        at += 1;
+        if left == 1 {
+            if sort != 0 {
+                return Taken {
+                    left: 0,
+                    length,
+                    at,
+                };
+            }
+            keep(code, length, b);
+            length += 1;
+        } else {
+            left = fields_left(left, sort);
+        }
+    }
+}
+
+// A byte of the code, where there is room for it.
+fn keep(code: &mut [u8], at: usize, b: u8)
+    requires { ⌜ codeMost ≤ length (now code) ⌝ }
+    ensures { λ _. ⌜ now (code .exit) ≡ kept (now (code .entry)) at b ⌝ }
+{
+    if at < CODE {
+        code[at] = b;
+    }
+}
+
+// The field separators that are to come behind a byte of a sort.
+fn fields_left(left: usize, sort: u8) -> usize
+    requires { ⌜ 1 ≤ left ⌝ }
+    ensures { λ r. ⌜ r ≡ elim (eqb sort 1) [ true ↦ left - 1 | false ↦ left ] ⌝ }
+{
+    if sort == 1 { left - 1 } else { left }
+}
+
+// The code of the segment that begins at `start`: how many bytes it has, of which the first 22 are kept; 0 where it is absent or empty. `limits` and
+// `row` are there for the contract alone, which names the segment by them.
+pub(crate) fn take_code(
+    class: &[u8; 256],
+    kinds: &[u8],
+    context: u8,
+    limits: Limits,
+    separators: Separators,
+    message: &[u8],
+    row: usize,
+    start: usize,
+    code: &mut [u8],
+) -> usize
+    requires { ⌜ CodeAhead limits (now class) (now kinds) separators context (now message) row start (now code) ⌝ }
+    ensures { λ r. ⌜ CodeTaken (codeOfRow limits separators (now (message .entry)) row) r (now (code .exit)) ⌝ }
+{
+    let mut taken = Taken {
+        left: 4,
+        length: 0,
+        at: start,
+    };
+    let mut from = start;
+    loop {
+        taken = take_line(class, message, from, taken, code);
+        if taken.left == 0 {
+            return taken.length;
+        }
+        let at = low_end(message, taken.at + 1);
+        from = text_from(message, at, separators.field);
+        if from == at {
+            return taken.length;
+        }
+    }
+}
