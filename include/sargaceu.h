@@ -1,6 +1,6 @@
 /*
  * Sargaceu: the reader, the writer, the lookups, the numeric results and the screening check of laboratory messages in H.PR.I.M. Santé 2.4,
- * and the widening of archived tables.
+ * the widening of archived tables, and the index by analysis code.
  *
  * Every function takes any bytes, any numbers and any lengths, and returns. None allocates, none keeps anything between two calls,
  * and none touches memory but the buffers of that call, so calls may run at the same time where none writes to a buffer that another uses.
@@ -21,7 +21,8 @@
  *
  * `answer` is where the numbers go that do not fit the return value: of size_t, and for sargaceu_read_value alone of int64_t, which has a
  * sign. A refusal is answered there, too: reader and writer put its place into answer[0], and zeros for the card or the counts behind it,
- * while every other buffer stays as it was. So do sargaceu_order_values and sargaceu_widen. The answer of sargaceu_screen is the place alone.
+ * while every other buffer stays as it was. So do sargaceu_read_indexed, sargaceu_order_values and sargaceu_widen. The answer of sargaceu_screen
+ * is the place alone.
  * The refusal of a single value has no place, and answer gets zeros. An answer that is shorter than stated gets no number at all: it stays as
  * it was, and the call has no place then.
  *
@@ -30,7 +31,7 @@
  * Rows go in as uint32_t, and sargaceu_next_row gives size_t. C cuts a larger number and says nothing: 4294967299 would go in as 3. No row of
  * a table is over 4096, so one that sargaceu_next_row gave goes in as it is.
  *
- * L1, N3, W4, D2, R1, B2 and the like are rules of docs/RULES.md.
+ * L1, N3, W4, D2, R1, B2, X1 and the like are rules of docs/RULES.md.
  */
 #ifndef SARGACEU_INCLUDED
 #define SARGACEU_INCLUDED
@@ -47,7 +48,7 @@ extern "C" {
  * The version of this header: it rises where a function's parameters, a size or the meaning of a number changes. The archive says its own
  * (sargaceu_version), so that a program can tell where it was built with the header of another one.
  */
-enum { SARGACEU_VERSION = 2 };
+enum { SARGACEU_VERSION = 3 };
 
 /*
  * The two forms: up to 16384 bytes, 256 segments and 2048 leaves in a message (T6), for hosts with little memory; up to 1048576, 4096 and
@@ -81,16 +82,33 @@ enum {
 enum {
     SARGACEU_LISTING = 8448,
     SARGACEU_CARD = 5,
-    SARGACEU_READ_ANSWER = 6,  /* of sargaceu_widen, too */
+    SARGACEU_READ_ANSWER = 6,   /* of sargaceu_read_indexed and sargaceu_widen, too */
     SARGACEU_WRITE_ANSWER = 3,
     SARGACEU_LEAF_ANSWER = 2,
     SARGACEU_LINE_ANSWER = 2,
     SARGACEU_WATCHER = 2,
-    SARGACEU_VALUE_TEXT = 17,  /* the output of sargaceu_write_value */
-    SARGACEU_VALUE_ANSWER = 2, /* of sargaceu_read_value, in int64_t */
-    SARGACEU_TEXT_ANSWER = 1,  /* of sargaceu_write_value */
-    SARGACEU_ORDER_ANSWER = 2, /* of sargaceu_order_values */
-    SARGACEU_SCREEN_ANSWER = 1 /* of sargaceu_screen */
+    SARGACEU_VALUE_TEXT = 17,   /* the output of sargaceu_write_value */
+    SARGACEU_VALUE_ANSWER = 2,  /* of sargaceu_read_value, in int64_t */
+    SARGACEU_TEXT_ANSWER = 1,   /* of sargaceu_write_value */
+    SARGACEU_ORDER_ANSWER = 2,  /* of sargaceu_order_values */
+    SARGACEU_SCREEN_ANSWER = 1, /* of sargaceu_screen */
+    SARGACEU_TALLY = 3,         /* messages, segments, results */
+    SARGACEU_CODES_ANSWER = 1,  /* of sargaceu_index_codes */
+    SARGACEU_COUNT_ANSWER = 1,  /* of sargaceu_index_count */
+    SARGACEU_CODE_ANSWER = 3    /* of sargaceu_index_code */
+};
+
+/*
+ * The index by analysis code (X1): up to so many codes, of 1 to so many bytes each. A place is the code's length in its first byte, and room for the
+ * longest code behind it. The two buffers of an index have at least so many bytes and numbers: 512 places; how many codes are named, and a count for
+ * each place.
+ */
+enum {
+    SARGACEU_INDEX_CODES_MOST = 512,
+    SARGACEU_INDEX_CODE_MOST = 22,
+    SARGACEU_INDEX_PLACE = 23,
+    SARGACEU_INDEX_CODES_BYTES = 11776,
+    SARGACEU_INDEX_COUNTS = 513
 };
 
 /*
@@ -102,11 +120,11 @@ enum { SARGACEU_SMALL_VALUES = 256, SARGACEU_LARGE_VALUES = 4096 };
 /*
  * The numbers that come back, each with its place (N1). Those from 20 to 25 are of numeric results (D3, D5, D6). Those from 30 to 45 are of the
  * screening check (R5): what is missing is not there or empty, and a place is the first row of which the rule does not hold. 46 is of the
- * widening of archived tables (B2).
+ * widening of archived tables (B2). Those from 50 to 53 are of the index (X3).
  */
 enum sargaceu_number {
     SARGACEU_ACCEPTED = 0,
-    SARGACEU_SHORT_BUFFER = 1,     /* place 0, and no place at all where the answer itself is short */
+    SARGACEU_SHORT_BUFFER = 1,     /* place 0, and no place at all where the answer itself or a tally is short */
     SARGACEU_LONG_MESSAGE = 2,     /* place 0 */
     SARGACEU_BROKEN_HEADER = 3,    /* place 0 */
     SARGACEU_CONTROL_BYTE = 4,     /* the byte's offset, from 0 */
@@ -141,7 +159,11 @@ enum sargaceu_number {
     SARGACEU_WRONG_TYPOR = 43,     /* its 10.6.1 is none of I, H, E, C, A, U; the OBX */
     SARGACEU_WRONG_PROSS = 44,     /* its 10.6.1 is none of O, N, U; the OBX */
     SARGACEU_WRONG_RESULT = 45,    /* coded (CE) and named by LN: its 10.6.1 is none of P, N, I, X; the OBX */
-    SARGACEU_NEVER_READ = 46       /* no reader gave the archived table; place 0 */
+    SARGACEU_NEVER_READ = 46,      /* no reader gave the archived table; place 0 */
+    SARGACEU_LONG_CODE = 50,       /* a code of over 22 bytes; the first such OBX */
+    SARGACEU_FULL_INDEX = 51,      /* a new code, and all 512 places are taken; place 0 */
+    SARGACEU_FULL_COUNT = 52,      /* a count or the tally would pass 4294967295; place 0 */
+    SARGACEU_NO_INDEX = 53         /* what is lent is no index; place 0 */
 };
 
 /* A segment row's first number (S1). */
@@ -164,6 +186,14 @@ enum sargaceu_sought {
     SARGACEU_NOT_THERE = 0,
     SARGACEU_FOUND = 1,       /* with a text of one byte or more */
     SARGACEU_FOUND_EMPTY = 2  /* there, with no text */
+};
+
+/*
+ * What the planner's questions answer where an index is lent (X4); where none is, they answer SARGACEU_NO_INDEX.
+ */
+enum sargaceu_asked {
+    SARGACEU_NOT_NAMED = 0, /* the index names no such code */
+    SARGACEU_NAMED = 1
 };
 
 /*
@@ -354,7 +384,7 @@ uint8_t sargaceu_screen(uint8_t form,
  * none. A refusal changes none of the three new buffers; answer gets six zeros. An answer of under six numbers is refused with 1 before anything
  * else is looked at; it stays as it was.
  *
- * The call copies the archived rows into some 61 KB of stack; every other function takes under 7 KB.
+ * The call copies the archived rows into some 61 KB of stack; every other function but sargaceu_read_indexed takes under 7 KB.
  */
 uint8_t sargaceu_widen(const size_t *card, size_t card_numbers,
                        const uint16_t *segments, size_t segments_numbers,
@@ -364,6 +394,72 @@ uint8_t sargaceu_widen(const size_t *card, size_t card_numbers,
                        uint32_t *new_segments, size_t new_segments_numbers,
                        uint32_t *new_leaves, size_t new_leaves_numbers,
                        size_t *answer, size_t answer_numbers);
+
+/*
+ * The index by analysis code (X1 to X5). For a planner it names codes of analyses (10.4.1, in its first repetition) in rising byte order, each
+ * with the count of the OBX rows that carried it, in all messages that were read with the index; the tally beside it counts these messages, their
+ * segments, and the rows that were counted. The caller keeps both. An index is two buffers: `codes` has a place of SARGACEU_INDEX_PLACE bytes
+ * for each code, and `counts` has first how many codes are named, then their counts, so the code in place k, from 1 on, begins at
+ * codes[(k - 1) * 23 + 1], and counts[k] is its count. counts[0] = 0 begins an index, whatever else the two hold, and zeros begin a tally. All
+ * are plain bytes and numbers: whoever stores them and lends them again goes on where he was.
+ */
+
+/*
+ * Reads a message as sargaceu_read does, and adds the codes of its results to the index and the message to the tally (X2 to X5): from a sound index
+ * each OBX row that carries a code raises the code's count by 1, a code that is new gets its place among the others, and an OBX whose code is not
+ * there or empty is not counted. tally[0] rises by 1, tally[1] by the segments, tally[2] by the rows that were counted. A message that is read twice
+ * is counted twice. Returns and answers as sargaceu_read does, with four numbers more. 53 comes first, before anything else is looked at: what is
+ * lent as an index is none (sargaceu_index_sound). Behind the reader's own come 50 at the first OBX whose code has over 22 bytes, then 51 where a
+ * new code finds no place, then 52 where a count or a number of the tally would pass 4294967295; the place of 51, 52 and 53 is 0. A refusal changes
+ * neither table nor index nor tally; answer gets its place and five zeros. An answer of under six numbers, or a tally of under three, is refused
+ * with 1 before all that, and nothing is written then, not even the answer.
+ *
+ * The call takes some 52 KB of stack, among it a copy of the index.
+ */
+uint8_t sargaceu_read_indexed(uint8_t form,
+                              const uint8_t *message, size_t message_bytes,
+                              uint8_t *text, size_t text_bytes,
+                              uint32_t *segments, size_t segments_numbers,
+                              uint32_t *leaves, size_t leaves_numbers,
+                              uint8_t *codes, size_t codes_bytes,
+                              uint32_t *counts, size_t counts_numbers,
+                              uint32_t *tally, size_t tally_numbers,
+                              size_t *answer, size_t answer_numbers);
+
+/*
+ * Whether the two buffers are an index (X1): long enough for 512 codes and naming no more, each named code of 1 to 22 bytes and before the next in
+ * byte order. It is what sargaceu_read_indexed asks first, and refuses with 53. Counts may be any numbers.
+ */
+bool sargaceu_index_sound(const uint8_t *codes, size_t codes_bytes, const uint32_t *counts, size_t counts_numbers);
+
+/*
+ * The planner's three questions (X4). Each looks at no more of the index than it needs, and at every buffer: SARGACEU_NO_INDEX where the two are too
+ * short for 512 codes or name more. What is no index for another reason is answered by what stands there. answer stays as it was where
+ * SARGACEU_NAMED does not come back; one that is too short stays as it was whatever comes back, and the return value still tells.
+ */
+
+/* How many codes an index names: SARGACEU_NAMED, and answer gets it; it may be 0. */
+uint8_t sargaceu_index_codes(const uint8_t *codes, size_t codes_bytes,
+                             const uint32_t *counts, size_t counts_numbers,
+                             size_t *answer, size_t answer_numbers);
+
+/*
+ * The count of a code: SARGACEU_NAMED, and answer gets it; SARGACEU_NOT_NAMED where the index does not name the code, which no code of 0 or of over
+ * 22 bytes is. It is sought by halving: at most ten codes are compared.
+ */
+uint8_t sargaceu_index_count(const uint8_t *codes, size_t codes_bytes,
+                             const uint32_t *counts, size_t counts_numbers,
+                             const uint8_t *code, size_t code_bytes,
+                             size_t *answer, size_t answer_numbers);
+
+/*
+ * The k-th code in byte order, from 1 on: SARGACEU_NAMED, and answer gets where in `codes` it begins, how many bytes it has, and its count;
+ * SARGACEU_NOT_NAMED where k is 0 or over the count of codes; SARGACEU_NO_INDEX, too, where its place says another length than 1 to 22.
+ */
+uint8_t sargaceu_index_code(const uint8_t *codes, size_t codes_bytes,
+                            const uint32_t *counts, size_t counts_numbers,
+                            size_t k,
+                            size_t *answer, size_t answer_numbers);
 
 /* The version of the archive: SARGACEU_VERSION where this header is its own. */
 uint32_t sargaceu_version(void);

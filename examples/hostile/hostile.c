@@ -30,6 +30,24 @@ static bool never_read_came(const size_t *count, size_t least)
     return count[SARGACEU_NEVER_READ] >= least && count[SARGACEU_SHORT_BUFFER] >= least;
 }
 
+/* Of reading with an index, the four refusals that it adds. */
+static bool index_refusals_came(const size_t *count, size_t least)
+{
+    return count[SARGACEU_LONG_CODE] >= least && count[SARGACEU_FULL_INDEX] >= least && count[SARGACEU_FULL_COUNT] >= least &&
+           count[SARGACEU_NO_INDEX] >= least;
+}
+
+/* Of questions to an index, what is none; and for a code, one that is not named. */
+static bool no_index_came(const size_t *count, size_t least)
+{
+    return count[SARGACEU_NO_INDEX] >= least;
+}
+
+static bool not_named_came(const size_t *count, size_t least)
+{
+    return count[SARGACEU_NO_INDEX] >= least && count[NO] >= least;
+}
+
 static const struct {
     const char *function;
     int (*try_it)(void);
@@ -51,6 +69,11 @@ static const struct {
     { "sargaceu_order_values", try_order_values, false, NULL },
     { "sargaceu_screen", try_screen, false, all_verdicts },
     { "sargaceu_widen", try_widen, false, never_read_came },
+    { "sargaceu_read_indexed", try_read_indexed, false, index_refusals_came },
+    { "sargaceu_index_sound", try_index_sound, false, NULL },
+    { "sargaceu_index_codes", try_index_codes, false, no_index_came },
+    { "sargaceu_index_count", try_index_count, false, not_named_came },
+    { "sargaceu_index_code", try_index_code, false, not_named_came },
     { "sargaceu_version", try_version, false, NULL },
 };
 

@@ -43,7 +43,8 @@ _Noreturn void fail(const char *format, ...) __attribute__((format(printf, 1, 2)
 enum buffer {
     MESSAGE, TEXT, SEGMENTS, LEAVES, CARD, ANSWER, OUTPUT, LISTING, WATCHER,
     OTHER_TEXT, OTHER_SEGMENTS, OTHER_LEAVES, OTHER_CARD,
-    VALUE_NUMBERS, VALUE_WHOLES, VALUE_DECIMALS, ARCHIVED_SEGMENTS, ARCHIVED_LEAVES, BUFFERS
+    VALUE_NUMBERS, VALUE_WHOLES, VALUE_DECIMALS, ARCHIVED_SEGMENTS, ARCHIVED_LEAVES,
+    INDEX_CODES, INDEX_COUNTS, TALLY, CODE, BUFFERS
 };
 
 void prepare_buffers(void);
@@ -70,6 +71,25 @@ void put_segment(const char *usual); /* goes on with it: written with the usual 
 /* ---- reports.c ---- */
 
 void draw_report(struct message *m, uint8_t form); /* an ORU that meets the rules for screening, or breaks some of them */
+
+/* ---- indexes.c ---- */
+
+enum { INDEX_CODES_SLACK = 64, INDEX_COUNTS_SLACK = 16, CODE_DRAWN_MOST = 40 };
+
+struct index {
+    uint8_t codes[SARGACEU_INDEX_CODES_BYTES + INDEX_CODES_SLACK];
+    size_t codes_bytes;
+    uint32_t counts[SARGACEU_INDEX_COUNTS + INDEX_COUNTS_SLACK];
+    size_t counts_numbers;
+};
+
+void draw_index(struct index *i);                                        /* a sound one mostly; what lies past the named codes is anything */
+size_t draw_code(const struct index *i, uint8_t code[CODE_DRAWN_MOST]);  /* to be sought in it, and how many bytes it has */
+void draw_counted_report(struct message *m);                             /* an ORU whose results carry codes that drawn indexes name, and others */
+bool plain_is_roomy(const struct index *i);
+bool plain_is_index(const struct index *i);
+uint8_t plain_count(const struct index *i, const uint8_t *code, size_t bytes, size_t *count);
+uint8_t plain_code(const struct index *i, size_t k, size_t answer[SARGACEU_CODE_ANSWER]);
 
 /* ---- numerals.c ---- */
 
@@ -140,6 +160,7 @@ uint8_t plain_line(const uint8_t *message, size_t bytes, size_t at, size_t answe
 struct outcome plain_outcome(uint8_t form, const uint8_t *message, size_t bytes); /* what the reader answers where the buffers are enough */
 size_t plain_kinds(uint8_t *kinds, size_t room, uint8_t *context); /* of the message that plain_outcome saw last */
 const uint8_t *plain_joined(size_t *bytes);                        /* its joined segments, a CR behind each */
+size_t plain_code_carried(size_t row, const uint8_t **code);       /* the bytes of its leaf 10.4.1 in a row, 0 where that is no OBX */
 uint8_t plain_find_leaf(const struct table *t, const uint32_t place[5], size_t answer[2]);
 uint8_t plain_find_leaf_in_segment(const struct table *t, const uint32_t place[5], size_t answer[2]);
 size_t plain_next_row(const struct table *t, size_t after, uint32_t kind, uint32_t owner);
@@ -157,11 +178,14 @@ bool plain_is_order(const struct table *t, uint32_t row);
 size_t plain_order_values(const struct table *t, uint32_t order, struct value values[SARGACEU_LARGE_VALUES]); /* of an order in a table */
 struct outcome plain_screen(const struct table *t);                                                           /* of a table */
 
+/* indexes.c again: the message that plain_outcome saw last, of so many rows, added to an index and a tally, or what it is refused with. */
+struct outcome plain_add_message(struct index *i, uint32_t tally[SARGACEU_TALLY], size_t rows);
+
 /* ---- the trials: each draws arguments, makes the call on both sides, and answers 0 where it was accepted ---- */
 
 enum {
-    NO = SARGACEU_NEVER_READ + 1, /* a plain no, which has no number */
-    EMPTY                         /* accepted, and what was found is empty */
+    NO = SARGACEU_NO_INDEX + 1, /* a plain no, which has no number */
+    EMPTY                       /* accepted, and what was found is empty */
 };
 
 int try_read(void);
@@ -179,6 +203,11 @@ int try_write_value(void);
 int try_order_values(void);
 int try_screen(void);
 int try_widen(void);
+int try_read_indexed(void);
+int try_index_sound(void);
+int try_index_codes(void);
+int try_index_count(void);
+int try_index_code(void);
 int try_version(void);
 
 #endif

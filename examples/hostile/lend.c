@@ -47,7 +47,11 @@ static struct lent all[BUFFERS] = {
     [VALUE_WHOLES] = { .name = "wholes", .size = sizeof(int64_t) },
     [VALUE_DECIMALS] = { .name = "decimals", .size = 1 },
     [ARCHIVED_SEGMENTS] = { .name = "archived segments", .size = sizeof(uint16_t) },
-    [ARCHIVED_LEAVES] = { .name = "archived leaves", .size = sizeof(uint16_t) }
+    [ARCHIVED_LEAVES] = { .name = "archived leaves", .size = sizeof(uint16_t) },
+    [INDEX_CODES] = { .name = "codes", .size = 1 },
+    [INDEX_COUNTS] = { .name = "counts", .size = sizeof(uint32_t) },
+    [TALLY] = { .name = "tally", .size = sizeof(uint32_t) },
+    [CODE] = { .name = "code", .size = 1 }
 };
 
 static void need(bool done, const char *what)

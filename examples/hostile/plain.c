@@ -221,6 +221,26 @@ static uint8_t context_of(void)
     return number_of(context_names, 8, from, until(from, end, joined[1]));
 }
 
+/* Field 4, and of that up to the first byte that splits it. */
+size_t plain_code_carried(size_t row, const uint8_t **code)
+{
+    const uint8_t *from = joined + starts[row - 1], *end = joined + starts[row] - 1;
+    *code = end;
+    if (kind_of(row - 1) != SARGACEU_OBX)
+        return 0;
+    for (int field = 1; field < 4; field++) {
+        from += until(from, end, joined[1]);
+        if (from == end)
+            return 0;
+        from++;
+    }
+    *code = from;
+    static const int splits[4] = { 1, 2, 3, 5 };
+    for (int i = 0; i < 4; i++)
+        end = from + until(from, end, joined[splits[i]]);
+    return (size_t)(end - from);
+}
+
 size_t plain_kinds(uint8_t *kinds, size_t room, uint8_t *context)
 {
     *context = context_of();

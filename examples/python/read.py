@@ -11,7 +11,7 @@ from enum import IntEnum
 
 BYTES, NUMBERS, SIZES = POINTER(c_uint8), POINTER(c_uint32), POINTER(c_size_t)
 
-SMALL, VERSION = 0, 2  # the form of the messages, and the version that the declarations below are of
+SMALL, VERSION = 0, 3  # the form of the messages, and the version that the declarations below are of
 
 library = CDLL(sys.argv[1])
 library.sargaceu_version.restype = c_uint32

@@ -1,6 +1,6 @@
 //! The sizes of the answers that are lent to the library, in numbers or bytes.
 
-/// The numbers that reading and widening answer: the place, then the card.
+/// The numbers that reading, with an index or without, and widening answer: the place, then the card.
 pub const READ_ANSWER: usize = 6;
 
 /// The numbers that the writer answers: the place, the bytes, the lines.
@@ -26,3 +26,12 @@ pub const ORDER_ANSWER: usize = 2;
 
 /// The numbers that the screening check answers: the place.
 pub const SCREEN_ANSWER: usize = 1;
+
+/// The numbers that the count of an index's codes is answered by: the count.
+pub const CODES_ANSWER: usize = 1;
+
+/// The numbers that the count of a code is answered by: the count.
+pub const COUNT_ANSWER: usize = 1;
+
+/// The numbers that a code of an index is answered by: where it begins, its length, its count.
+pub const CODE_ANSWER: usize = 3;

@@ -194,6 +194,58 @@ extern "C" {
         answer: *mut usize,
         answer_numbers: usize,
     ) -> u8;
+    pub fn sargaceu_read_indexed(
+        form: u8,
+        message: *const u8,
+        message_bytes: usize,
+        text: *mut u8,
+        text_bytes: usize,
+        segments: *mut u32,
+        segments_numbers: usize,
+        leaves: *mut u32,
+        leaves_numbers: usize,
+        codes: *mut u8,
+        codes_bytes: usize,
+        counts: *mut u32,
+        counts_numbers: usize,
+        tally: *mut u32,
+        tally_numbers: usize,
+        answer: *mut usize,
+        answer_numbers: usize,
+    ) -> u8;
+    pub fn sargaceu_index_sound(
+        codes: *const u8,
+        codes_bytes: usize,
+        counts: *const u32,
+        counts_numbers: usize,
+    ) -> bool;
+    pub fn sargaceu_index_codes(
+        codes: *const u8,
+        codes_bytes: usize,
+        counts: *const u32,
+        counts_numbers: usize,
+        answer: *mut usize,
+        answer_numbers: usize,
+    ) -> u8;
+    pub fn sargaceu_index_count(
+        codes: *const u8,
+        codes_bytes: usize,
+        counts: *const u32,
+        counts_numbers: usize,
+        code: *const u8,
+        code_bytes: usize,
+        answer: *mut usize,
+        answer_numbers: usize,
+    ) -> u8;
+    pub fn sargaceu_index_code(
+        codes: *const u8,
+        codes_bytes: usize,
+        counts: *const u32,
+        counts_numbers: usize,
+        k: usize,
+        answer: *mut usize,
+        answer_numbers: usize,
+    ) -> u8;
     pub fn sargaceu_version() -> u32;
 }
 

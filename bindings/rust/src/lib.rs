@@ -1,5 +1,5 @@
 //! Sargaceu for Rust: the reader, the writer, the lookups, the numeric results and the screening check of laboratory messages in H.PR.I.M.
-//! Santé 2.4, and the widening of archived tables.
+//! Santé 2.4, the widening of archived tables, and the index by analysis code.
 //!
 //! The work is done by a library whose every function is proved to meet its contract for all inputs; this crate lends it slices and
 //! names what comes back. `./archive` in the repository's folder makes that library, for x86-64 Linux.
@@ -33,6 +33,7 @@
 //! - [`screen`](Table::screen) says whether a report meets the rules for screening, or which one it does not meet, and in which row.
 //! - [`write`](Table::write) and [`to_message`](Table::to_message) give a message that reads to the same table.
 //! - [`Buffers::widen`] takes a table of the archive, whose rows hold numbers of 16 bits, and gives the one that reading its message gives now.
+//! - [`Buffers::read_indexed`] reads a message and counts the codes of its results in an [`Index`], and the message in a [`Tally`].
 //! - [`lines()`] walks the lines of a file, a [`Watcher`] says which [`Kind`] may come next in a [`Context`], and [`Buffers::list`] lists a
 //!   message.
 //!
@@ -46,6 +47,8 @@ mod children;
 mod context;
 mod ffi;
 mod form;
+mod index;
+mod indexing;
 mod kind;
 mod leaf;
 mod lines;
@@ -73,6 +76,8 @@ pub use card::Card;
 pub use children::Children;
 pub use context::Context;
 pub use form::Form;
+pub use index::{Index, Tally};
+pub use indexing::read_indexed;
 pub use kind::Kind;
 pub use leaf::{Leaf, Leaves};
 pub use lines::{lines, Line, Lines};

@@ -89,10 +89,18 @@ pub enum Number {
     WrongResult = 45,
     /// No reader gave the archived table, be it by the owners in force or by the former ones.
     NeverRead = 46,
+    /// The code of a result (10.4.1) has over 22 bytes, so an index cannot name it; the place is the first such OBX.
+    LongCode = 50,
+    /// A code is new to the index, and all of its 512 places are taken.
+    FullIndex = 51,
+    /// A count of the index or a number of the tally would pass the last one that 32 bits hold.
+    FullCount = 52,
+    /// The bytes and numbers are no index.
+    NoIndex = 53,
 }
 
 impl Number {
-    const ALL: [Number; 36] = [
+    const ALL: [Number; 40] = [
         Number::ShortBuffer,
         Number::LongMessage,
         Number::BrokenHeader,
@@ -129,6 +137,10 @@ impl Number {
         Number::WrongPross,
         Number::WrongResult,
         Number::NeverRead,
+        Number::LongCode,
+        Number::FullIndex,
+        Number::FullCount,
+        Number::NoIndex,
     ];
 
     /// What the place counts that comes with this number, or nothing where the place is always 0.
@@ -136,6 +148,7 @@ impl Number {
         match self {
             Number::ControlByte | Number::LongLine | Number::OpenLine => Some("offset"),
             Number::UnknownKind | Number::Misplaced => Some("segment"),
+            Number::LongCode => Some("row"),
             _ if (Number::NoName..=Number::WrongResult).contains(&self) => Some("row"),
             _ => None,
         }
@@ -196,6 +209,13 @@ impl fmt::Display for Number {
             Number::WrongResult => "a coded result with a LOINC code (LN) has none of the values P, N, I, X",
             Number::NeverRead => {
                 "no reader gave the archived table, by the owners in force or by the former ones"
+            }
+            Number::LongCode => "the code of a result (10.4.1) has over 22 bytes",
+            Number::FullIndex => "a code is new to the index, which names 512 already",
+            Number::FullCount => "a count of the index or the tally would pass 4,294,967,295",
+            Number::NoIndex => {
+                "what is lent is no index: too short for 512 codes or naming more, a code of 0 or of over 22 bytes, \
+                 or codes that do not rise"
             }
         })
     }

@@ -17,6 +17,24 @@ pub const CARD: usize = 5;
 /// The least bytes of an output that a value is written into.
 pub const VALUE_TEXT: usize = 17;
 
+/// The most codes that an index names.
+pub const INDEX_CODES_MOST: usize = 512;
+
+/// The most bytes that a code of an index has.
+pub const INDEX_CODE_MOST: usize = 22;
+
+/// The bytes of a code's place in an index: its length, and room for the longest.
+pub const INDEX_PLACE: usize = 23;
+
+/// The bytes of an index: a place for each code.
+pub const INDEX_CODES_BYTES: usize = 11776;
+
+/// The numbers of an index: how many codes are named, and a count for each place.
+pub const INDEX_COUNTS: usize = 513;
+
+/// The numbers of a tally.
+pub const TALLY: usize = 3;
+
 /// The sizes of [`Form::Small`](crate::Form::Small).
 pub mod small {
     /// The most bytes that an accepted message has.

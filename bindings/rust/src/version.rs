@@ -3,7 +3,7 @@
 use crate::ffi;
 
 /// The version of the library that this crate is for. It rises where a function's parameters, a size or the meaning of a number changes.
-pub const VERSION: u32 = 2;
+pub const VERSION: u32 = 3;
 
 /// The version of the library that is linked: [`VERSION`] where crate and archive belong together. A program that links an archive from
 /// elsewhere (`SARGACEU_LIB`) asks once, since no linker tells two versions of a function apart.

@@ -13,3 +13,5 @@ pub mod WalkEnd
 pub mod ValueAnswers
 pub mod ValuesKept
 pub mod ScreenAnswers
+pub mod IndexAnswers
+pub mod IndexKept

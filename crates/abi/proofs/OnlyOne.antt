@@ -7,6 +7,7 @@ use Prim.Native.Nat.{ℕ}
 use lib.IntN.{ℤ}
 use Rattle.laws.proofs.Equality.{only-one}
 use Rattle.form.specs.declared.limits.Limits.{Limits}
+use Rattle.index.specs.Index.{soundIndex}
 use Rattle.line.specs.declared.finder.Found.{Found}
 use Rattle.order.specs.Owners.{level}
 use Rattle.table.specs.Lent.{Lent}
@@ -21,6 +22,7 @@ use Rattle.abi.specs.Watching.{Watched}
 use Rattle.abi.specs.Values.{ReadValueInto, WroteValueInto, ReadValuesInto}
 use Rattle.abi.specs.Screening.{ScreenedInto}
 use Rattle.abi.specs.Widening.{WidenedInto}
+use Rattle.abi.specs.Indexing.{ReadIndexedInto, AskedCodes, AskedCount, AskedCode}
 
 pub read : (L : Limits) (message text segments leaves answer : List ℕ) {r s : ℕ} {text₁ segments₁ leaves₁ answer₁ text₂ segments₂ leaves₂ answer₂ : List ℕ}
     → ReadInto L message text segments leaves answer r text₁ segments₁ leaves₁ answer₁
@@ -111,3 +113,35 @@ widen L table text segments leaves answer g h = (
   only-one (g .leafRows) (h .leafRows),
   only-one (g .numbers) (h .numbers),
 )
+
+pub read-indexed : (L : Limits) (message text segments leaves codes counts tally answer : List ℕ) {r s : ℕ}
+    {text₁ segments₁ leaves₁ codes₁ counts₁ tally₁ answer₁ text₂ segments₂ leaves₂ codes₂ counts₂ tally₂ answer₂ : List ℕ}
+    → ReadIndexedInto L message text segments leaves codes counts tally answer r text₁ segments₁ leaves₁ codes₁ counts₁ tally₁ answer₁
+    → ReadIndexedInto L message text segments leaves codes counts tally answer s text₂ segments₂ leaves₂ codes₂ counts₂ tally₂ answer₂
+    → (r ≡ s) × (text₁ ≡ text₂) × (segments₁ ≡ segments₂) × (leaves₁ ≡ leaves₂) × (codes₁ ≡ codes₂) × (counts₁ ≡ counts₂) × (tally₁ ≡ tally₂)
+    × (answer₁ ≡ answer₂)
+read-indexed L message text segments leaves codes counts tally answer g h = (
+  only-one (g .number) (h .number),
+  only-one (g .textArea) (h .textArea),
+  only-one (g .segmentRows) (h .segmentRows),
+  only-one (g .leafRows) (h .leafRows),
+  only-one (g .codesAre) (h .codesAre),
+  only-one (g .countsAre) (h .countsAre),
+  only-one (g .tallyIs) (h .tallyIs),
+  only-one (g .numbers) (h .numbers),
+)
+
+pub index-sound : (codes counts : List ℕ) (r s : Bool) → r ≡ soundIndex codes counts → s ≡ soundIndex codes counts → r ≡ s
+index-sound codes counts r s g h = only-one g h
+
+pub index-codes : (codes counts answer : List ℕ) {r s : ℕ} {answer₁ answer₂ : List ℕ} → AskedCodes codes counts answer r answer₁ → AskedCodes codes counts answer s answer₂
+    → (r ≡ s) × (answer₁ ≡ answer₂)
+index-codes codes counts answer g h = (only-one (g .told) (h .told), only-one (g .answers) (h .answers))
+
+pub index-count : (codes counts code answer : List ℕ) {r s : ℕ} {answer₁ answer₂ : List ℕ}
+    → AskedCount codes counts code answer r answer₁ → AskedCount codes counts code answer s answer₂ → (r ≡ s) × (answer₁ ≡ answer₂)
+index-count codes counts code answer g h = (only-one (g .told) (h .told), only-one (g .answers) (h .answers))
+
+pub index-code : (codes counts : List ℕ) (k : ℕ) (answer : List ℕ) {r s : ℕ} {answer₁ answer₂ : List ℕ}
+    → AskedCode codes counts k answer r answer₁ → AskedCode codes counts k answer s answer₂ → (r ≡ s) × (answer₁ ≡ answer₂)
+index-code codes counts k answer g h = (only-one (g .told) (h .told), only-one (g .answers) (h .answers))

@@ -9,4 +9,5 @@ pub mod Watching
 pub mod Values
 pub mod Screening
 pub mod Widening
+pub mod Indexing
 pub mod Version

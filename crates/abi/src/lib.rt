@@ -3,6 +3,7 @@
 mod answer;
 mod card;
 mod forms;
+pub mod indexing;
 pub mod lines;
 pub mod looking;
 pub mod reading;

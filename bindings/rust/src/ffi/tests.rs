@@ -1,4 +1,5 @@
-//! What the library answers to what this crate never lends: short answers, short cards, numbers that are no table, numbers that are no form.
+//! What the library answers to what this crate never lends: short answers, short cards, numbers that are no table, numbers that are no form, bytes
+//! and numbers that are no index.
 
 use super::*;
 
@@ -704,6 +705,181 @@ fn a_widening_is_refused_for_its_answer_then_for_its_buffers_then_for_its_table(
         .all(|&number| number == 9));
     assert!(new.leaves[leaves.len()..].iter().all(|&number| number == 9));
     assert!(new.text[text.len()..].iter().all(|&byte| byte == 9));
+}
+
+/// Buffers that are lent as an index, whatever stands in them.
+struct LentIndex {
+    codes: Vec<u8>,
+    counts: Vec<u32>,
+}
+
+impl LentIndex {
+    fn sound(&self) -> bool {
+        let (codes, counts) = (&self.codes, &self.counts);
+        // SAFETY: as in `write`.
+        unsafe { sargaceu_index_sound(codes.as_ptr(), codes.len(), counts.as_ptr(), counts.len()) }
+    }
+
+    /// What the three questions answer: to the count of codes, to a code's count, to the k-th code.
+    fn ask(&self, code: &[u8], k: usize, answers: [&mut [usize]; 3]) -> [u8; 3] {
+        let (codes, counts) = (&self.codes, &self.counts);
+        let [of_codes, of_count, of_code] = answers;
+        // SAFETY: as in `write`.
+        unsafe {
+            [
+                sargaceu_index_codes(
+                    codes.as_ptr(),
+                    codes.len(),
+                    counts.as_ptr(),
+                    counts.len(),
+                    of_codes.as_mut_ptr(),
+                    of_codes.len(),
+                ),
+                sargaceu_index_count(
+                    codes.as_ptr(),
+                    codes.len(),
+                    counts.as_ptr(),
+                    counts.len(),
+                    code.as_ptr(),
+                    code.len(),
+                    of_count.as_mut_ptr(),
+                    of_count.len(),
+                ),
+                sargaceu_index_code(
+                    codes.as_ptr(),
+                    codes.len(),
+                    counts.as_ptr(),
+                    counts.len(),
+                    k,
+                    of_code.as_mut_ptr(),
+                    of_code.len(),
+                ),
+            ]
+        }
+    }
+
+    /// What reading a message with it answers, into buffers of the small form and of these sizes.
+    fn read(
+        &mut self,
+        message: &[u8],
+        new: &mut New,
+        tally: &mut [u32],
+        answer: &mut [usize],
+    ) -> u8 {
+        // SAFETY: as in `write`.
+        unsafe {
+            sargaceu_read_indexed(
+                SMALL,
+                message.as_ptr(),
+                message.len(),
+                new.text.as_mut_ptr(),
+                new.text.len(),
+                new.segments.as_mut_ptr(),
+                new.segments.len(),
+                new.leaves.as_mut_ptr(),
+                new.leaves.len(),
+                self.codes.as_mut_ptr(),
+                self.codes.len(),
+                self.counts.as_mut_ptr(),
+                self.counts.len(),
+                tally.as_mut_ptr(),
+                tally.len(),
+                answer.as_mut_ptr(),
+                answer.len(),
+            )
+        }
+    }
+}
+
+/// An index that names AB, counted 7 times, and B, counted 9 times.
+fn two_codes() -> LentIndex {
+    let (mut codes, mut counts) = (vec![0; 11776], vec![0; 513]);
+    codes[..3].copy_from_slice(b"\x02AB");
+    codes[23..25].copy_from_slice(b"\x01B");
+    counts[..3].copy_from_slice(&[2, 7, 9]);
+    LentIndex { codes, counts }
+}
+
+#[test]
+fn an_index_is_asked_whatever_stands_in_it() {
+    let index = two_codes();
+    assert!(index.sound());
+    let (mut codes, mut count, mut code) = ([7; 2], [7; 2], [7; 4]);
+    let told = index.ask(b"AB", 2, [&mut codes, &mut count, &mut code]);
+    assert_eq!(told, [1, 1, 1]);
+    assert_eq!((codes, count, code), ([2, 7], [7, 7], [24, 1, 9, 7]));
+    let (mut codes, mut count, mut code) = ([7; 2], [7; 2], [7; 4]);
+    let told = index.ask(b"A", 3, [&mut codes, &mut count, &mut code]);
+    assert_eq!(told, [1, 0, 0]);
+    assert_eq!((count, code), ([7; 2], [7; 4]));
+    // short answers stay as they were, and the number still tells
+    let mut code = [7; 2];
+    let told = index.ask(b"B", 1, [&mut [], &mut [], &mut code]);
+    assert_eq!(told, [1, 1, 1]);
+    assert_eq!(code, [7; 2]);
+
+    for (bytes, numbers, named) in [
+        (11775, 513, 2),
+        (11776, 512, 2),
+        (11776, 513, 513),
+        (0, 0, 0),
+    ] {
+        let mut index = two_codes();
+        index.codes.truncate(bytes);
+        index.counts.truncate(numbers);
+        if let Some(first) = index.counts.first_mut() {
+            *first = named;
+        }
+        let (mut codes, mut count, mut code) = ([7; 1], [7; 1], [7; 3]);
+        assert!(!index.sound());
+        let told = index.ask(b"AB", 1, [&mut codes, &mut count, &mut code]);
+        assert_eq!(told, [53, 53, 53]);
+        assert_eq!((codes, count, code), ([7], [7], [7; 3]));
+    }
+    for length in [0, 23, 255] {
+        let mut index = two_codes();
+        index.codes[23] = length;
+        assert!(!index.sound());
+        let told = index.ask(b"AB", 2, [&mut [], &mut [], &mut [7; 3]]);
+        assert_eq!((told[0], told[2]), (1, 53));
+    }
+}
+
+#[test]
+fn reading_with_an_index_is_refused_for_answer_or_tally_then_for_the_index_then_for_the_buffers() {
+    let message = b"H|~^\\&|||LAB||ORU\rP|1\rOBR|1\rOBX|1|NM|AB||1\rOBX|2|NM|AC||1\rL|1\r";
+    let mut index = two_codes();
+    index.counts[0] = 514;
+    let before = (index.codes.clone(), index.counts.clone());
+    let mut new = New::of(16384, 1024, 14336);
+    let (mut tally, mut answer) = ([5; 4], [7; 7]);
+    assert_eq!(
+        index.read(message, &mut new, &mut tally, &mut answer[..5]),
+        1
+    );
+    assert_eq!(
+        index.read(message, &mut new, &mut tally[..2], &mut answer),
+        1
+    );
+    assert_eq!((tally, answer), ([5; 4], [7; 7]));
+    let mut short = New::of(16383, 1024, 14336);
+    assert_eq!(index.read(message, &mut short, &mut tally, &mut answer), 53);
+    assert_eq!((tally, answer), ([5; 4], [0, 0, 0, 0, 0, 0, 7]));
+    assert_eq!(before, (index.codes.clone(), index.counts.clone()));
+
+    let mut index = two_codes();
+    assert_eq!(index.read(message, &mut short, &mut tally, &mut answer), 1);
+    assert!(short.are_kept() && new.are_kept());
+    assert_eq!(index.read(message, &mut new, &mut tally, &mut answer), 0);
+    assert_eq!(tally, [6, 11, 7, 5]);
+    assert_eq!((answer[0], answer[3], answer[6]), (0, 6, 7));
+    assert_eq!(index.counts[..4], [3, 8, 1, 9]);
+    assert_eq!(index.codes[..3], *b"\x02AB");
+    assert_eq!(
+        index.codes[23..46],
+        *b"\x02AC\0\0\0\0\0\0\0\0\0\0\0\0\0\0\0\0\0\0\0\0"
+    );
+    assert_eq!(index.codes[46..48], *b"\x01B");
 }
 
 #[test]

@@ -3,6 +3,7 @@
 
 mod any;
 mod forms;
+mod indexing;
 mod leaves;
 mod names;
 mod orders;

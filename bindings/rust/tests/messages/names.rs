@@ -43,10 +43,10 @@ fn every_number_that_comes_back_has_a_sentence_of_its_own() {
     let mut sentences: Vec<String> = numbers.clone().map(|number| number.to_string()).collect();
     assert!(numbers
         .map(u8::from)
-        .eq((1..14).chain(20..26).chain(30..47)));
+        .eq((1..14).chain(20..26).chain(30..47).chain(50..54)));
     sentences.sort();
     sentences.dedup();
-    assert_eq!(sentences.len(), 36);
+    assert_eq!(sentences.len(), 40);
 }
 
 #[test]
