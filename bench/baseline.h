@@ -1,7 +1,7 @@
 /*
- * The baseline: reader, writer, leaf lookup, values and screening check by the rules of docs/RULES.md in plain C, written for speed and with every
- * refusal. The library is measured against it. Same parameters, same answers and same buffers as the functions of include/sargaceu.h that begin with
- * sargaceu_ in place of base_, on every input.
+ * The baseline: reader, writer, leaf lookup, values, screening check and the reader with an index by the rules of docs/RULES.md in plain C, written for
+ * speed and with every refusal. The library is measured against it. Same parameters, same answers and same buffers as the functions of
+ * include/sargaceu.h that begin with sargaceu_ in place of base_, on every input.
  */
 #ifndef BASELINE_H
 #define BASELINE_H
@@ -59,5 +59,15 @@ uint8_t base_screen(uint8_t form,
                     const uint32_t *leaves, size_t leaves_numbers,
                     const uint8_t *text, size_t text_bytes,
                     size_t *answer, size_t answer_numbers);
+
+uint8_t base_read_indexed(uint8_t form,
+                          const uint8_t *message, size_t message_bytes,
+                          uint8_t *text, size_t text_bytes,
+                          uint32_t *segments, size_t segments_numbers,
+                          uint32_t *leaves, size_t leaves_numbers,
+                          uint8_t *codes, size_t codes_bytes,
+                          uint32_t *counts, size_t counts_numbers,
+                          uint32_t *tally, size_t tally_numbers,
+                          size_t *answer, size_t answer_numbers);
 
 #endif

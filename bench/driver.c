@@ -13,6 +13,9 @@
  *                                                 just enough, or tests of its table
  *   driver screen|is-table library|baseline FILE N
  *                                                 N screening checks of a report, or tests of its table
+ *   driver read-indexed-0|read-indexed-100|read-indexed-512 library|baseline FILE N
+ *                                                 N readings of a message in the small form with an index that names so many codes, those
+ *                                                 of the message among them, or none each time
  *   driver time FILE...                           times of both, interleaved, the least of nine, on x86-64
  *
  * Both are called by pointers that the compiler cannot see through, so no call is folded away.
@@ -95,7 +98,7 @@ static void *room(size_t bytes)
     return begin;
 }
 
-static struct reach all_of(uint8_t form)
+struct reach all_of(uint8_t form)
 {
     return (struct reach){ whole[form].text, whole[form].segments, whole[form].leaves };
 }
@@ -139,7 +142,7 @@ void copy_table(struct table *to, const struct table *from)
     memcpy(to->answer, from->answer, sizeof from->answer);
 }
 
-static void soil(struct table *t, struct reach reach, int with)
+void soil_table(struct table *t, struct reach reach, int with)
 {
     t->reach = reach;
     memset(t->text, with, reach.text);
@@ -148,7 +151,7 @@ static void soil(struct table *t, struct reach reach, int with)
     memset(t->answer, with, sizeof t->answer);
 }
 
-static bool same_tables(const struct table *a, const struct table *b, struct reach reach)
+bool same_tables(const struct table *a, const struct table *b, struct reach reach)
 {
     return memcmp(a->answer, b->answer, sizeof a->answer) == 0
         && memcmp(a->text, b->text, reach.text) == 0
@@ -200,7 +203,7 @@ static void compare_all(uint8_t form, const struct message *m)
         show("writing, far behind what is written", m);
 }
 
-/* Both read the message into buffers that held the same before; answers the number. */
+/* Both read the message into buffers that held the same before, without an index and with one; answers the number. */
 static uint8_t same_reading(const struct message *m, uint8_t form, struct lent lent)
 {
     enum { NOW_AND_THEN = 256 };
@@ -209,7 +212,7 @@ static uint8_t same_reading(const struct message *m, uint8_t form, struct lent l
     struct table *t = tables[form];
     struct reach reach = reach_of(form, m);
     for (int i = 0; i < 2; i++) {
-        soil(&t[i], reach, with);
+        soil_table(&t[i], reach, with);
         given[i] = read_by(i, m, &t[i], lent);
     }
     if (given[0] != given[1] || !same_tables(&t[0], &t[1], reach)) {
@@ -223,6 +226,7 @@ static uint8_t same_reading(const struct message *m, uint8_t form, struct lent l
     counts[form].cases++;
     counts[form].numbers[given[0]]++;
     counts[form].accepted += given[0] == 0;
+    compare_indexing(m, &t[0], given[0], lent);
     return given[0];
 }
 
@@ -944,6 +948,13 @@ static int compare(int files, char **file)
         invent_report(&m);
         compare_one(&m, 1);
     }
+    for (size_t n = 0; n < 12000; n++) {
+        invent_codes(&m);
+        if (n % 8 == 0)
+            damage(&m, &forms[SARGACEU_SMALL]);
+        for (uint8_t form = 0; form < FORMS; form++)
+            same_reading(&m, form, some_lent(form));
+    }
     for (uint8_t form = 0; form < FORMS; form++) {
         compare_limits(form);
         compare_all(form, &m);
@@ -955,6 +966,7 @@ static int compare(int files, char **file)
            sought[SARGACEU_FOUND], sought[SARGACEU_FOUND_EMPTY], sought[SARGACEU_NOT_THERE]);
     report_values();
     report_screening();
+    report_indexing();
     return 0;
 }
 
@@ -1129,6 +1141,10 @@ static int time_all(int files, char **file)
     for (int i = 0; i < files; i++)
         if (is_for_screening(file[i]))
             time_screening(file[i]);
+    printf("\n%-12s %5s %8s %8s %6s  %8s %8s %6s  %6s\n", "ns a reading", "codes", "library", "plain", "ratio", "baseline", "plain", "ratio", "ratio");
+    for (int i = 0; i < files; i++)
+        if (is_for_indexing(file[i]))
+            time_indexing(file[i]);
     return 0;
 }
 
@@ -1146,13 +1162,15 @@ int main(int words, char **word)
                 return run(writing, form, word[2], word[3], strtoul(word[4], NULL, 10));
     if (words == 5 && strcmp(word[1], "find") == 0)
         return run_lookups(word[2], word[3], strtoul(word[4], NULL, 10));
+    if (words == 5 && is_indexing(word[1]))
+        return run_indexing(word[1], word[2], word[3], strtoul(word[4], NULL, 10));
     if (words == 5 && is_for_screening(word[3]) && run_screening(word[1], word[2], word[3], strtoul(word[4], NULL, 10)) == 0)
         return 0;
     if (words == 5 && run_values(word[1], word[2], word[3], strtoul(word[4], NULL, 10)) == 0)
         return 0;
     fprintf(stderr, "usage: driver compare FILE... | driver read|write|read-large|write-large library|baseline FILE N | driver find library|segment|baseline FILE N"
                     " | driver read-value|write-value library|baseline SAMPLE N | driver order-values|order-values-just|is-table"
-                    "|screen library|baseline FILE N"
+                    "|screen|read-indexed-0|read-indexed-100|read-indexed-512 library|baseline FILE N"
                     " | driver time FILE...\n");
     return 2;
 }

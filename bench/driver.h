@@ -1,6 +1,6 @@
 /*
- * What the driver's three files share: driver.c has messages, tables and leaf lookups, values.c has values, screening.c has the screening check. Both
- * implementations are called by number, 0 the library and 1 the baseline.
+ * What the driver's four files share: driver.c has messages, tables and leaf lookups, values.c has values, screening.c has the screening check,
+ * indexing.c has reading with an index. Both implementations are called by number, 0 the library and 1 the baseline.
  */
 #ifndef DRIVER_H
 #define DRIVER_H
@@ -74,6 +74,15 @@ void add(struct message *m, const char *text);
 /* Makes a table of a form: buffers that are there until the program ends. */
 void make_table(struct table *t, uint8_t form);
 
+/* How long the buffers of a form's tables are. */
+struct reach all_of(uint8_t form);
+
+/* Fills a table with a byte, as far as it counts. */
+void soil_table(struct table *t, struct reach reach, int with);
+
+/* Whether two tables are the same up to there. */
+bool same_tables(const struct table *a, const struct table *b, struct reach reach);
+
 /* Copies a table, as far as it counts, into one of the same form. */
 void copy_table(struct table *to, const struct table *from);
 
@@ -131,5 +140,35 @@ int run_screening(const char *mode, const char *who, const char *path, size_t ti
 /* Times of these reports. */
 bool is_for_screening(const char *path);
 void time_screening(const char *path);
+
+/* ---- indexing.c ---- */
+
+/* The reader with an index; include/sargaceu.h says what it does. */
+uint8_t sargaceu_read_indexed(uint8_t form,
+                              const uint8_t *message, size_t message_bytes,
+                              uint8_t *text, size_t text_bytes,
+                              uint32_t *segments, size_t segments_numbers,
+                              uint32_t *leaves, size_t leaves_numbers,
+                              uint8_t *codes, size_t codes_bytes,
+                              uint32_t *counts, size_t counts_numbers,
+                              uint32_t *tally, size_t tally_numbers,
+                              size_t *answer, size_t answer_numbers);
+
+/* Compares readings with an index: of a message that was read to this number and this table without one. */
+void compare_indexing(const struct message *m, const struct table *read, uint8_t number, struct lent lent);
+
+/* A message whose results have codes of all sorts. */
+void invent_codes(struct message *m);
+
+/* Says how much was compared. */
+void report_indexing(void);
+
+/* Repeats: the mode's name, who, which message and how many times. Answers the program's exit status. */
+bool is_indexing(const char *mode);
+int run_indexing(const char *mode, const char *who, const char *path, size_t times);
+
+/* Times of these messages. */
+bool is_for_indexing(const char *path);
+void time_indexing(const char *path);
 
 #endif
