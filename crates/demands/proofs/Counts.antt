@@ -227,7 +227,7 @@ module _ (L : Limits) (levels : ℕ → ℕ → ℕ) (message : List ℕ) {tally
       adds-message L message codes counts (c .0 .sound) (c .1) (c .2) (k .codesPut-in) (k .countsPut-in) (k .tallied)
 
 -- the same joined segments, the same codes, the same outcome
-codes-sound : (L : Limits) (message : List ℕ) (ps : Separators) → SoundLines L message ps → codesIn L message ≡ map (codeCarried ps) (segmentsIn L ps message)
+pub codes-sound : (L : Limits) (message : List ℕ) (ps : Separators) → SoundLines L message ps → codesIn L message ≡ map (codeCarried ps) (segmentsIn L ps message)
 unfolding codesIn
 codes-sound L message ps s =
     ap {B = List (List ℕ)} (λ (h : Header). elim h [ Sound qs ↦ map (codeCarried qs) (segmentsIn L qs message) | Broken ↦ [] ]) (s .header)

@@ -12,3 +12,5 @@ pub mod Counts
 pub mod Histories
 pub mod CountsShutOut
 pub mod CountsExample
+pub mod CodeLeaf
+pub mod CodesLookedUp

@@ -6,8 +6,10 @@ use mathlib.Core.List.{List, [], _∷_}
 use mathlib.Core.Logic.{_↔_, _⊎_}
 use mathlib.Core.Path.{_≡_}
 use Prim.Native.Nat.{ℕ, suc, _+_, _*_, _≤_, _<_}
-use lib.ListN.{length, getD}
+use lib.Dec.{eqb}
+use lib.ListN.{length, take, drop, getD}
 use Rattle.laws.specs.Lists.{same, count}
+use Rattle.laws.specs.Tables.{values}
 use Rattle.laws.specs.inner.Sums.{sumOf}
 use Rattle.form.specs.declared.limits.Limits.{Limits}
 use Rattle.form.specs.declared.forms.Form.{Form}
@@ -16,7 +18,8 @@ use Rattle.form.specs.declared.separators.Header.the-variants.{Sound, Broken}
 use Rattle.form.specs.Forms.{limitsOf}
 use Rattle.form.specs.Header.{headerOf}
 use Rattle.order.specs.Owners.{level}
-use Rattle.table.specs.Rows.{Table}
+use Rattle.table.specs.Lent.{Lent, lent}
+use Rattle.table.specs.Rows.{Table, kindIn}
 use Rattle.table.specs.Reading.{roomOf, accepted, reading}
 use Rattle.index.specs.declared.tally.Tally.{Tally}
 use Rattle.index.specs.Refusals.{longCode, fullIndex, fullCount, noIndex}
@@ -27,8 +30,12 @@ use Rattle.index.specs.Tallying.{withMessage, tallyTooLarge}
 use Rattle.read.specs.declared.indexed.Indexed.{Indexed}
 use Rattle.read.specs.Answering.{ReadAs, noCard}
 use Rattle.read.specs.Sound.{segmentsIn, SoundLines}
-use Rattle.read.specs.Codes.{codesIn, present, firstLong}
+use Rattle.read.specs.Codes.{countedKind, leafCode, codesIn, present, firstLong}
 use Rattle.read.specs.Counting.{IndexedAs}
+use Rattle.look.specs.declared.leaf.Sought.{Sought}
+use Rattle.look.specs.declared.leaf.Sought.the-variants.{At, Empty, NotThere}
+use Rattle.look.specs.Looking.{leafNamed}
+use Rattle.look.specs.inner.Searching.{soughtIn}
 
 -- of a message: how many segments it has, how many of its OBX have a code, and how many of these carry the code c
 unfoldable pub segmentCount : Limits → List ℕ → ℕ
@@ -155,6 +162,32 @@ pub record Counts (L : Limits) (levels : ℕ → ℕ → ℕ) : Type 0 where
       → IndexedAs L levels tally message text segments leaves codes counts r text₁ segments₁ leaves₁ codes₁ counts₁
       → IndexedAs L levels tally other text segments leaves codes counts s text₂ segments₂ leaves₂ codes₂ counts₂
       → (r ≡ s) × (text₁ ≡ text₂) × (segments₁ ≡ segments₂) × (leaves₁ ≡ leaves₂) × (codes₁ ≡ codes₂) × (counts₁ ≡ counts₂)
+
+-- the text that an answer of the leaf lookup stands for (F1): no text where the leaf is empty or not there
+unfoldable pub textSought : (text : List ℕ) → Sought → List ℕ
+textSought text (At start n) = take n (drop start text)
+textSought text Empty = []
+textSought text NotThere = []
+
+-- what it finds at 10.4.1 of row i of a lent table, counted from 0; and the code of that row by lookups alone: none, where it is no OBX
+abbrev pub codeSought : Lent → ℕ → List ℕ
+codeSought t i = textSought (t .text) (soughtIn t (leafNamed (suc i) 4 1))
+
+unfoldable pub codeInRow : Lent → ℕ → List ℕ
+codeInRow t i = elim (eqb (kindIn (t .segmentRows) i) countedKind) [ true ↦ codeSought t i | false ↦ [] ]
+
+-- What is counted is what the leaf lookup finds (X2, F1), in the table that the reading leaves.
+pub record LooksUpCodes (L : Limits) (levels : ℕ → ℕ → ℕ) : Type 0 where
+  -- at 10.4.1 of row i, counted from 0, it finds the text that is the segment's code, where it is an OBX; past the last row both are no text
+  pub each-row : (message : List ℕ) {tally : Tally} {text segments leaves codes counts text′ segments′ leaves′ codes′ counts′ : List ℕ} {r : Indexed}
+      → IndexedAs L levels tally message text segments leaves codes counts r text′ segments′ leaves′ codes′ counts′ → r .answer .number ≡ 0
+      → (ps : Separators) → headerOf message ≡ Sound ps → (i : ℕ)
+      → textSought text′ (soughtIn (lent (r .answer .card) segments′ leaves′ text′) (leafNamed (suc i) 4 1))
+      ≡ leafCode ps (getD (segmentsIn L ps message) i [])
+  -- so the codes of the message are, row by row, what it finds where the row is an OBX
+  pub all-rows : (message : List ℕ) {tally : Tally} {text segments leaves codes counts text′ segments′ leaves′ codes′ counts′ : List ℕ} {r : Indexed}
+      → IndexedAs L levels tally message text segments leaves codes counts r text′ segments′ leaves′ codes′ counts′ → r .answer .number ≡ 0
+      → codesIn L message ≡ values (codeInRow (lent (r .answer .card) segments′ leaves′ text′)) 0 (segmentCount L message)
 
 -- a message that was added, and the limits it was read by
 pub record AddedMessage : Type 0 where

@@ -1,78 +1,101 @@
--- Whether the code at a place may stand there, and the turns of the loop that asks it of each place.
+-- Whether the code at a place may stand there, and the turns of the loop that asks it of each place but the first.
 -- Assumes nothing.
 use mathlib.Core.Bool.{Bool, true, false, _&&_}
 use mathlib.Core.List.{List}
 use mathlib.Core.Path.{_≡_, refl, sym, ap, _∙_}
 use Prim.Native.Nat.{ℕ, zero, suc, _+_, _-_, _*_, _<_, _≤_}
 use native.Mathlib.Omega.{arith}
-use borrow.Author.Tests.{le-leb, lt-leb}
+use borrow.Author.Tests.{le-leb, lt-leb, leb-true}
+use lib.Dec.{leb}
 use lib.ListN.{getD, drop}
+use Rattle.laws.proofs.Cases.{at-least-one}
+use Rattle.laws.proofs.Tests.{and-second}
 use Rattle.index.specs.declared.code.Compared.{Compared}
 use Rattle.index.specs.Index.{codeMost, placeSize}
 use Rattle.index.specs.inner.Comparing.{compared}
-use Rattle.index.specs.inner.Rising.{lengthAt, codeAt, isBehind, behindLast, followsAt, risesFrom}
+use Rattle.index.specs.inner.Rising.{isLength, isBehind, codeFrom, followsAt, risesFrom, allRise}
 
--- one place: the first test that fails decides, or the code before it
-module _ (codes : List ℕ) (i : ℕ) where
-  pub empty-code : lengthAt codes i ≡ 0 → false ≡ followsAt codes i
+-- a length by its two tests
+module _ (n : ℕ) where
+  pub no-length : n ≡ 0 → false ≡ isLength n
+  unfolding isLength
+  no-length e = rw (lt-leb 1 n (omega (arith, e)))
+
+  pub length-decides : (n ≡ 0 → ⊥) → leb n codeMost ≡ isLength n
+  unfolding isLength
+  length-decides some = rw (le-leb 1 n (at-least-one n some))
+
+  pub length-short : isLength n ≡ true → n ≤ codeMost
+  unfolding isLength
+  length-short e = leb-true n codeMost (and-second (leb 1 n) (leb n codeMost) e)
+
+-- one place: without a code's length it may not stand, with one the code before it decides
+module _ (codes : List ℕ) (at : ℕ) where
+  pub no-code-there : false ≡ isLength (getD codes (at + placeSize) 0) → false ≡ followsAt codes at
   unfolding followsAt
-  empty-code e = rw (lt-leb 1 (lengthAt codes i) (omega (arith, e)))
+  no-code-there e =
+      ap (λ (b : Bool). b && isBehind (compared (codeFrom codes (at + placeSize)) (getD codes at 0) (drop (at + 1) codes))) e
 
-  module _ (some : lengthAt codes i ≡ 0 → ⊥) where
-    pub long-code : codeMost < lengthAt codes i → false ≡ followsAt codes i
-    unfolding followsAt
-    long-code h = rw (le-leb 1 (lengthAt codes i) (omega (arith, some)), lt-leb (lengthAt codes i) codeMost h)
+  pub code-there-decides : true ≡ isLength (getD codes (at + placeSize) 0) → {r : Compared}
+      → r ≡ compared (codeFrom codes (at + placeSize)) (getD codes at 0) (drop (at + 1) codes)
+      → isBehind r ≡ followsAt codes at
+  unfolding followsAt
+  code-there-decides e {r} given =
+      ap isBehind given
+      ∙ ap (λ (b : Bool). b && isBehind (compared (codeFrom codes (at + placeSize)) (getD codes at 0) (drop (at + 1) codes))) e
 
-    module _ (fits : lengthAt codes i ≤ codeMost) where
-      pub last-decides : behindLast codes i ≡ followsAt codes i
-      unfolding followsAt
-      last-decides = rw (le-leb 1 (lengthAt codes i) (omega (arith, some)), le-leb (lengthAt codes i) codeMost fits)
+-- the loop: so many places are left, up to the last one; what is left rises exactly where all do
+pub record Rising (codes : List ℕ) (n at : ℕ) : Type 0 where
+  pub left : ℕ
+  pub upto : at + left * placeSize ≡ n * placeSize
+  pub rest : risesFrom codes at left ≡ risesFrom codes 0 n
 
-      pub first-code : i ≡ 0 → true ≡ followsAt codes i
-      unfolding behindLast
-      first-code e = sym (ap (behindLast codes) e) ∙ last-decides
+pub rising-begins : (codes : List ℕ) (n : ℕ) → Rising codes n 0
+rising-begins codes n = record { left = n; upto = omega arith; rest = refl }
 
--- behind the code that begins one place earlier
-behind-place : (codes : List ℕ) (i : ℕ) → (i ≡ 0 → ⊥)
-    → isBehind (compared (codeAt codes i) (getD codes (i * placeSize - placeSize) 0) (drop (i * placeSize - placeSize + 1) codes)) ≡ behindLast codes i
-unfolding behindLast
-behind-place codes zero e = absurd (e refl)
-behind-place codes (suc i) e =
-    ap (λ (n : ℕ). isBehind (compared (codeAt codes (suc i)) (getD codes n 0) (drop (n + 1) codes)))
-    (let q : suc i * placeSize - placeSize ≡ i * placeSize = omega arith in q)
+module _ {codes : List ℕ} {n at : ℕ} (u : Rising codes n at) where
+  -- a place is left below the last one
+  some-left : at < n * placeSize → (u .left ≡ 0 → ⊥)
+  some-left h e = omega (arith, h, u .upto, e)
 
-pub later-code : (codes : List ℕ) (i : ℕ) → (lengthAt codes i ≡ 0 → ⊥) → lengthAt codes i ≤ codeMost → (i ≡ 0 → ⊥)
-    → {r : Compared} → r ≡ compared (codeAt codes i) (getD codes (i * placeSize - placeSize) 0) (drop (i * placeSize - placeSize + 1) codes)
-    → isBehind r ≡ followsAt codes i
-later-code codes i some fits e {r} given = ap isBehind given ∙ behind-place codes i e ∙ last-decides codes i some fits
-
--- the loop: what is left rises exactly where all do
-pub record Rising (codes : List ℕ) (named i : ℕ) : Type 0 where
-  pub within : i ≤ named
-  pub rest : risesFrom codes i (named - i) ≡ risesFrom codes 0 named
-
-pub rising-begins : (codes : List ℕ) (named : ℕ) → Rising codes named 0
-rising-begins codes named =
-    record { within = omega arith; rest = ap (risesFrom codes 0) (let e : named - 0 ≡ named = omega arith in e) }
-
-module _ {codes : List ℕ} {named i : ℕ} (u : Rising codes named i) where
-  turn : i < named → (followsAt codes i && risesFrom codes (suc i) (named - (i + 1))) ≡ risesFrom codes 0 named
+  turn : (h : at < n * placeSize) → (followsAt codes at && risesFrom codes (at + placeSize) (u .left - 1)) ≡ risesFrom codes 0 n
   unfolding risesFrom
-  turn h = sym (ap (risesFrom codes i) (let e : named - i ≡ suc (named - (i + 1)) = omega arith in e)) ∙ u .rest
+  turn h =
+      sym (ap (risesFrom codes at) (let e : u .left ≡ suc (u .left - 1) = omega (arith, at-least-one (u .left) (some-left h)) in e))
+      ∙ u .rest
 
-  pub rising-next : i < named → true ≡ followsAt codes i → Rising codes named (i + 1)
+  pub rising-room : at < n * placeSize → at + placeSize ≤ n * placeSize
+  rising-room h = omega (arith, u .upto, at-least-one (u .left) (some-left h))
+
+  pub rising-next : at < n * placeSize → true ≡ followsAt codes at → Rising codes n (at + placeSize)
   rising-next h e =
       record {
-        within = omega arith;
-        rest =
-            ap (λ (j : ℕ). risesFrom codes j (named - (i + 1))) (let q : i + 1 ≡ suc i = omega arith in q)
-            ∙ ap (λ (b : Bool). b && risesFrom codes (suc i) (named - (i + 1))) e
-            ∙ turn h;
+        left = u .left - 1;
+        upto = omega (arith, u .upto, at-least-one (u .left) (some-left h));
+        rest = ap (λ (b : Bool). b && risesFrom codes (at + placeSize) (u .left - 1)) e ∙ turn h;
       }
 
-  pub rising-fails : i < named → false ≡ followsAt codes i → false ≡ risesFrom codes 0 named
-  rising-fails h e = ap (λ (b : Bool). b && risesFrom codes (suc i) (named - (i + 1))) e ∙ turn h
+  pub rising-fails : at < n * placeSize → false ≡ followsAt codes at → false ≡ risesFrom codes 0 n
+  rising-fails h e = ap (λ (b : Bool). b && risesFrom codes (at + placeSize) (u .left - 1)) e ∙ turn h
 
-  pub rising-done : named ≤ i → true ≡ risesFrom codes 0 named
+  pub rising-done : n * placeSize ≤ at → true ≡ risesFrom codes 0 n
   unfolding risesFrom
-  rising-done h = sym (ap (risesFrom codes i) (let e : named - i ≡ 0 = omega arith in e)) ∙ u .rest
+  rising-done h =
+      sym (ap (risesFrom codes at) (let e : u .left ≡ 0 = omega (arith, u .upto, h) in e)) ∙ u .rest
+
+-- all places: none is named, the first has no code, or those behind it decide
+module _ (codes : List ℕ) where
+  pub none-rise : (n : ℕ) → n ≡ 0 → true ≡ allRise codes n
+  unfolding allRise
+  none-rise n e = sym (ap (allRise codes) e)
+
+  pub first-fails : (n : ℕ) → (n ≡ 0 → ⊥) → false ≡ isLength (getD codes 0 0) → false ≡ allRise codes n
+  unfolding allRise
+  first-fails zero some e = absurd (some refl)
+  first-fails (suc n) some e = ap (λ (b : Bool). b && risesFrom codes 0 n) e
+
+  pub first-rises : (n : ℕ) → (n ≡ 0 → ⊥) → true ≡ isLength (getD codes 0 0) → risesFrom codes 0 (n - 1) ≡ allRise codes n
+  unfolding allRise
+  first-rises zero some e = absurd (some refl)
+  first-rises (suc n) some e =
+      ap (risesFrom codes 0) (let q : suc n - 1 ≡ n = omega arith in q) ∙ ap (λ (b : Bool). b && risesFrom codes 0 n) e

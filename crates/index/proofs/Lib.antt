@@ -20,3 +20,5 @@ pub mod Large
 pub mod SamePlaces
 pub mod AddedAll
 pub mod Halved
+pub mod Answered
+pub mod ShutOut

@@ -14,10 +14,15 @@ use Rattle.laws.specs.Tables.{values}
 use Rattle.laws.proofs.Parts.{part-taken}
 use Rattle.laws.proofs.Tests.{Tested, passed, failed, tested}
 use Rattle.index.specs.Order.{byteOrder, isBefore, before}
-use Rattle.index.specs.Index.{codeMost, placeSize, lengthOf, codeOf, namedIn, entryAt, entriesIn, roomy, risesAfter, soundIndex}
-use Rattle.index.specs.inner.Rising.{lengthAt, codeAt, isBehind, behindLast, followsAt, risesFrom}
+use Rattle.index.specs.Index.{codeMost, placeSize, lengthOf, codeOf, namedIn, entryAt, entriesIn, roomy, risesAfter, rises, soundIndex}
+use Rattle.index.specs.inner.Comparing.{compared}
+use Rattle.index.specs.inner.Rising.{lengthAt, isLength, isBehind, codeFrom, followsAt, risesFrom, allRise}
 use Rattle.index.proofs.InByteOrder.{compared-taken, behind-before}
 use Rattle.index.proofs.Roominess.{room}
+
+and-true : (b : Bool) → b ≡ (b && true)
+and-true true = refl
+and-true false = refl
 
 module _ (codes counts : List ℕ) where
   -- the length and the code of an entry are those at its place
@@ -27,63 +32,83 @@ module _ (codes counts : List ℕ) where
       ∙ getD-drop (i * placeSize) codes 0 0
       ∙ ap (λ (n : ℕ). getD codes n 0) (add-zero (i * placeSize))
 
-  pub code-there : (i : ℕ) → lengthAt codes i ≤ codeMost → codeOf (entryAt codes counts i) ≡ codeAt codes i
+  pub code-there : (i : ℕ) → lengthAt codes i ≤ codeMost → codeOf (entryAt codes counts i) ≡ codeFrom codes (i * placeSize)
   code-there i fits =
       ap (λ (n : ℕ). take n (drop 1 (take placeSize (drop (i * placeSize) codes)))) (length-there i)
       ∙ part-taken (drop (i * placeSize) codes) 1 (lengthAt codes i) placeSize (omega arith)
       ∙ ap (take (lengthAt codes i)) (drop-drop 1 (i * placeSize) codes)
 
   -- a code of 1 byte or more is behind the empty one
-  some-behind : (n : ℕ) (s : List ℕ) → 1 ≤ n → 1 ≤ length s → isBefore (byteOrder [] (take n s)) ≡ true
+  some-behind : (n : ℕ) (s : List ℕ) → 1 ≤ n → 1 ≤ length s → before [] (take n s) ≡ true
   unfolding byteOrder isBefore
   some-behind zero s h l = absurd (omega arith)
   some-behind (suc n) [] h l = absurd (omega arith)
   some-behind (suc n) (a ∷ s) h l = refl
 
-  -- before the place i: `last` is the code that the next one must be behind
-  Last : ℕ → List ℕ → Type 0
-  Last i last = 1 ≤ lengthAt codes i → before last (codeAt codes i) ≡ behindLast codes i
+  -- the code at a place behind the one at another: as the codes of their entries stand
+  behind-there : (at next : ℕ) → getD codes at 0 + (at + 1) ≤ length codes
+      → isBehind (compared (codeFrom codes next) (getD codes at 0) (drop (at + 1) codes)) ≡ before (codeFrom codes at) (codeFrom codes next)
+  behind-there at next long =
+      ap isBehind (compared-taken (codeFrom codes next) (getD codes at 0) (drop (at + 1) codes) (omega (arith, length-drop (at + 1) codes, long)))
+      ∙ behind-before (codeFrom codes next) (codeFrom codes at)
 
-  last-first : 1 < length codes → Last 0 []
-  unfolding Last behindLast
-  last-first long some =
-      some-behind (lengthAt codes 0) (drop (0 * placeSize + 1) codes) some (omega (arith, length-drop (0 * placeSize + 1) codes))
-
-  last-next : (i : ℕ) → lengthAt codes i ≤ codeMost → i * placeSize + placeSize ≤ length codes → Last (suc i) (codeAt codes i)
-  unfolding Last behindLast
-  last-next i fits long some =
-      sym (behind-before (codeAt codes (suc i)) (codeAt codes i))
-      ∙ ap isBehind
-      (sym (compared-taken (codeAt codes (suc i)) (lengthAt codes i) (drop (i * placeSize + 1) codes) (omega (arith, length-drop (i * placeSize + 1) codes))))
-
-  rises-from : (n i : ℕ) (last : List ℕ) → Last i last → (i + n) * placeSize ≤ length codes
-      → risesFrom codes i n ≡ risesAfter last (values (entryAt codes counts) i n)
-  unfolding risesFrom risesAfter values followsAt Last
-  rises-from zero i last l long = refl
-  rises-from (suc n) i last l long =
-      go (tested (leb 1 (lengthAt codes i))) (tested (leb (lengthAt codes i) codeMost))
-      (λ fits. rises-from n (suc i) (codeAt codes i) (last-next i fits (omega arith)) (omega arith))
+  -- an entry by its two tests: without a code's length it ends the rise, with one the code before it and the entries behind it decide
+  entry-rises : (last : List ℕ) (i n : ℕ) (b d : Bool)
+      → (lengthAt codes i ≤ codeMost → 1 ≤ lengthAt codes i → b ≡ before last (codeFrom codes (i * placeSize)))
+      → (lengthAt codes i ≤ codeMost → d ≡ risesAfter (codeFrom codes (i * placeSize)) (values (entryAt codes counts) (suc i) n))
+      → (isLength (lengthAt codes i) && b && d) ≡ risesAfter last (values (entryAt codes counts) i (suc n))
+  unfolding risesAfter values isLength
+  entry-rises last i n b d first rest = go (tested (leb 1 (lengthAt codes i))) (tested (leb (lengthAt codes i) codeMost))
     where
       go : Tested (leb 1 (lengthAt codes i)) → Tested (leb (lengthAt codes i) codeMost)
-          → (lengthAt codes i ≤ codeMost → risesFrom codes (suc i) n ≡ risesAfter (codeAt codes i) (values (entryAt codes counts) (suc i) n))
-          → risesFrom codes i (suc n) ≡ risesAfter last (values (entryAt codes counts) i (suc n))
-      go (failed t) u rest = rw (length-there i, t)
-      go (passed t) (failed u) rest = rw (length-there i, t, u)
-      go (passed t) (passed u) rest =
+          → (isLength (lengthAt codes i) && b && d) ≡ risesAfter last (values (entryAt codes counts) i (suc n))
+      go (failed t) u = rw (length-there i, t)
+      go (passed t) (failed u) = rw (length-there i, t, u)
+      go (passed t) (passed u) =
           let fits = leb-true (lengthAt codes i) codeMost u in
-          ap₂ (λ (b d : Bool). leb 1 (lengthAt codes i) && leb (lengthAt codes i) codeMost && b && d)
-          (sym (l (leb-true 1 (lengthAt codes i) t))) (rest fits)
+          ap₂ (λ (b d : Bool). (leb 1 (lengthAt codes i) && leb (lengthAt codes i) codeMost) && b && d)
+          (first fits (leb-true 1 (lengthAt codes i) t)) (rest fits)
+          ∙ (rw (t, u))
           ∙ sym
           (ap₂
           (λ (k : ℕ) (d : List ℕ).
           leb 1 k && leb k codeMost && before last d && risesAfter d (values (entryAt codes counts) (suc i) n)) (length-there i) (code-there i fits))
 
+  none-left : (last : List ℕ) (i : ℕ) → true ≡ risesAfter last (values (entryAt codes counts) i 0)
+  unfolding risesAfter values
+  none-left last i = refl
+
+  -- the places behind place i
+  rises-behind : (n i : ℕ) → lengthAt codes i ≤ codeMost → (suc i + n) * placeSize ≤ length codes
+      → risesFrom codes (i * placeSize) n ≡ risesAfter (codeFrom codes (i * placeSize)) (values (entryAt codes counts) (suc i) n)
+  unfolding risesFrom followsAt
+  rises-behind zero i fits long = none-left (codeFrom codes (i * placeSize)) (suc i)
+  rises-behind (suc n) i fits long =
+      ap
+      (λ (at : ℕ).
+      isLength (getD codes at 0) && isBehind (compared (codeFrom codes at) (lengthAt codes i) (drop (i * placeSize + 1) codes)) && risesFrom codes at n)
+      (let e : i * placeSize + placeSize ≡ suc i * placeSize = omega arith in e)
+      ∙ entry-rises (codeFrom codes (i * placeSize)) (suc i) n
+      (isBehind (compared (codeFrom codes (suc i * placeSize)) (lengthAt codes i) (drop (i * placeSize + 1) codes)))
+      (risesFrom codes (suc i * placeSize) n)
+      (λ short some. behind-there (i * placeSize) (suc i * placeSize) (omega (arith, fits, long)))
+      (λ short. rises-behind n (suc i) short (omega (arith, long)))
+
+  all-rise : (n : ℕ) → n * placeSize ≤ length codes → allRise codes n ≡ rises (values (entryAt codes counts) 0 n)
+  unfolding allRise
+  all-rise zero long = none-left [] 0
+  all-rise (suc n) long =
+      ap (λ (b : Bool). b && risesFrom codes 0 n) (and-true (isLength (lengthAt codes 0)))
+      ∙ entry-rises [] 0 n true (risesFrom codes 0 n)
+      (λ short some. sym (some-behind (lengthAt codes 0) (drop (0 * placeSize + 1) codes) some (omega (arith, length-drop (0 * placeSize + 1) codes, long))))
+      (λ short. rises-behind n 0 short (omega (arith, long)))
+
   -- of roomy buffers
-  pub sound-decided : roomy codes counts ≡ true → risesFrom codes 0 (namedIn counts) ≡ soundIndex codes counts
+  pub sound-decided : roomy codes counts ≡ true → allRise codes (namedIn counts) ≡ soundIndex codes counts
   unfolding soundIndex entriesIn
   sound-decided e =
       let r = room codes counts e in
-      rw e (rises-from (namedIn counts) 0 [] (last-first (omega (arith, r .codesLong))) (omega (arith, r .codesLong, r .fewNamed)))
+      rw e (all-rise (namedIn counts) (omega (arith, r .codesLong, r .fewNamed)))
 
   pub not-roomy-sound : roomy codes counts ≡ false → false ≡ soundIndex codes counts
   unfolding soundIndex

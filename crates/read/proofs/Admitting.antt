@@ -141,13 +141,13 @@ module _ (L : Limits) (d : Decision) (tally : Tally) (m codes counts : List ℕ)
 
   -- refused
   admits-turned : {number place : ℕ} → ((t : Table) → admission L d tally m codes counts t ≡ turned number place)
-      → AdmitsAs L d tally m codes counts (record { number = number; place = place; tally = tally }) codes counts
+      → {a : Admitted} → a ≡ record { number = number; place = place; tally = tally } → AdmitsAs L d tally m codes counts a codes counts
   unfolding numberOf placeOf tallyLeft frontLeft
-  admits-turned h =
+  admits-turned h {a} is =
       record {
-        number = λ t. sym (ap numberOf (h t));
-        place = λ t. sym (ap placeOf (h t));
-        tallyIs = λ t. sym (ap (tallyLeft tally) (h t));
+        number = λ t. ap (λ (a : Admitted). a .number) is ∙ sym (ap numberOf (h t));
+        place = λ t. ap (λ (a : Admitted). a .place) is ∙ sym (ap placeOf (h t));
+        tallyIs = λ t. ap (λ (a : Admitted). a .tally) is ∙ sym (ap (tallyLeft tally) (h t));
         codesAre = λ t. sym (ap (frontLeft codesPut codes) (h t));
         countsAre = λ t. sym (ap (frontLeft countsPut counts) (h t));
       }
@@ -157,7 +157,8 @@ module _ (L : Limits) (d : Decision) (tally : Tally) (m codes counts : List ℕ)
     number-is : r .number ≡ censusNumber (carriedIn L (d .separators) m) E
     number-is = census .number ∙ ap (λ (es : List Entry). censusNumber (carriedIn L (d .separators) m) (addedAll (present (carriedIn L (d .separators) m)) es)) (copy .entries)
 
-    pub admits-none : (r .number ≡ 0 → ⊥) → AdmitsAs L d tally m codes counts (record { number = r .number; place = r .place; tally = tally }) codes counts
+    pub admits-none : (r .number ≡ 0 → ⊥) → {a : Admitted} → a ≡ record { number = r .number; place = r .place; tally = tally }
+        → AdmitsAs L d tally m codes counts a codes counts
     admits-none h =
         admits-turned
         (λ t. census-turns (carriedIn L (d .separators) m) t E T (λ z. h (number-is ∙ z)) ∙ ap₂ turned (sym number-is) (sym (census .place)))
@@ -166,7 +167,8 @@ module _ (L : Limits) (d : Decision) (tally : Tally) (m codes counts : List ℕ)
       tried-is : tried ≡ tallied tally (d .segments) (length (present (carriedIn L (d .separators) m)))
       tried-is = is ∙ ap (tallied tally (d .segments)) (census .results none)
 
-      pub admits-no-more : tried .fits ≡ false → AdmitsAs L d tally m codes counts (record { number = fullCount; place = 0; tally = tally }) codes counts
+      pub admits-no-more : tried .fits ≡ false → {a : Admitted} → a ≡ record { number = fullCount; place = 0; tally = tally }
+          → AdmitsAs L d tally m codes counts a codes counts
       admits-no-more h =
           admits-turned (λ t. tally-turns (carriedIn L (d .separators) m) t E T (sym number-is ∙ none) (tally-full tally (d .segments) _ tried-is h))
 

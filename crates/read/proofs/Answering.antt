@@ -19,7 +19,7 @@ use Rattle.table.proofs.Width.{form-fits}
 use Rattle.read.specs.declared.Answer.{Answer}
 use Rattle.read.specs.declared.decide.Decision.{Decision}
 use Rattle.read.specs.Answering.{Gives, ReadAs, answerOf, textPut, segmentsPut, leavesPut}
-use Rattle.read.specs.inner.Deciding.{DecidesAs, ReadsWithin, Fileable}
+use Rattle.read.specs.inner.Deciding.{DecidesAs, ReadsWithin, Fileable, filedAs}
 use Rattle.read.specs.inner.Filling.{tableIn, Filled}
 use Rattle.read.proofs.Deciding.{decided-refuses, decided-accepts}
 
@@ -52,14 +52,10 @@ module _ {L : Limits} {class kinds table : List ℕ} {d : Decision} {message tex
 
   pub table-filed : {text′ segments′ leaves′ : List ℕ} {bytes : ℕ}
       → Filled (tableIn L table (d .separators) message) text segments leaves text′ segments′ leaves′ bytes
-      → Gives (accepted (tableIn L table (d .separators) message)) text segments leaves
-      (record {
-        number = 0;
-        place = 0;
-        card = record { separator = d .separators .field; context = d .context; segments = d .segments; leaves = d .leaves; text = bytes };
-      })
-      text′ segments′ leaves′
-  table-filed {bytes = bytes} f = gives-table refl f (ap (λ (k : Card). record { number = 0; place = 0; card = k }) (card-filled bytes (f .counted)))
+      → {r : Answer} → r ≡ filedAs d bytes
+      → Gives (accepted (tableIn L table (d .separators) message)) text segments leaves r text′ segments′ leaves′
+  table-filed {bytes = bytes} f is =
+      gives-table refl f (is ∙ ap (λ (k : Card). record { number = 0; place = 0; card = k }) (card-filled bytes (f .counted)))
 
 -- what was decided, by a table of levels: a refusal answered, and what filing asks and gives where it accepts
 module _ {L : Limits} {message class kinds starts : List ℕ} {d : Decision} (text segments leaves : List ℕ)

@@ -1,20 +1,23 @@
 -- Deciding: the step equations of `decisionOf`, that it stands for the outcome, test by test, and what it says where it accepts.
 -- Assumes nothing.
 use mathlib.Core.Bool.{Bool, true, false}
-use mathlib.Core.List.{List}
+use mathlib.Core.List.{List, []}
 use mathlib.Core.Path.{_≡_, refl, sym, ap, ap₂, _∙_, subst⁻¹}
 use Prim.Native.Nat.{ℕ, _+_, _*_, _≤_, _<_}
 use native.Mathlib.Omega.{arith}
 use lib.Dec.{ltb, eqb}
-use lib.ListN.{length}
-use borrow.Author.Tests.{ltb-false, lt-ltb, le-ltb, eq-eqb, ne-eqb}
+use lib.ListN.{length, getD, drop}
+use borrow.Author.Tests.{ltb-false, lt-ltb, le-ltb, eq-eqb, ne-eqb, eqb-false}
 use Rattle.form.specs.declared.limits.Limits.{Limits}
 use Rattle.form.specs.declared.separators.Separators.{Separators}
 use Rattle.form.specs.declared.separators.Header.the-variants.{Sound, Broken}
 use Rattle.form.specs.Header.{headerOf}
+use Rattle.form.proofs.Names.{context-within}
 use Rattle.form.specs.Numbers.{shortBuffer, longMessage, brokenHeader, manySegments, unknownKind, noContext, misplacedKind, manyLeaves}
 use Rattle.line.specs.Lines.{walk, faultNumber, faultPlace}
-use Rattle.table.specs.Rows.{segmentRowSize, leafRowSize, Table, tableOf}
+use Rattle.laws.proofs.Cases.{at-least-one}
+use Rattle.table.specs.Leaves.{contextOfHeader, split}
+use Rattle.table.specs.Rows.{segmentRowSize, leafRowSize, contextIn, Table, tableOf}
 use Rattle.table.specs.inner.Fitting.{FitsRows}
 use Rattle.table.specs.Reading.{Room, Outcome, refused, accepted, refuseIf, refuseAt, short, judged, ofMessage, reading}
 use Rattle.read.specs.declared.decide.Decision.{Decision}
@@ -192,6 +195,7 @@ number-same q = sym (ap (λ (x : Decision). x .number) q)
 record Passed (L : Limits) (ps : Separators) (s : Survey) : Type 0 where
   is : decisionOf L ps s ≡ acceptedBy ps s
   segments : s .segments ≤ L .segments
+  context : s .watcher .context ≡ 0 → ⊥
   leaves : s .separators + s .segments + 2 ≤ L .leaves
 
 decision-passed : (L : Limits) (ps : Separators) (s : Survey) → decisionOf L ps s .number ≡ 0 → Passed L ps s
@@ -207,6 +211,7 @@ decision-passed L ps s e =
     record {
       is = seven .1 ∙ eight ∙ nine .1 ∙ ten ∙ eleven .1;
       segments = ltb-false (L .segments) (s .segments) (seven .0);
+      context = eqb-false (s .watcher .context) 0 (nine .0);
       leaves = ltb-false (L .leaves) (s .separators + s .segments + 2) (eleven .0);
     }
 
@@ -274,6 +279,11 @@ module _ (L : Limits) (room : Room) (message : List ℕ) (text : L .bytes ≤ ro
         accepts = w .accepts;
       }
 
+-- a message has one of the seven contexts, or none
+header-within : (ps : Separators) (segments : List (List ℕ)) → contextIn ps segments ≤ 7
+unfolding contextIn contextOfHeader
+header-within ps segments = context-within (getD (split (ps .field) (drop 7 (getD segments 0 []))) 4 [])
+
 -- what the first pass comes to decides: a fault of the lines refuses, else the tests of what was seen do
 module _ (L : Limits) (ps : Separators) (message class kinds starts : List ℕ) where
   pub fault-decides : {n p : ℕ} {d : Decision} → (n ≡ faultNumber (walk L message)) × (n ≡ 0 → ⊥) × (p ≡ faultPlace (walk L message))
@@ -314,6 +324,8 @@ module _ (L : Limits) (ps : Separators) (message class kinds starts : List ℕ) 
                       few = omega (arith, known .count, p .segments);
                       fewLeaves = omega (arith, known .leaves, p .leaves);
                       named = known .context;
+                      someContext = at-least-one (s .watcher .context) (p .context);
+                      sevenContexts = omega (arith, known .context, header-within ps (segmentsIn L ps message));
                       noted = λ i before. noted i (omega (arith, known .count));
                       all = omega (arith, known .count, p .segments);
                     };

@@ -73,11 +73,17 @@ counted-outcome cs t es tally =
 
 -- what a refusal leaves
 module _ {o : Counting} {tally : Tally} {text segments leaves codes counts : List ℕ} where
-  pub leaves-turned : {number place : ℕ} {r : Indexed} → o ≡ turned number place → r .answer ≡ answerOf (refused number place) → r .tally ≡ tally
+  pub leaves-turned : {number place : ℕ} {r : Indexed} → o ≡ turned number place → r ≡ record { answer = answerOf (refused number place); tally = tally }
       → Leaves o tally text segments leaves codes counts r text segments leaves codes counts
   unfolding asOutcome tallyLeft frontLeft
-  leaves-turned e a u =
-      rw e (record { given = gives-refusal refl a; tallyIs = u; codesAre = refl; countsAre = refl })
+  leaves-turned e is =
+      rw e
+      (record {
+        given = gives-refusal refl (ap (λ (q : Indexed). q .answer) is);
+        tallyIs = ap (λ (q : Indexed). q .tally) is;
+        codesAre = refl;
+        countsAre = refl;
+      })
 
 -- what comes of it where the index is not sound; and where it is, by what the reader comes to
 module _ (L : Limits) (levels : ℕ → ℕ → ℕ) (room : Room) (l : Ledger) (message : List ℕ) where
@@ -97,12 +103,12 @@ module _ (L : Limits) (levels : ℕ → ℕ → ℕ) (room : Room) (l : Ledger) 
 
 -- a refusal of the index leaves all as it was
 pub unsound-indexed : (L : Limits) (table : List ℕ) (tally : Tally) (message text segments leaves codes counts : List ℕ) → soundIndex codes counts ≡ false
-    → {r : Indexed} → r .answer ≡ answerOf (refused noIndex 0) → r .tally ≡ tally
+    → {r : Indexed} → r ≡ record { answer = answerOf (refused noIndex 0); tally = tally }
     → IndexedAs L (levelIn table) tally message text segments leaves codes counts r text segments leaves codes counts
-unsound-indexed L table tally message text segments leaves codes counts e a u =
+unsound-indexed L table tally message text segments leaves codes counts e is =
     leaves-turned
     (counting-unsound L (levelIn table) (roomOf text segments leaves) (record { codes = codes; counts = counts; tally = tally }) message e)
-    a u
+    is
 
 -- under the separators of the header, the codes of a message are those that its segments carry
 pub codes-carried : (L : Limits) {ps : Separators} (message : List ℕ) → headerOf message ≡ Sound ps → codesIn L message ≡ carriedIn L ps message
@@ -113,13 +119,13 @@ codes-carried L message e = rw (codesIn, e) refl
 module _ {L : Limits} {message class kinds starts : List ℕ} {d : Decision} (text segments leaves : List ℕ)
     (w : DecidesAs L message class kinds starts (λ levels. reading L levels (roomOf text segments leaves) message) d) (table : List ℕ)
     (tally : Tally) (codes counts : List ℕ) (sound : soundIndex codes counts ≡ true) where
-  pub refusal-indexed : (d .number ≡ 0 → ⊥) → {r : Indexed} → r .answer ≡ answerOf (refused (d .number) (d .place)) → r .tally ≡ tally
+  pub refusal-indexed : (d .number ≡ 0 → ⊥) → {r : Indexed} → r ≡ record { answer = answerOf (refused (d .number) (d .place)); tally = tally }
       → IndexedAs L (levelIn table) tally message text segments leaves codes counts r text segments leaves codes counts
-  refusal-indexed h a u =
+  refusal-indexed h is =
       leaves-turned
       (counting-refused L (levelIn table) (roomOf text segments leaves) (record { codes = codes; counts = counts; tally = tally }) message sound
       (refuses-reading text segments leaves w table h))
-      a u
+      is
 
   module _ (yes : d .number ≡ 0) where
     pub accepted-admissible : length starts ≡ L .segments → Admissible L class kinds starts d message codes counts
@@ -142,40 +148,46 @@ module _ {L : Limits} {message class kinds starts : List ℕ} {d : Decision} (te
         countedOr (carried i) t (addedAll (present (carried i)) (entriesIn codes counts))
         (withMessage tally (sym (a .segments) i) (length (present (carried i)))))
 
-    module _ {r : Admitted} {codes′ counts′ : List ℕ} (admits : AdmitsAs L d tally message codes counts r codes′ counts′) where
-      pub turned-indexed : (r .number ≡ 0 → ⊥) → {q : Indexed} → q .answer ≡ answerOf (refused (r .number) (r .place)) → q .tally ≡ tally
-          → IndexedAs L (levelIn table) tally message text segments leaves codes counts q text segments leaves codes′ counts′
-      turned-indexed h {q} a u =
-          let t = tableIn L table (d .separators) message in
-          let o = admission L d tally message codes counts t in
-          let h′ : numberOf o ≡ 0 → ⊥ = λ e. h (admits .number t ∙ e) in
-          subst⁻¹ (λ (o : Counting). Leaves o tally text segments leaves codes counts q text segments leaves codes′ counts′) counting-admission
-          (record {
-            given =
-                gives-refusal (turned-outcome o h′)
-                (a ∙ (λ i. answerOf (refused (admits .number t i) (admits .place t i))));
-            tallyIs = u ∙ sym (turned-tally o h′ tally);
-            codesAre = admits .codesAre t;
-            countsAre = admits .countsAre t;
-          })
+    -- what counting and filing leave is what reading leaves
+    pub admitted-indexed : {q : Indexed} {text′ segments′ leaves′ codes′ counts′ : List ℕ}
+        → Leaves (admission L d tally message codes counts (tableIn L table (d .separators) message)) tally text segments leaves codes counts
+        q text′ segments′ leaves′ codes′ counts′
+        → IndexedAs L (levelIn table) tally message text segments leaves codes counts q text′ segments′ leaves′ codes′ counts′
+    admitted-indexed {q} {text′} {segments′} {leaves′} {codes′} {counts′} left =
+        subst⁻¹ (λ (o : Counting). Leaves o tally text segments leaves codes counts q text′ segments′ leaves′ codes′ counts′) counting-admission left
 
-      pub counted-indexed : r .number ≡ 0 → {q : Indexed} {text′ segments′ leaves′ : List ℕ}
-          → Gives (accepted (tableIn L table (d .separators) message)) text segments leaves (q .answer) text′ segments′ leaves′ → q .tally ≡ r .tally
-          → IndexedAs L (levelIn table) tally message text segments leaves codes counts q text′ segments′ leaves′ codes′ counts′
-      counted-indexed e {q} {text′} {segments′} {leaves′} g u =
-          let t = tableIn L table (d .separators) message in
-          let cs = carriedIn L (d .separators) message in
-          subst⁻¹ (λ (o : Counting). Leaves o tally text segments leaves codes counts q text′ segments′ leaves′ codes′ counts′) counting-admission
-          (record {
-            given =
-                subst⁻¹ (λ (o : Outcome). Gives o text segments leaves (q .answer) text′ segments′ leaves′)
-                (counted-outcome cs t (addedAll (present cs) (entriesIn codes counts)) (withMessage tally (d .segments) (length (present cs)))
-                (sym (admits .number t) ∙ e))
-                g;
-            tallyIs = u ∙ admits .tallyIs t;
-            codesAre = admits .codesAre t;
-            countsAre = admits .countsAre t;
-          })
+-- what counting gives, filed in a table: a message that is turned away leaves all as it was, one that is counted the table
+module _ {L : Limits} {d : Decision} {tally : Tally} {message codes counts : List ℕ} (t : Table) (text segments leaves : List ℕ)
+    {r : Admitted} {codes′ counts′ : List ℕ} (admits : AdmitsAs L d tally message codes counts r codes′ counts′) where
+  pub turned-left : (r .number ≡ 0 → ⊥) → {q : Indexed} → q ≡ record { answer = answerOf (refused (r .number) (r .place)); tally = tally }
+      → Leaves (admission L d tally message codes counts t) tally text segments leaves codes counts q text segments leaves codes′ counts′
+  turned-left h {q} is =
+      let o = admission L d tally message codes counts t in
+      let h′ : numberOf o ≡ 0 → ⊥ = λ e. h (admits .number t ∙ e) in
+      record {
+        given =
+            gives-refusal (turned-outcome o h′)
+            (ap (λ (q : Indexed). q .answer) is ∙ (λ i. answerOf (refused (admits .number t i) (admits .place t i))));
+        tallyIs = ap (λ (q : Indexed). q .tally) is ∙ sym (turned-tally o h′ tally);
+        codesAre = admits .codesAre t;
+        countsAre = admits .countsAre t;
+      }
+
+  pub counted-left : r .number ≡ 0 → {q : Indexed} {text′ segments′ leaves′ : List ℕ}
+      → Gives (accepted t) text segments leaves (q .answer) text′ segments′ leaves′ → q .tally ≡ r .tally
+      → Leaves (admission L d tally message codes counts t) tally text segments leaves codes counts q text′ segments′ leaves′ codes′ counts′
+  counted-left e {q} {text′} {segments′} {leaves′} g u =
+      let cs = carriedIn L (d .separators) message in
+      record {
+        given =
+            subst⁻¹ (λ (o : Outcome). Gives o text segments leaves (q .answer) text′ segments′ leaves′)
+            (counted-outcome cs t (addedAll (present cs) (entriesIn codes counts)) (withMessage tally (d .segments) (length (present cs)))
+            (sym (admits .number t) ∙ e))
+            g;
+        tallyIs = u ∙ admits .tallyIs t;
+        codesAre = admits .codesAre t;
+        countsAre = admits .countsAre t;
+      }
 
 -- what reading with an index under any limits asks, at the limits of a form, with kinds and starts for as many segments
 pub form-indexes : (f : Form) {L : Limits} → L ≡ limitsOf f → {levels : List ℕ} → LevelsBelow (levelIn levels) → {kinds starts : List ℕ}

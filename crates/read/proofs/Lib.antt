@@ -29,6 +29,7 @@ pub mod AtTheFront
 pub mod CountedRows
 pub mod CountedAll
 pub mod TakenLines
+pub mod SkippedFields
 pub mod CodeLines
 pub mod CountState
 pub mod Admitting

@@ -112,7 +112,7 @@ module _ {c : Came} {class kinds levels : List ℕ} {context : ℕ} {ps : Separa
       let rows = begun-leaves (w .begins) in
       omega (arith, w .prepared .given .fewLeaves)
 
-  pub stands-closable : Closable f kinds segments leaves
+  pub stands-closable : Closable f context kinds segments leaves
   stands-closable =
       let given = w .prepared .given in
       let few = row-few in
@@ -124,6 +124,8 @@ module _ {c : Came} {class kinds levels : List ℕ} {context : ℕ} {ps : Separa
       let segments-same = segments-kept (w .begins) in
       let leaves-same = leaves-kept (w .begins) in
       record {
+        someContext = given .someContext;
+        sevenContexts = given .sevenContexts;
         leaf =
             record {
               room = omega (arith, w .prepared .leafRoom);

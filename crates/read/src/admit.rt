@@ -56,19 +56,11 @@ pub(crate) fn admit(
         &mut new_counts,
     );
     if census.number != Number::ACCEPTED {
-        return Admitted {
-            number: census.number,
-            place: census.place,
-            tally,
-        };
+        return declined(census.number, census.place, tally);
     }
     let tallied = tally.with_message(decision.segments, census.results);
     if !tallied.fits {
-        return Admitted {
-            number: Refusal::FULL_COUNT,
-            place: 0,
-            tally,
-        };
+        return declined(Refusal::FULL_COUNT, 0, tally);
     }
     let more = wide(new_counts[0]);
     put_codes(&new_codes[..more * PLACE], codes);
@@ -78,6 +70,17 @@ pub(crate) fn admit(
         number: Number::ACCEPTED,
         place: 0,
         tally: after,
+    }
+}
+
+// A refusal, with the tally as it was.
+fn declined(number: u8, place: usize, tally: Tally) -> Admitted
+    ensures { λ r. ⌜ r ≡ record { number = number; place = place; tally = tally } ⌝ }
+{
+    Admitted {
+        number,
+        place,
+        tally,
     }
 }
 

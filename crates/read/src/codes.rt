@@ -7,11 +7,12 @@ use line::finder::low_end;
 use table::class::index;
 ghost use mathlib.Core.Bool.{true, false};
 ghost use mathlib.Core.Path.{_≡_};
-ghost use Prim.Native.Nat.{_-_, _≤_};
+ghost use Prim.Native.Nat.{_+_, _-_, _≤_, _<_};
 ghost use lib.Dec.{eqb};
-ghost use lib.ListN.{length};
+ghost use lib.ListN.{length, drop};
 ghost use Rattle.index.specs.Index.{codeMost};
-ghost use Rattle.read.specs.inner.Coding.{kept, TakesLine, LineTaken, CodeAhead, CodeTaken, codeOfRow};
+ghost use Rattle.read.specs.inner.Scanning.{plainRun};
+ghost use Rattle.read.specs.inner.Coding.{Skips, FieldsSkipped, kept, TakesLine, LineTaken, CodeAhead, CodeTaken, codeOfRow};
 
 // How far a segment's code has come: field separators that are to come up to the one that ends field 4, 1 in that field itself, 0 once the code is
 // whole; the bytes of the code; and where the last byte stands that was looked at.
@@ -21,7 +22,65 @@ pub struct Taken {
     pub at: usize,
 }
 
-// What a line has of the code, from `from` on. Of a code that is too long the first 22 bytes are kept.
+// Where a line's bytes have been gone over up to, and the field separators that are then to come.
+pub struct Skipped {
+    pub left: usize,
+    pub at: usize,
+}
+
+// Where the text ends that begins at `from`. A byte that is none lies ahead, so the loop tests no bound.
+fn plain_end(class: &[u8; 256], message: &[u8], from: usize) -> usize
+    requires { ⌜ from + plainRun (now class) (drop from (now message)) < length (now message) ⌝ }
+    ensures { λ r. ⌜ r ≡ from + plainRun (now (class .entry)) (drop from (now (message .entry))) ⌝ }
+{
+    let mut at = from;
+    while class[index(message[at])] == 0 {
+        at += 1;
+    }
+    at
+}
+
+// From `from` on over the fields before the code, with so many field separators to come up to the one that ends its own, or to the line's end. Most
+// bytes are text: only the others are asked what they are.
+fn skip_fields(class: &[u8; 256], message: &[u8], from: usize, fields: usize) -> Skipped
+    requires { ⌜ Skips (now class) (now message) from fields ⌝ }
+    ensures { λ r. ⌜ FieldsSkipped (now (class .entry)) (now (message .entry)) from fields (r .at) (r .left) ⌝ }
+{
+    let mut left = fields;
+    let mut at = from;
+    while left != 1 {
+        let stop = plain_end(class, message, at);
+        let sort = class[index(message[stop])];
+        if sort == 5 {
+            return Skipped { left, at: stop };
+        }
+        at = stop + 1;
+        left = fields_left(left, sort);
+    }
+    Skipped { left, at }
+}
+
+// What a line has of the code, from `from` on: the fields before it are gone over first.
+fn take_from_line(
+    class: &[u8; 256],
+    message: &[u8],
+    from: usize,
+    taken: Taken,
+    code: &mut [u8],
+) -> Taken
+    requires { ⌜ TakesLine (now class) (now message) from (taken .left) (taken .length) (now code) ⌝ }
+    ensures { λ r. ⌜ LineTaken (now (class .entry)) (now (message .entry)) from (taken .left) (taken .length) (now (code .entry)) r (now (code .exit)) ⌝ }
+{
+    let skipped = skip_fields(class, message, from, taken.left);
+    let begun = Taken {
+        left: skipped.left,
+        length: taken.length,
+        at: skipped.at,
+    };
+    take_line(class, message, skipped.at, begun, code)
+}
+
+// The same from any field on, byte by byte. Of a code that is too long the first 22 bytes are kept.
 fn take_line(class: &[u8; 256], message: &[u8], from: usize, taken: Taken, code: &mut [u8]) -> Taken
     requires { ⌜ TakesLine (now class) (now message) from (taken .left) (taken .length) (now code) ⌝ }
     ensures { λ r. ⌜ LineTaken (now (class .entry)) (now (message .entry)) from (taken .left) (taken .length) (now (code .entry)) r (now (code .exit)) ⌝ }
@@ -93,7 +152,7 @@ pub(crate) fn take_code(
     };
     let mut from = start;
     loop {
-        taken = take_line(class, message, from, taken, code);
+        taken = take_from_line(class, message, from, taken, code);
         if taken.left == 0 {
             return taken.length;
         }

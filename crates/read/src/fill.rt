@@ -3,10 +3,11 @@ use crate::lay::Laying;
 use crate::lay::lay_line;
 use crate::lay::put_leaf;
 use crate::start::text_from;
+use form::kind::Kind;
 use form::limits::Limits;
 use form::separators::Separators;
 use line::finder::low_end;
-use order::levels::level_of;
+use order::level_table::PER_CONTEXT;
 use order::owners::PLACES;
 use order::owners::no_rows;
 use order::owners::owner_of;
@@ -16,6 +17,7 @@ ghost use mathlib.Core.Path.{_≡_};
 ghost use Prim.Native.Nat.{_+_, _*_, _≤_};
 ghost use lib.ListN.{length};
 ghost use lib.Seq.{sets};
+ghost use Rattle.order.specs.inner.Levels.{levelIn};
 ghost use Rattle.table.specs.Rows.{segmentRowSize, leafRowSize, segmentRow};
 ghost use Rattle.read.specs.inner.Laying.{NextFits, LaysSorted};
 ghost use Rattle.read.specs.inner.Filling.{tableIn, Prepared, Filled};
@@ -52,6 +54,17 @@ fn put_segment(
     segments[at + rows::COUNT] = count;
 }
 
+// The level of a kind (O1) in a context that is one: a message that is filled has one, so its segments do not ask it again.
+fn level_here(levels: &[u8; 84], context: u8, kind: u8) -> u8
+    requires { ⌜ (1 ≤ context) × (context ≤ 7) ⌝ }
+    ensures { λ r. ⌜ r ≡ levelIn (now (levels .entry)) context kind ⌝ }
+{
+    if Kind::L < kind {
+        return 0;
+    }
+    levels[(context as usize - 1) * PER_CONTEXT + kind as usize]
+}
+
 // The open segment is closed: its last leaf and its own row are written. Its kind is the one that the survey noted.
 fn close_segment(
     filling: Filling,
@@ -62,7 +75,7 @@ fn close_segment(
     segments: &mut [Entry],
     leaves: &mut [Entry],
 )
-    requires { ⌜ Closable filling (now kinds) (now segments) (now leaves) ⌝ }
+    requires { ⌜ Closable filling context (now kinds) (now segments) (now leaves) ⌝ }
     ensures { λ _. ⌜ ClosedBy filling (kindNoted (now (kinds .entry)) filling) (now (levels .entry)) context
         (now (nearest .entry)) (now (segments .entry)) (now (leaves .entry))
         (now (nearest .exit)) (now (segments .exit)) (now (leaves .exit)) ⌝ }
@@ -77,7 +90,7 @@ fn close_segment(
         nearest,
         laying.segment as Entry,
         kind,
-        level_of(levels, context, kind),
+        level_here(levels, context, kind),
     );
     put_segment(
         segments,

@@ -2,8 +2,10 @@
 // judged first, then the message as the reader judges it, then what would be counted; only then is anything written.
 use crate::Answer;
 use crate::admit::admit;
+use crate::decide::Decision;
 use crate::decide::decide;
-use crate::file;
+use crate::filed;
+use crate::fill::fill;
 use crate::refusal;
 use form::forms::Form;
 use form::forms::LargeForm;
@@ -14,11 +16,16 @@ use index::refusal::Refusal;
 use index::soundness::is_sound;
 use index::tally::Tally;
 use table::rows::Entry;
+ghost use mathlib.Core.Path.{_≡_};
 ghost use Rattle.form.specs.Forms.{limitsOf};
 ghost use Rattle.order.specs.inner.Levels.{levelIn};
 ghost use Rattle.order.specs.Owners.{level};
-ghost use Rattle.read.specs.Counting.{IndexedAs};
-ghost use Rattle.read.specs.inner.Admitting.{IndexesWithin};
+ghost use Rattle.table.specs.Reading.{refused};
+ghost use Rattle.read.specs.Answering.{answerOf};
+ghost use Rattle.read.specs.Counting.{IndexedAs, Leaves};
+ghost use Rattle.read.specs.inner.Admitting.{IndexesWithin, Admissible, admission};
+ghost use Rattle.read.specs.inner.Deciding.{Fileable};
+ghost use Rattle.read.specs.inner.Filling.{tableIn};
 
 // What comes back: what the reader answers, and the tally, which is the one that was given where the message is refused.
 pub struct Indexed {
@@ -103,10 +110,7 @@ fn index_within(
         r (now (text .exit)) (now (segments .exit)) (now (leaves .exit)) (now (codes .exit)) (now (counts .exit)) ⌝ }
 {
     if !is_sound(codes, counts) {
-        return Indexed {
-            answer: refusal(Refusal::NO_INDEX, 0),
-            tally,
-        };
+        return turned_away(Refusal::NO_INDEX, 0, tally);
     }
     let mut class = [0u8; 256];
     let decision = decide(
@@ -120,14 +124,51 @@ fn index_within(
         leaves.len(),
     );
     if decision.number != Number::ACCEPTED {
-        return Indexed {
-            answer: refusal(decision.number, decision.place),
-            tally,
-        };
+        return turned_away(decision.number, decision.place, tally);
     }
+    count_and_file(
+        tally,
+        limits,
+        levels,
+        &class,
+        kinds,
+        starts,
+        decision,
+        message,
+        text,
+        segments,
+        leaves,
+        codes,
+        counts,
+    )
+}
+
+// A message that was decided on and a sound index: the message is counted and filed, or turned away.
+fn count_and_file(
+    tally: Tally,
+    limits: Limits,
+    levels: &[u8; 84],
+    class: &[u8; 256],
+    kinds: &[u8],
+    starts: &[usize],
+    decision: Decision,
+    message: &[u8],
+    text: &mut [u8],
+    segments: &mut [Entry],
+    leaves: &mut [Entry],
+    codes: &mut [u8],
+    counts: &mut [u32],
+) -> Indexed
+    requires { ⌜ Fileable limits (now class) (now kinds) (now levels) decision (now message) (now text) (now segments) (now leaves)
+        × Admissible limits (now class) (now kinds) (now starts) decision (now message) (now codes) (now counts) ⌝ }
+    ensures { λ r. ⌜ Leaves (admission limits decision tally (now (message .entry)) (now (codes .entry)) (now (counts .entry))
+        (tableIn limits (now (levels .entry)) (decision .separators) (now (message .entry))))
+        tally (now (text .entry)) (now (segments .entry)) (now (leaves .entry)) (now (codes .entry)) (now (counts .entry))
+        r (now (text .exit)) (now (segments .exit)) (now (leaves .exit)) (now (codes .exit)) (now (counts .exit)) ⌝ }
+{
     let admitted = admit(
         tally,
-        &class,
+        class,
         kinds,
         starts,
         limits,
@@ -137,24 +178,34 @@ fn index_within(
         counts,
     );
     if admitted.number != Number::ACCEPTED {
-        return Indexed {
-            answer: refusal(admitted.number, admitted.place),
-            tally,
-        };
+        return turned_away(admitted.number, admitted.place, tally);
     }
+    let separators = decision.separators;
+    let bytes = fill(
+        class,
+        kinds,
+        levels,
+        decision.context,
+        limits,
+        separators,
+        message,
+        text,
+        segments,
+        leaves,
+    );
     let after = admitted.tally;
     Indexed {
-        answer: file(
-            decision,
-            limits,
-            levels,
-            &class,
-            kinds,
-            message,
-            text,
-            segments,
-            leaves,
-        ),
+        answer: filed(decision, bytes),
         tally: after,
+    }
+}
+
+// A refusal, with the tally as it was.
+fn turned_away(number: u8, place: usize, tally: Tally) -> Indexed
+    ensures { λ r. ⌜ r ≡ record { answer = answerOf (refused number place); tally = tally } ⌝ }
+{
+    Indexed {
+        answer: refusal(number, place),
+        tally,
     }
 }

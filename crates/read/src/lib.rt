@@ -14,10 +14,9 @@ ghost use mathlib.Core.Path.{_≡_};
 ghost use Rattle.form.specs.Forms.{limitsOf};
 ghost use Rattle.order.specs.inner.Levels.{levelIn};
 ghost use Rattle.order.specs.Owners.{level};
-ghost use Rattle.table.specs.Reading.{refused, accepted};
-ghost use Rattle.read.specs.Answering.{ReadAs, Gives, answerOf};
-ghost use Rattle.read.specs.inner.Deciding.{ReadsWithin, Fileable};
-ghost use Rattle.read.specs.inner.Filling.{tableIn};
+ghost use Rattle.table.specs.Reading.{refused};
+ghost use Rattle.read.specs.Answering.{ReadAs, answerOf};
+ghost use Rattle.read.specs.inner.Deciding.{ReadsWithin, filedAs};
 
 mod admit;
 mod census;
@@ -111,38 +110,9 @@ fn read_within(
     if decision.number != Number::ACCEPTED {
         return refusal(decision.number, decision.place);
     }
-    file(
-        decision,
-        limits,
-        levels,
-        &class,
-        kinds,
-        message,
-        text,
-        segments,
-        leaves,
-    )
-}
-
-// Files a message that was decided on: the answer that accepts it, and its table in the three buffers.
-fn file(
-    decision: Decision,
-    limits: Limits,
-    levels: &[u8; 84],
-    class: &[u8; 256],
-    kinds: &[u8],
-    message: &[u8],
-    text: &mut [u8],
-    segments: &mut [Entry],
-    leaves: &mut [Entry],
-) -> Answer
-    requires { ⌜ Fileable limits (now class) (now kinds) (now levels) decision (now message) (now text) (now segments) (now leaves) ⌝ }
-    ensures { λ r. ⌜ Gives (accepted (tableIn limits (now (levels .entry)) (decision .separators) (now (message .entry))))
-        (now (text .entry)) (now (segments .entry)) (now (leaves .entry)) r (now (text .exit)) (now (segments .exit)) (now (leaves .exit)) ⌝ }
-{
     let separators = decision.separators;
     let bytes = fill(
-        class,
+        &class,
         kinds,
         levels,
         decision.context,
@@ -153,6 +123,14 @@ fn file(
         segments,
         leaves,
     );
+    filed(decision, bytes)
+}
+
+// The answer that accepts a message, once it is filled in with so many bytes of text.
+fn filed(decision: Decision, bytes: usize) -> Answer
+    ensures { λ r. ⌜ r ≡ filedAs decision bytes ⌝ }
+{
+    let separators = decision.separators;
     Answer {
         number: Number::ACCEPTED,
         place: 0,

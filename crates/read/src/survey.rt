@@ -10,10 +10,9 @@ use form::limits::Limits;
 use form::separators::Separators;
 use line::finder::Found;
 use line::finder::ended_line;
-use line::finder::text_stop;
 use order::watcher::Watcher;
 ghost use mathlib.Core.Path.{_≡_};
-ghost use Prim.Native.Nat.{_+_, _-_, _≤_, _<_};
+ghost use Prim.Native.Nat.{_+_, _-_, _≤_, _<_, min};
 ghost use lib.ListN.{length, set, take, drop};
 ghost use Rattle.laws.specs.inner.First.{firstHeld};
 ghost use Rattle.order.specs.inner.Telling.{followsBy};
@@ -116,10 +115,10 @@ impl Survey {
             × (now (kinds .exit) ≡ set (now (kinds .entry)) (self .segments - 1) (kindSeen self)) ⌝ }
     {
         let kind = self.kind_number();
-        note(kinds, self.segments, kind);
         let watcher = self.watching();
         let told = watcher.tell_by(followers, kind);
         let after = told.watcher;
+        note(kinds, self.segments, kind);
         let mut next = self;
         next.watcher = after;
         next.unknown = first_of(self.unknown, kind == 0, self.segments);
@@ -181,6 +180,15 @@ fn first_of(earlier: usize, holds: bool, place: usize) -> usize
     if holds { place } else { 0 }
 }
 
+// The last place where the CR of a line that begins at `at` may stand (L3), or the message's end where that comes first. It is `text_stop` of a line
+// that begins within the message.
+fn line_stop(line: usize, at: usize, end: usize) -> usize
+    requires { ⌜ at ≤ end ⌝ }
+    ensures { λ r. ⌜ r ≡ at + min line (end - at) ⌝ }
+{
+    if line < end - at { at + line } else { end }
+}
+
 // One line that begins at `at`, whose text is joined from `from` on.
 fn see_line(
     class: &[u8; 256],
@@ -194,7 +202,7 @@ fn see_line(
     requires { ⌜ Seeable limits separators (now class) (now message) at from seen ⌝ }
     ensures { λ r. ⌜ StepOf limits separators (now (message .entry)) (seen .segments) at r ⌝ }
 {
-    let stop = text_stop(limits.line, at, message.len());
+    let stop = line_stop(limits.line, at, message.len());
     let scanned = scan(class, message, from, stop);
     match ended_line(message, at, scanned.end) {
         Found::Line { end, next } => Step::On {

@@ -55,6 +55,20 @@ pub record HeldCode (g : Gathered) (left size : ℕ) (code : List ℕ) : Type 0 
   pub sizeIs : size ≡ length (g .code)
   pub bytes : (k : ℕ) → k < length (g .code) → k < codeMost → getD code k 0 ≡ getD (g .code) k 0
 
+-- what going over the fields before the code asks: the line's end lies ahead, and the code is not whole
+pub record Skips (class message : List ℕ) (from left : ℕ) : Type 0 where
+  pub inside : from + run class (drop from message) < length message
+  pub begun : 1 ≤ left
+
+-- what it gives: a later byte of the same line, from which on the line gives the code what it gives from `from` on
+pub record FieldsSkipped (class message : List ℕ) (from left at left′ : ℕ) : Type 0 where
+  pub later : from ≤ at
+  pub ends : at + run class (drop at message) ≡ from + run class (drop from message)
+  pub begun : 1 ≤ left′
+  pub rest : (code : List ℕ)
+      → gatherBytes class (record { left = left′; code = code }) (lineText class message at)
+      ≡ gatherBytes class (record { left = left; code = code }) (lineText class message from)
+
 -- what taking from a line asks: the line's end lies ahead, the code is not whole and no longer than the bytes so far
 pub record TakesLine (class message : List ℕ) (from left size : ℕ) (code : List ℕ) : Type 0 where
   pub room : codeMost ≤ length code

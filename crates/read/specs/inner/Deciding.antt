@@ -15,6 +15,7 @@ use Rattle.order.specs.inner.Levels.{levelIn, LevelsBelow}
 use Rattle.table.specs.Rows.{allLeaves, tableOf}
 use Rattle.table.specs.inner.Fitting.{FitsRows}
 use Rattle.table.specs.Reading.{Outcome, refused, accepted}
+use Rattle.read.specs.declared.Answer.{Answer}
 use Rattle.read.specs.declared.decide.Decision.{Decision}
 use Rattle.read.specs.declared.survey.Survey.{Survey}
 use Rattle.read.specs.inner.Filling.{Fillable, Prepared}
@@ -85,6 +86,15 @@ pub record Fileable
   pub prepared : Prepared L class kinds levels (d .separators) (d .context) message text segmentRows leafRows
   pub segments : d .segments ≡ length (segmentsIn L (d .separators) message)
   pub leaves : d .leaves ≡ length (allLeaves (d .separators) (segmentsIn L (d .separators) message))
+
+-- the answer that accepts such a message, once it is filled in with so many bytes of text
+abbrev pub filedAs : Decision → ℕ → Answer
+filedAs d bytes =
+    record {
+      number = 0;
+      place = 0;
+      card = record { separator = d .separators .field; context = d .context; segments = d .segments; leaves = d .leaves; text = bytes };
+    }
 
 -- the contract of deciding: the outcome, whose number and place the decision has, and where it accepts, what it says
 pub record DecidesAs (L : Limits) (message class kinds starts : List ℕ) (outcome : (ℕ → ℕ → ℕ) → Outcome) (d : Decision) : Type 0 where

@@ -27,6 +27,8 @@ pub record Fillable (L : Limits) (class kinds : List ℕ) (ps : Separators) (con
   pub few : length (segmentsIn L ps message) ≤ L .segments
   pub fewLeaves : length (allLeaves ps (segmentsIn L ps message)) ≤ L .leaves
   pub named : context ≡ contextIn ps (segmentsIn L ps message)
+  pub someContext : 1 ≤ context
+  pub sevenContexts : context ≤ 7
   pub noted : Noted ps (segmentsIn L ps message) (length (segmentsIn L ps message)) kinds
   pub all : length (segmentsIn L ps message) ≤ length kinds
 

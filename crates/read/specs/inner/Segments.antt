@@ -30,8 +30,10 @@ kindNoted kinds f = getD kinds (f .laying .segment - 1) 0
 abbrev pub rowClosed : Filling → (kind owner : ℕ) → List ℕ
 rowClosed f kind owner = segmentRow kind owner (f .first) (f .laying .row / leafRowSize + 2 - f .first)
 
--- what closing the segment begun asks: its kind noted, and room for the row of its last leaf and for its own row, whose numbers fit a row
-pub record Closable (f : Filling) (kinds segments leaves : List ℕ) : Type 0 where
+-- what closing the segment begun asks: a context, its kind noted, and room for the row of its last leaf and for its own row, whose numbers fit a row
+pub record Closable (f : Filling) (context : ℕ) (kinds segments leaves : List ℕ) : Type 0 where
+  pub someContext : 1 ≤ context
+  pub sevenContexts : context ≤ 7
   pub leaf : RowFits (f .laying) leaves
   pub numbered : 1 ≤ f .laying .segment
   pub noted : f .laying .segment ≤ length kinds

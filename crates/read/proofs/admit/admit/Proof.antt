@@ -152,6 +152,9 @@ count-codes-requires c κs =
       sound = copied-here at-copy .sound;
     }
 
+declined-requires : tie.Need-declined-requires
+declined-requires c κs = search needs
+
 same-length : tie.Need-same-length
 same-length c = search needs
 
@@ -160,11 +163,14 @@ same-length-2 c = search needs
 
 returns : tie.Need-returns
 returns c =
-    let at-census = c .before .before .before .before in
-    admits-none _ _ _ _ _ _ (copied-here (copied at-census)) (at-census .count-codes .ensures) (c .if1 .taken)
+    let at-census = c .before .before .before .before .before in
+    admits-none _ _ _ _ _ _ (copied-here (copied at-census)) (at-census .count-codes .ensures) (c .before .if1 .taken) (c .declined .ensures)
 
 with-message-requires : tie.Need-with-message-requires
 with-message-requires c κs = search needs
+
+declined-requires-2 : tie.Need-declined-requires-2
+declined-requires-2 c κs = search needs
 
 same-length-3 : tie.Need-same-length-3
 same-length-3 c = search needs
@@ -174,10 +180,10 @@ same-length-4 c = search needs
 
 returns-2 : tie.Need-returns-2
 returns-2 c =
-    let at-tally = c .before .before in
+    let at-tally = c .before .before .before in
     let at-census = censused at-tally in
     admits-no-more _ _ _ _ _ _ (copied-here (copied at-census)) (at-census .count-codes .ensures) (at-tally .before .if1 .left) (at-tally .with-message .ensures)
-    (not-true _ (c .if2 .taken))
+    (not-true _ (c .before .if2 .taken)) (c .declined2 .ensures)
 
 array-read-wide : tie.Need-array-read-wide
 array-read-wide c = search needs
@@ -250,10 +256,12 @@ admit-spec =
     slice-aggregate-count-codes
     slice-aggregate-count-codes-2
     count-codes-requires
+    declined-requires
     same-length
     same-length-2
     returns
     with-message-requires
+    declined-requires-2
     same-length-3
     same-length-4
     returns-2

@@ -24,10 +24,10 @@ abbrev μ-loop : tie.MeasureT-loop
 abbrev start : tie.At-loop Inv-loop μ-loop → tie.Start Inv-loop μ-loop
 start c = c .before .before .before .before
 
-abbrev turn : tie.After-take-line Inv-loop μ-loop → tie.At-loop Inv-loop μ-loop
+abbrev turn : tie.After-take-from-line Inv-loop μ-loop → tie.At-loop Inv-loop μ-loop
 turn c = c .before .before
 
-abbrev looked : tie.Else1 Inv-loop μ-loop → tie.After-take-line Inv-loop μ-loop
+abbrev looked : tie.Else1 Inv-loop μ-loop → tie.After-take-from-line Inv-loop μ-loop
 looked c = c .before .before .before .before
 
 abbrev passed : tie.After-text-from Inv-loop μ-loop → tie.Else1 Inv-loop μ-loop
@@ -49,20 +49,20 @@ code-here c =
 loop-holds : tie.Need-loop-holds Inv-loop μ-loop
 loop-holds c = λ L w. w
 
-take-line-requires : tie.Need-take-line-requires Inv-loop μ-loop
-take-line-requires c κs = line-takes (code-here (c .before))
+take-from-line-requires : tie.Need-take-from-line-requires Inv-loop μ-loop
+take-from-line-requires c κs = line-takes (code-here (c .before))
 
 same-length : tie.Need-same-length Inv-loop μ-loop
-same-length c = let at-line = c .before .before .before .before in at-line .take-line .kept .1 .1 .1 .1 .0 ∙ code-here (turn at-line) .same
+same-length c = let at-line = c .before .before .before .before in at-line .take-from-line .kept .1 .1 .1 .1 .0 ∙ code-here (turn at-line) .same
 
 returns : tie.Need-returns Inv-loop μ-loop
-returns c = let at-line = c .before .before .before .before in code-whole (code-here (turn at-line)) (at-line .take-line .ensures) (c .if1 .taken)
+returns c = let at-line = c .before .before .before .before in code-whole (code-here (turn at-line)) (at-line .take-from-line .ensures) (c .if1 .taken)
 
 add-low-end : tie.Need-add-low-end Inv-loop μ-loop
 add-low-end c =
     let at-line = looked (c .before) in
     let at-turn = turn at-line in
-    omega (arith, at-line .take-line .ensures .ends (c .before .if1 .left), code-here at-turn .inside, start at-turn .good)
+    omega (arith, at-line .take-from-line .ensures .ends (c .before .if1 .left), code-here at-turn .inside, start at-turn .good)
 
 low-end-requires : tie.Need-low-end-requires Inv-loop μ-loop
 low-end-requires c κs = search needs
@@ -71,14 +71,14 @@ text-from-requires : tie.Need-text-from-requires Inv-loop μ-loop
 text-from-requires c κs = search needs
 
 same-length-2 : tie.Need-same-length-2 Inv-loop μ-loop
-same-length-2 c = let at-line = looked (passed (c .before)) in at-line .take-line .kept .1 .1 .1 .1 .0 ∙ code-here (turn at-line) .same
+same-length-2 c = let at-line = looked (passed (c .before)) in at-line .take-from-line .kept .1 .1 .1 .1 .0 ∙ code-here (turn at-line) .same
 
 returns-2 : tie.Need-returns-2 Inv-loop μ-loop
 returns-2 c =
     let from = c .before in
     let on = passed from in
     let at-line = looked on in
-    code-ends (code-here (turn at-line)) (at-line .take-line .ensures) (on .if1 .left) (from .before .low-end .ensures) (from .text-from .ensures) (c .if2 .taken)
+    code-ends (code-here (turn at-line)) (at-line .take-from-line .ensures) (on .if1 .left) (from .before .low-end .ensures) (from .text-from .ensures) (c .if2 .taken)
 
 loop-less : tie.Need-loop-less Inv-loop μ-loop
 loop-less c =
@@ -89,7 +89,7 @@ loop-less c =
     omega (
       arith,
       here .inside,
-      further here (at-line .take-line .ensures) (on .if1 .left) (from .before .low-end .ensures) (from .text-from .ensures) (c .if2 .left),
+      further here (at-line .take-from-line .ensures) (on .if1 .left) (from .before .low-end .ensures) (from .text-from .ensures) (c .if2 .left),
     )
 
 loop-again : tie.Need-loop-again Inv-loop μ-loop
@@ -97,8 +97,8 @@ loop-again c =
     let from = c .before in
     let on = passed from in
     let at-line = looked on in
-    λ L w. code-on (turn at-line .loop .inv L w) (at-line .take-line .ensures) (on .if1 .left) (from .before .low-end .ensures) (from .text-from .ensures)
-    (c .if2 .left) (at-line .take-line .kept .1 .1 .1 .1 .0)
+    λ L w. code-on (turn at-line .loop .inv L w) (at-line .take-from-line .ensures) (on .if1 .left) (from .before .low-end .ensures) (from .text-from .ensures)
+    (c .if2 .left) (at-line .take-from-line .kept .1 .1 .1 .1 .0)
 
 pub take-code-spec : {M : Type 1} → statement M
 take-code-spec =
@@ -107,7 +107,7 @@ take-code-spec =
     Inv-loop
     μ-loop
     loop-holds
-    take-line-requires
+    take-from-line-requires
     same-length
     returns
     add-low-end

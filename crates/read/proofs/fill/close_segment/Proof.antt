@@ -10,7 +10,7 @@ use Rattle.read.proofs.fill.close_segment.Tie as tie
 abbrev start : tie.After-put-leaf → tie.Start
 start c = c .before .before .before .before .before .before
 
-abbrev put : tie.After-level-of → tie.After-put-leaf
+abbrev put : tie.After-level-here → tie.After-put-leaf
 put c = c .before .before .before .before .before .before .before .before
 
 put-leaf-requires : tie.Need-put-leaf-requires
@@ -28,8 +28,10 @@ shared-slice-read-kind c = search needs
 cast-owner-of : tie.Need-cast-owner-of
 cast-owner-of c = search needs
 
-level-of-requires : tie.Need-level-of-requires
-level-of-requires c κs = search needs
+level-here-requires : tie.Need-level-here-requires
+level-here-requires c κs =
+    let pre = start (c .before .before .before .before .before .before .before) .pre in
+    (pre .someContext, pre .sevenContexts)
 
 owner-of-requires : tie.Need-owner-of-requires
 owner-of-requires c κs = search needs
@@ -58,7 +60,7 @@ returns : tie.Need-returns
 returns c =
     let at-segment = c .before .before in
     let at-level = at-segment .before .before .before .before .before in
-    closed-by (at-level .level-of .ensures) (at-segment .before .before .before .before .owner-of .ensures) (put at-level .put-leaf .ensures) (at-segment .put-segment .ensures)
+    closed-by (at-level .level-here .ensures) (at-segment .before .before .before .before .owner-of .ensures) (put at-level .put-leaf .ensures) (at-segment .put-segment .ensures)
 
 pub close-segment-spec : {M : Type 1} → statement M
 close-segment-spec =
@@ -69,7 +71,7 @@ close-segment-spec =
     add-next
     shared-slice-read-kind
     cast-owner-of
-    level-of-requires
+    level-here-requires
     owner-of-requires
     cast-put-segment
     sub-put-segment

@@ -14,8 +14,8 @@ use Rattle.read.proofs.Underway.{LineScanned, line-part, line-seen, lin
 use Rattle.read.proofs.survey.see_line.Statement.{statement}
 use Rattle.read.proofs.survey.see_line.Tie as tie
 
-text-stop-requires : tie.Need-text-stop-requires
-text-stop-requires c κs = search needs
+line-stop-requires : tie.Need-line-stop-requires
+line-stop-requires c κs = search needs
 
 scan-requires : tie.Need-scan-requires
 scan-requires c κs = search needs
@@ -30,23 +30,23 @@ enum-known-end c = search needs
 abbrev ScannedAt : tie.After-scan → Type 0
 ScannedAt c =
     let a = c .before .before .before .args in
-    LineScanned (a .limits) (a .separators) (a .message .now) (a .at) (a .from) (a .seen) (c .before .text-stop .result) (c .scan .result .end)
+    LineScanned (a .limits) (a .separators) (a .message .now) (a .at) (a .from) (a .seen) (c .before .line-stop .result) (c .scan .result .end)
     (c .scan .result .separators)
 
 scanned : (c : tie.After-scan) → ScannedAt c
 scanned c =
     let at-args = c .before .before .before .args in
-    let at-text-stop = c .before .text-stop in
+    let at-line-stop = c .before .line-stop in
     let at-pre = c .before .before .before .pre in
     let at-shared-slice-known = c .before .before .shared-slice-known in
     let at-scan = c .scan in
     let a = at-args in
-    let part : List ℕ = take (at-text-stop .result - a .from) (drop (a .from) (a .message .now)) in
+    let part : List ℕ = take (at-line-stop .result - a .from) (drop (a .from) (a .message .now)) in
     record {
       one = at-pre .one;
       begun = at-pre .begun;
       bytes = bytes-known (a .message .now) (at-shared-slice-known .given);
-      stopped = at-text-stop .ensures;
+      stopped = at-line-stop .ensures;
       scanned = at-scan .ensures .0 ∙ ap (λ (class : List ℕ). a .from + run class part) (at-pre .classes);
       marked = at-scan .ensures .1 ∙ ap (λ (class : List ℕ). marks class part) (at-pre .classes);
     }
@@ -93,7 +93,7 @@ pub see-line-spec : {M : Type 1} → statement M
 see-line-spec =
     tie.close
     (tie.spec
-    text-stop-requires
+    line-stop-requires
     scan-requires
     ended-line-requires
     enum-known-end

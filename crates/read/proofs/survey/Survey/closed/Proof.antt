@@ -12,14 +12,14 @@ use Rattle.read.proofs.survey.Survey.closed.Tie as tie
 kind-number-requires : tie.Need-kind-number-requires
 kind-number-requires c κs = search needs
 
-note-requires : tie.Need-note-requires
-note-requires c κs = search needs
-
 watching-requires : tie.Need-watching-requires
 watching-requires c κs = search needs
 
 tell-by-requires : tie.Need-tell-by-requires
 tell-by-requires c κs = search needs
+
+note-requires : tie.Need-note-requires
+note-requires c κs = search needs
 
 first-of-requires : tie.Need-first-of-requires
 first-of-requires c κs = search needs
@@ -34,11 +34,11 @@ returns : tie.Need-returns
 returns c =
     let at-args = c .before .before .before .before .before .before .before .before .before .before .before .before .args in
     let at-kind-number = c .before .before .before .before .before .before .before .before .before .before .kind-number in
-    let at-watching = c .before .before .before .before .before .watching in
-    let at-tell-by = c .before .before .before .before .tell-by in
+    let at-watching = c .before .before .before .before .before .before .before .before .before .watching in
+    let at-tell-by = c .before .before .before .before .before .before .before .before .tell-by in
     let at-first-of = c .before .before .first-of in
     let at-first-of2 = c .first-of2 in
-    let at-note = c .before .before .before .before .before .before .before .before .note in
+    let at-note = c .before .before .before .before .before .note in
     let a = at-args in (
       closed-as (a .self) (followsBy (a .followers .now)) (at-kind-number .ensures) (at-watching .ensures) (at-tell-by .ensures) (at-first-of .ensures)
           (at-first-of2 .ensures),
@@ -50,9 +50,9 @@ closed-spec =
     tie.close
     (tie.spec
     kind-number-requires
-    note-requires
     watching-requires
     tell-by-requires
+    note-requires
     first-of-requires
     first-of-requires-2
     same-length
