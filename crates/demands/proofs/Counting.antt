@@ -30,7 +30,7 @@ use Rattle.read.specs.declared.Answer.{Answer}
 use Rattle.read.specs.declared.indexed.Indexed.{Indexed}
 use Rattle.read.specs.Answering.{noCard, answerOf, textPut, segmentsPut, leavesPut}
 use Rattle.read.specs.Sound.{segmentsIn}
-use Rattle.read.specs.Codes.{codesIn, present, firstLong}
+use Rattle.read.specs.Codes.{codesIn, codesCounted, firstLong}
 use Rattle.read.specs.Counting.{Counting, turned, counted, countedOr, countingOf, counting, asOutcome, tallyLeft, frontLeft, Leaves}
 use Rattle.demands.specs.Counts.{segmentCount, resultCount, entriesWith, tallyWith}
 
@@ -44,24 +44,24 @@ table-segments L levels room message t e =
     ∙ sym (ap {B = ℕ} (λ (h : Header). elim h [ Sound ps ↦ length (segmentsIn L ps message) | Broken ↦ 0 ]) (w .header))
 
 -- where no code is too long, all that are counted fit
-long-none-fit : (n : ℕ) (cs : List (List ℕ)) → firstFrom (λ (c : List ℕ). ltb codeMost (length c)) (suc n) cs ≡ 0 → All Fit (present cs)
-unfolding present
+long-none-fit : (n : ℕ) (cs : List (List ℕ)) → firstFrom (λ (c : List ℕ). ltb codeMost (length c)) (suc n) cs ≡ 0 → All Fit (codesCounted cs)
+unfolding codesCounted
 long-none-fit n [] h = none
 long-none-fit n (c ∷ cs) h = go (tested (ltb codeMost (length c))) (tested (eqb (length c) 0)) (long-none-fit (suc n) cs)
   where
     long : List ℕ → Bool
     long d = ltb codeMost (length d)
 
-    go : Tested (ltb codeMost (length c)) → Tested (eqb (length c) 0) → (firstFrom long (suc (suc n)) cs ≡ 0 → All Fit (present cs))
-        → All Fit (present (c ∷ cs))
+    go : Tested (ltb codeMost (length c)) → Tested (eqb (length c) 0) → (firstFrom long (suc (suc n)) cs ≡ 0 → All Fit (codesCounted cs))
+        → All Fit (codesCounted (c ∷ cs))
     go (passed l) e ih = absurd (omega (arith, h, first-hit long (suc n) c cs l))
-    go (failed l) (passed e) ih = rw (e, present) (ih (sym (first-miss long (suc n) c cs l) ∙ h))
+    go (failed l) (passed e) ih = rw (e, codesCounted) (ih (sym (first-miss long (suc n) c cs l) ∙ h))
     go (failed l) (failed e) ih =
-        rw (e, present)
+        rw (e, codesCounted)
         (also (record { some = at-least-one (length c) (eqb-false (length c) 0 e); short = ltb-false codeMost (length c) l })
         (ih (sym (first-miss long (suc n) c cs l) ∙ h)))
 
-pub none-long-fit : (cs : List (List ℕ)) → firstLong cs ≡ 0 → All Fit (present cs)
+pub none-long-fit : (cs : List (List ℕ)) → firstLong cs ≡ 0 → All Fit (codesCounted cs)
 unfolding firstLong
 none-long-fit cs h = long-none-fit 0 cs h
 

@@ -26,7 +26,7 @@ use Rattle.table.proofs.Accepting.{any-room}
 use Rattle.index.specs.declared.tally.Tally.{Tally}
 use Rattle.index.specs.Order.{byteOrder, isBefore}
 use Rattle.index.specs.Index.{Entry, namedIn, entriesIn, roomy, countOf}
-use Rattle.index.specs.Adding.{placed, added, addedAll, tooMany, tooLarge}
+use Rattle.index.specs.Adding.{placeOfCode, codeAdded, addedAll, tooMany, tooLarge}
 use Rattle.index.specs.Tallying.{withMessage, tallyTooLarge}
 use Rattle.index.proofs.Entries.{entries-empty}
 use Rattle.read.specs.declared.indexed.Indexed.{Indexed}
@@ -74,10 +74,10 @@ zeros = record { messages = 0; segments = 0; results = 0 }
 
 -- two entries, in byte order
 abbrev pub twoEntries : List Entry
-twoEntries = record { place = placed (bytes "GLY"); count = 2 } ∷ record { place = placed (bytes "URE"); count = 1 } ∷ []
+twoEntries = record { place = placeOfCode (bytes "GLY"); count = 2 } ∷ record { place = placeOfCode (bytes "URE"); count = 1 } ∷ []
 
 four-added : addedAll (bytes "GLY" ∷ bytes "URE" ∷ bytes "GLY" ∷ []) [] ≡ twoEntries
-unfolding bytes addedAll added placed byteOrder isBefore same
+unfolding bytes addedAll codeAdded placeOfCode byteOrder isBefore same
 four-added = refl
 
 -- from an index that names no codes

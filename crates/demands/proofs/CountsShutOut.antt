@@ -24,13 +24,13 @@ use Rattle.table.specs.Leaves.{onto, split, kindOfSegment}
 use Rattle.index.specs.declared.tally.Tally.{Tally}
 use Rattle.index.specs.Refusals.{fullIndex, fullCount, noIndex}
 use Rattle.index.specs.Index.{Entry, codesMost, entriesIn, rises, soundIndex, names, countOf}
-use Rattle.index.specs.Adding.{added, addedAll}
+use Rattle.index.specs.Adding.{codeAdded, addedAll}
 use Rattle.index.proofs.Sizes.{Fit, roomy-parts}
 use Rattle.index.proofs.Entries.{length-entries}
 use Rattle.index.proofs.Added.{added-rises, names-added, length-added}
 use Rattle.index.proofs.Halved.{sound-roomy, sound-rises}
 use Rattle.read.specs.declared.indexed.Indexed.{Indexed}
-use Rattle.read.specs.Codes.{leafCode, codeCarried, codesIn, present}
+use Rattle.read.specs.Codes.{leafCode, codeCarried, codesIn, codesCounted}
 use Rattle.read.specs.Counting.{IndexedAs}
 use Rattle.demands.specs.Counts.{segmentCount, resultsWith, entriesWith, AddedMessage, HoldsHistory}
 use Rattle.demands.proofs.Counting.{none-long-fit}
@@ -49,15 +49,15 @@ unfoldable pub twoRepetitions : List ℕ
 twoRepetitions = bytes "H|~^\\&|||LAB||ORU\rP|1\rOBR|1\rOBX|1|NM|GLY^URE||1.2\rL|1\r"
 
 -- what they carry, in both forms
-pub four-results : (f : Form) → present (codesIn (limitsOf f) fourResults) ≡ bytes "GLY" ∷ bytes "URE" ∷ bytes "GLY" ∷ []
+pub four-results : (f : Form) → codesCounted (codesIn (limitsOf f) fourResults) ≡ bytes "GLY" ∷ bytes "URE" ∷ bytes "GLY" ∷ []
 unfolding fourResults same among firstFrom bytes within allowed allAllowed different separatorsOf five soundHeader headerOf kindNames
-    numberAmong kindOf inside walkFrom walk texts addendum carried joined onto split kindOfSegment limitsOf leafCode codeCarried codesIn present
+    numberAmong kindOf inside walkFrom walk texts addendum carried joined onto split kindOfSegment limitsOf leafCode codeCarried codesIn codesCounted
 four-results Small = refl
 four-results Large = refl
 
 pub cut-code : (f : Form) → codesIn (limitsOf f) cutCode ≡ codesIn (limitsOf f) fourResults
 unfolding fourResults cutCode same among firstFrom bytes within allowed allAllowed different separatorsOf five soundHeader headerOf kindNames
-    numberAmong kindOf inside walkFrom walk texts addendum carried joined onto split kindOfSegment limitsOf leafCode codeCarried codesIn present
+    numberAmong kindOf inside walkFrom walk texts addendum carried joined onto split kindOfSegment limitsOf leafCode codeCarried codesIn codesCounted
 cut-code Small = refl
 cut-code Large = refl
 
@@ -67,9 +67,9 @@ unfolding cutCode same among firstFrom bytes within allowed allAllowed different
 cut-segments Small = refl
 cut-segments Large = refl
 
-two-repetitions : (f : Form) → present (codesIn (limitsOf f) twoRepetitions) ≡ bytes "GLY" ∷ []
+two-repetitions : (f : Form) → codesCounted (codesIn (limitsOf f) twoRepetitions) ≡ bytes "GLY" ∷ []
 unfolding twoRepetitions same among firstFrom bytes within allowed allAllowed different separatorsOf five soundHeader headerOf kindNames
-    numberAmong kindOf inside walkFrom walk texts addendum carried joined onto split kindOfSegment limitsOf leafCode codeCarried codesIn present
+    numberAmong kindOf inside walkFrom walk texts addendum carried joined onto split kindOfSegment limitsOf leafCode codeCarried codesIn codesCounted
 two-repetitions Small = refl
 two-repetitions Large = refl
 
@@ -108,7 +108,7 @@ pub counts-parts : (f : Form) (levels : ℕ → ℕ → ℕ) {tally : Tally} {te
     → (countOf (entriesIn codes′ counts′) (bytes "GLY") ≡ countOf (entriesIn codes counts) (bytes "GLY") + 2 → ⊥) → ⊥
 unfolding count same bytes
 counts-parts f levels w taken other =
-    let two : resultsWith (limitsOf f) cutCode (bytes "GLY") ≡ 2 = rows-of (bytes "GLY") (ap present (cut-code f) ∙ four-results f) in
+    let two : resultsWith (limitsOf f) cutCode (bytes "GLY") ≡ 2 = rows-of (bytes "GLY") (ap codesCounted (cut-code f) ∙ four-results f) in
     other (omega (arith, adds (limitsOf f) levels cutCode w taken .counted (bytes "GLY"), two))
 
 -- one that counts a result without a code
@@ -132,22 +132,22 @@ all-named : (cs : List (List ℕ)) (es : List Entry) → All Fit cs → rises es
 unfolding addedAll
 all-named [] es none w none = refl
 all-named (c ∷ cs) es (also fit fits) w (also h hs) =
-    all-named cs (added c es) fits (added-rises c es fit w) (still hs)
+    all-named cs (codeAdded c es) fits (added-rises c es fit w) (still hs)
     ∙ length-added c es w
     ∙ ap {B = ℕ} (λ (b : Bool). elim b [ true ↦ length es | false ↦ suc (length es) ]) h
   where
-    still : {ds : List (List ℕ)} → All (λ (d : List ℕ). names es d ≡ true) ds → All (λ (d : List ℕ). names (added c es) d ≡ true) ds
+    still : {ds : List (List ℕ)} → All (λ (d : List ℕ). names es d ≡ true) ds → All (λ (d : List ℕ). names (codeAdded c es) d ≡ true) ds
     still none = none
     still (also {a = d} k ks) = also (names-added c es d ∙ or-second (same c d) k) (still ks)
 
 pub full-though-named : (L : Limits) (levels : ℕ → ℕ → ℕ) (message : List ℕ) {tally : Tally}
     {text segments leaves codes counts text′ segments′ leaves′ codes′ counts′ : List ℕ} {r : Indexed}
     → IndexedAs L levels tally message text segments leaves codes counts r text′ segments′ leaves′ codes′ counts′
-    → All (λ (c : List ℕ). names (entriesIn codes counts) c ≡ true) (present (codesIn L message)) → r .answer .number ≡ fullIndex → ⊥
+    → All (λ (c : List ℕ). names (entriesIn codes counts) c ≡ true) (codesCounted (codesIn L message)) → r .answer .number ≡ fullIndex → ⊥
 full-though-named L levels message {codes = codes} {counts = counts} w named e =
     let so = full-index L levels message w .0 e in
     let sound = so .0 .sound in
-    let long = all-named (present (codesIn L message)) (entriesIn codes counts) (none-long-fit (codesIn L message) (so .1)) (sound-rises codes counts sound) named in
+    let long = all-named (codesCounted (codesIn L message)) (entriesIn codes counts) (none-long-fit (codesIn L message) (so .1)) (sound-rises codes counts sound) named in
     never-both (so .2)
     (le-ltb codesMost (length (entriesWith L message codes counts))
     (omega (arith, long, length-entries codes counts, roomy-parts codes counts (sound-roomy codes counts sound) .fewNamed)))

@@ -13,13 +13,13 @@ use Rattle.laws.specs.Every.{All}
 use Rattle.laws.proofs.Lists.{same-self, same-equal}
 use Rattle.laws.proofs.Tests.{Tested, passed, failed, tested, never-both, or-first, or-second, or-cases}
 use Rattle.form.specs.declared.limits.Limits.{Limits}
-use Rattle.index.specs.Index.{Entry, countsPast, codeOf, entriesIn, risesAfter, rises, soundIndex, names, countOf}
+use Rattle.index.specs.Index.{Entry, countsPast, entryCode, entriesIn, risesAfter, rises, soundIndex, names, countOf}
 use Rattle.index.specs.Adding.{tooLarge}
 use Rattle.index.proofs.Sizes.{Fit}
 use Rattle.index.proofs.Steps.{count-hit, count-miss, rises-rising, rises-unnamed, unnamed-uncounted}
 use Rattle.index.proofs.AddedAll.{all-rises, count-all, names-all}
 use Rattle.index.proofs.Halved.{sound-rises}
-use Rattle.read.specs.Codes.{codesIn, present, firstLong}
+use Rattle.read.specs.Codes.{codesIn, codesCounted, firstLong}
 use Rattle.demands.specs.Counts.{resultsWith, entriesWith, GivesEntries}
 use Rattle.demands.proofs.Counting.{none-long-fit}
 
@@ -27,25 +27,25 @@ use Rattle.demands.proofs.Counting.{none-long-fit}
 large-some : (last : List ℕ) (es : List Entry) → risesAfter last es ≡ true → tooLarge es ≡ true → (c : List ℕ) × (countsPast ≤ countOf es c)
 unfolding tooLarge
 large-some last [] w h = absurd (never-both h refl)
-large-some last (e ∷ es) w h = by (or-cases (leb countsPast (e .count)) (tooLarge es) h) (large-some (codeOf e) es (rises-rising last e es w .rest))
+large-some last (e ∷ es) w h = by (or-cases (leb countsPast (e .count)) (tooLarge es) h) (large-some (entryCode e) es (rises-rising last e es w .rest))
   where
-    later : (c : List ℕ) → countsPast ≤ countOf es c → Tested (same c (codeOf e)) → countsPast ≤ countOf (e ∷ es) c
+    later : (c : List ℕ) → countsPast ≤ countOf es c → Tested (same c (entryCode e)) → countsPast ≤ countOf (e ∷ es) c
     later c k (passed s) =
-        let gone : countOf es c ≡ 0 = ap (countOf es) (same-equal c (codeOf e) s) ∙ unnamed-uncounted es (codeOf e) (rises-unnamed (codeOf e) es (rises-rising last e es w .rest)) in
+        let gone : countOf es c ≡ 0 = ap (countOf es) (same-equal c (entryCode e) s) ∙ unnamed-uncounted es (entryCode e) (rises-unnamed (entryCode e) es (rises-rising last e es w .rest)) in
         absurd (omega (arith, k, gone))
     later c k (failed s) = omega (arith, k, count-miss e es c s)
 
     by : (leb countsPast (e .count) ≡ true) ⊎ (tooLarge es ≡ true) → (tooLarge es ≡ true → (c : List ℕ) × (countsPast ≤ countOf es c))
         → (c : List ℕ) × (countsPast ≤ countOf (e ∷ es) c)
-    by (inl k) ih = (codeOf e, omega (arith, leb-true countsPast (e .count) k, count-hit e es (codeOf e) (same-self (codeOf e))))
-    by (inr k) ih = let found = ih k in (found .0, later (found .0) (found .1) (tested (same (found .0) (codeOf e))))
+    by (inl k) ih = (entryCode e, omega (arith, leb-true countsPast (e .count) k, count-hit e es (entryCode e) (same-self (entryCode e))))
+    by (inr k) ih = let found = ih k in (found .0, later (found .0) (found .1) (tested (same (found .0) (entryCode e))))
 
 some-large : (es : List Entry) (c : List ℕ) → countsPast ≤ countOf es c → tooLarge es ≡ true
 unfolding tooLarge countOf
 some-large [] c h = absurd (omega (arith, h))
-some-large (e ∷ es) c h = by (tested (same c (codeOf e))) (some-large es c)
+some-large (e ∷ es) c h = by (tested (same c (entryCode e))) (some-large es c)
   where
-    by : Tested (same c (codeOf e)) → (countsPast ≤ countOf es c → tooLarge es ≡ true) → tooLarge (e ∷ es) ≡ true
+    by : Tested (same c (entryCode e)) → (countsPast ≤ countOf es c → tooLarge es ≡ true) → tooLarge (e ∷ es) ≡ true
     by (passed s) ih = or-first (tooLarge es) (le-leb countsPast (e .count) (omega (arith, h, count-hit e es c s)))
     by (failed s) ih = or-second (leb countsPast (e .count)) (ih (omega (arith, h, count-miss e es c s)))
 
@@ -56,18 +56,18 @@ module _ (L : Limits) (message codes counts : List ℕ) (sound : soundIndex code
   abbrev es : List Entry
   es = entriesIn codes counts
 
-  fits : All Fit (present (codesIn L message))
+  fits : All Fit (codesCounted (codesIn L message))
   fits = none-long-fit (codesIn L message) none-long
 
   rise : rises E ≡ true
-  rise = all-rises (present (codesIn L message)) es fits (sound-rises codes counts sound)
+  rise = all-rises (codesCounted (codesIn L message)) es fits (sound-rises codes counts sound)
 
   count-given : (c : List ℕ) → countOf E c ≡ countOf es c + resultsWith L message c
-  count-given c = count-all (present (codesIn L message)) es fits (sound-rises codes counts sound) c
+  count-given c = count-all (codesCounted (codesIn L message)) es fits (sound-rises codes counts sound) c
 
   module _ (c : List ℕ) where
     names-given : names E c ≡ (names es c || ltb 0 (resultsWith L message c))
-    names-given = names-all (present (codesIn L message)) es c
+    names-given = names-all (codesCounted (codesIn L message)) es c
 
     named-before : names E c ≡ true → (names es c ≡ true) ⊎ (1 ≤ resultsWith L message c)
     named-before h = by (or-cases (names es c) (ltb 0 (resultsWith L message c)) (sym names-given ∙ h))

@@ -18,7 +18,7 @@ use Rattle.index.proofs.Sizes.{Sized, Roomy, roomy-parts}
 use Rattle.index.proofs.Entries.{entries-sized, length-codesPut, length-countsPut, entries-put, roomy-put, named-put}
 use Rattle.index.proofs.AddedAll.{all-sized}
 use Rattle.index.proofs.Halved.{sound-roomy}
-use Rattle.read.specs.Codes.{codesIn, present, firstLong}
+use Rattle.read.specs.Codes.{codesIn, codesCounted, firstLong}
 use Rattle.demands.specs.Counts.{entriesWith, tallyWith, GivesEntries, AddsMessage}
 use Rattle.demands.proofs.Counting.{none-long-fit}
 use Rattle.demands.proofs.GivenEntries.{entries-given}
@@ -37,7 +37,7 @@ module _ (L : Limits) (message codes counts : List ℕ) {codes′ counts′ : Li
   given = entries-given L message codes counts sound none-long
 
   whole : Sized E
-  whole = all-sized (present (codesIn L message)) (entriesIn codes counts) (none-long-fit (codesIn L message) none-long) (entries-sized codes counts (sound-roomy codes counts sound))
+  whole = all-sized (codesCounted (codesIn L message)) (entriesIn codes counts) (none-long-fit (codesIn L message) none-long) (entries-sized codes counts (sound-roomy codes counts sound))
 
   few-there : length E ≤ codesMost
   few-there = ltb-false codesMost (length E) few

@@ -23,14 +23,14 @@ use Rattle.table.specs.Rows.{Table, kindIn}
 use Rattle.table.specs.Reading.{roomOf, accepted, reading}
 use Rattle.index.specs.declared.tally.Tally.{Tally}
 use Rattle.index.specs.Refusals.{longCode, fullIndex, fullCount, noIndex}
-use Rattle.index.specs.Order.{before}
-use Rattle.index.specs.Index.{Entry, codesMost, codeMost, placeSize, countsPast, lengthOf, codeOf, namedIn, entryAt, entriesIn, roomy, rises, soundIndex, names, countOf}
+use Rattle.index.specs.Order.{comesBefore}
+use Rattle.index.specs.Index.{Entry, codesMost, codeMost, placeSize, countsPast, lengthOf, entryCode, namedIn, entryAt, entriesIn, roomy, rises, soundIndex, names, countOf}
 use Rattle.index.specs.Adding.{addedAll, tooMany, tooLarge}
 use Rattle.index.specs.Tallying.{withMessage, tallyTooLarge}
 use Rattle.read.specs.declared.indexed.Indexed.{Indexed}
 use Rattle.read.specs.Answering.{ReadAs, noCard}
 use Rattle.read.specs.Sound.{segmentsIn, SoundLines}
-use Rattle.read.specs.Codes.{countedKind, leafCode, codesIn, present, firstLong}
+use Rattle.read.specs.Codes.{countedKind, leafCode, codesIn, codesCounted, firstLong}
 use Rattle.read.specs.Counting.{IndexedAs}
 use Rattle.look.specs.declared.leaf.Sought.{Sought}
 use Rattle.look.specs.declared.leaf.Sought.the-variants.{At, Empty, NotThere}
@@ -42,14 +42,14 @@ unfoldable pub segmentCount : Limits → List ℕ → ℕ
 segmentCount L message = elim (headerOf message) [ Sound ps ↦ length (segmentsIn L ps message) | Broken ↦ 0 ]
 
 abbrev pub resultCount : Limits → List ℕ → ℕ
-resultCount L message = length (present (codesIn L message))
+resultCount L message = length (codesCounted (codesIn L message))
 
 abbrev pub resultsWith : Limits → List ℕ → List ℕ → ℕ
-resultsWith L message c = count (λ (d : List ℕ). same d c) (present (codesIn L message))
+resultsWith L message c = count (λ (d : List ℕ). same d c) (codesCounted (codesIn L message))
 
 -- the entries and the tally that a message would give
 abbrev pub entriesWith : Limits → (message codes counts : List ℕ) → List Entry
-entriesWith L message codes counts = addedAll (present (codesIn L message)) (entriesIn codes counts)
+entriesWith L message codes counts = addedAll (codesCounted (codesIn L message)) (entriesIn codes counts)
 
 abbrev pub tallyWith : Limits → List ℕ → Tally → Tally
 tallyWith L message tally = withMessage tally (segmentCount L message) (resultCount L message)
@@ -70,7 +70,7 @@ pub record IsIndex (codes counts : List ℕ) : Type 0 where
   pub countsRoom : suc codesMost ≤ length counts
   pub fewNamed : namedIn counts ≤ codesMost
   pub lengths : (i : ℕ) → i < namedIn counts → (1 ≤ lengthOf (entryAt codes counts i)) × (lengthOf (entryAt codes counts i) ≤ codeMost)
-  pub rising : (i : ℕ) → suc i < namedIn counts → before (codeOf (entryAt codes counts i)) (codeOf (entryAt codes counts (suc i))) ≡ true
+  pub rising : (i : ℕ) → suc i < namedIn counts → comesBefore (entryCode (entryAt codes counts i)) (entryCode (entryAt codes counts (suc i))) ≡ true
 
 -- what the tests 50 to 52 come behind: what is lent is an index, and the plain reader accepts the message
 pub record Eligible (L : Limits) (levels : ℕ → ℕ → ℕ) (message text segments leaves codes counts : List ℕ) : Type 0 where

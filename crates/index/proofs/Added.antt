@@ -15,19 +15,19 @@ use Rattle.laws.proofs.Lists.{same-equal}
 use Rattle.laws.proofs.Tests.{Tested, passed, failed, tested, or-first, or-second, or-fails}
 use Rattle.index.specs.declared.code.Compared.the-variants.{Before}
 use Rattle.index.specs.Order.{byteOrder}
-use Rattle.index.specs.Index.{Entry, codeMost, placeSize, codeOf, risesAfter, rises, names, countOf}
-use Rattle.index.specs.Adding.{placed, newEntry, oneMore, added}
+use Rattle.index.specs.Index.{Entry, codeMost, placeSize, entryCode, risesAfter, rises, names, countOf}
+use Rattle.index.specs.Adding.{placeOfCode, newEntry, oneMore, codeAdded}
 use Rattle.index.proofs.Sizes.{Sized, Fit}
 use Rattle.index.proofs.Orders.{Three, isB, isS, isA, three, order-same, order-alike-same, after-differs, after-before}
 use Rattle.index.proofs.Steps.{same-sym, names-hit, names-miss, count-hit, count-miss, added-here, added-sooner, added-later, Rising, rises-rising, rising-rises, rises-unnamed, unnamed-uncounted}
 
 -- a new entry has the code that it was made of
-pub code-new : (c : List ℕ) → codeOf (newEntry c) ≡ c
-unfolding placed
+pub code-new : (c : List ℕ) → entryCode (newEntry c) ≡ c
+unfolding placeOfCode
 code-new c = take-append-seam c (replicate (codeMost - length c) 0)
 
-pub new-sized : (c : List ℕ) → Fit c → length (placed c) ≡ placeSize
-unfolding placed
+pub new-sized : (c : List ℕ) → Fit c → length (placeOfCode c) ≡ placeSize
+unfolding placeOfCode
 new-sized c fit =
     omega (arith, length-append c (replicate (codeMost - length c) 0), length-replicate {A = ℕ} (codeMost - length c) 0, fit .short)
 
@@ -37,21 +37,21 @@ unfolding byteOrder
 fit-behind [] fit = absurd (omega (arith, fit .some))
 fit-behind (b ∷ c) fit = refl
 
-pub added-sized : (c : List ℕ) (es : List Entry) → Fit c → Sized es → Sized (added c es)
-unfolding added
+pub added-sized : (c : List ℕ) (es : List Entry) → Fit c → Sized es → Sized (codeAdded c es)
+unfolding codeAdded
 added-sized c [] fit w = also (new-sized c fit) none
-added-sized c (e ∷ es) fit w = go (three (byteOrder c (codeOf e))) (added-sized c es fit (all-rest w))
+added-sized c (e ∷ es) fit w = go (three (byteOrder c (entryCode e))) (added-sized c es fit (all-rest w))
   where
-    go : Three (byteOrder c (codeOf e)) → Sized (added c es) → Sized (added c (e ∷ es))
+    go : Three (byteOrder c (entryCode e)) → Sized (codeAdded c es) → Sized (codeAdded c (e ∷ es))
     go (isB h) ih = subst⁻¹ Sized (added-sooner c e es h) (also (new-sized c fit) w)
-    go (isS h) ih = subst⁻¹ Sized (added-here c e es (order-alike-same c (codeOf e) h)) (also (all-first w) (all-rest w))
+    go (isS h) ih = subst⁻¹ Sized (added-here c e es (order-alike-same c (entryCode e) h)) (also (all-first w) (all-rest w))
     go (isA h) ih = subst⁻¹ Sized (added-later c e es h) (also (all-first w) ih)
 
 -- the codes still rise
 
 -- a new entry before what rises after its code
 new-rises : (last c : List ℕ) (es : List Entry) → Fit c → byteOrder last c ≡ Before → risesAfter c es ≡ true → risesAfter last (newEntry c ∷ es) ≡ true
-unfolding placed
+unfolding placeOfCode
 new-rises last c es fit h w =
     rising-rises last (newEntry c) es (record {
       some = fit .some;
@@ -60,46 +60,46 @@ new-rises last c es fit h w =
       rest = ap (λ (d : List ℕ). risesAfter d es) (code-new c) ∙ w;
     })
 
-added-after : (last c : List ℕ) (es : List Entry) → Fit c → byteOrder last c ≡ Before → risesAfter last es ≡ true → risesAfter last (added c es) ≡ true
-unfolding added risesAfter
+added-after : (last c : List ℕ) (es : List Entry) → Fit c → byteOrder last c ≡ Before → risesAfter last es ≡ true → risesAfter last (codeAdded c es) ≡ true
+unfolding codeAdded risesAfter
 added-after last c [] fit h w = new-rises last c [] fit h refl
 added-after last c (e ∷ es) fit h w =
-    go (three (byteOrder c (codeOf e))) (rises-rising last e es w) (added-after (codeOf e) c es fit)
+    go (three (byteOrder c (entryCode e))) (rises-rising last e es w) (added-after (entryCode e) c es fit)
   where
-    go : Three (byteOrder c (codeOf e)) → Rising last e es
-        → (byteOrder (codeOf e) c ≡ Before → risesAfter (codeOf e) es ≡ true → risesAfter (codeOf e) (added c es) ≡ true)
-        → risesAfter last (added c (e ∷ es)) ≡ true
+    go : Three (byteOrder c (entryCode e)) → Rising last e es
+        → (byteOrder (entryCode e) c ≡ Before → risesAfter (entryCode e) es ≡ true → risesAfter (entryCode e) (codeAdded c es) ≡ true)
+        → risesAfter last (codeAdded c (e ∷ es)) ≡ true
     go (isB k) r ih =
         ap (risesAfter last) (added-sooner c e es k)
         ∙ new-rises last c (e ∷ es) fit h
         (rising-rises c e es (record { some = r .some; short = r .short; behind = k; rest = r .rest }))
-    go (isS k) r ih = ap (risesAfter last) (added-here c e es (order-alike-same c (codeOf e) k)) ∙ w
+    go (isS k) r ih = ap (risesAfter last) (added-here c e es (order-alike-same c (entryCode e) k)) ∙ w
     go (isA k) r ih =
         ap (risesAfter last) (added-later c e es k)
-        ∙ rising-rises last e (added c es)
-        (record { some = r .some; short = r .short; behind = r .behind; rest = ih (after-before c (codeOf e) k) (r .rest) })
+        ∙ rising-rises last e (codeAdded c es)
+        (record { some = r .some; short = r .short; behind = r .behind; rest = ih (after-before c (entryCode e) k) (r .rest) })
 
-pub added-rises : (c : List ℕ) (es : List Entry) → Fit c → rises es ≡ true → rises (added c es) ≡ true
+pub added-rises : (c : List ℕ) (es : List Entry) → Fit c → rises es ≡ true → rises (codeAdded c es) ≡ true
 added-rises c es fit w = added-after [] c es fit (fit-behind c fit) w
 
 -- what is named: the code that was added, and what was named before
-pub names-added : (c : List ℕ) (es : List Entry) (d : List ℕ) → names (added c es) d ≡ (same c d || names es d)
-unfolding added names
+pub names-added : (c : List ℕ) (es : List Entry) (d : List ℕ) → names (codeAdded c es) d ≡ (same c d || names es d)
+unfolding codeAdded names
 names-added c [] d = go (tested (same c d))
   where
-    code : same d (codeOf (newEntry c)) ≡ same c d
+    code : same d (entryCode (newEntry c)) ≡ same c d
     code = ap (same d) (code-new c) ∙ same-sym d c
 
     go : Tested (same c d) → names (newEntry c ∷ []) d ≡ (same c d || false)
     go (passed h) = names-hit (newEntry c) [] d (code ∙ h) ∙ sym (or-first false h)
     go (failed h) = names-miss (newEntry c) [] d (code ∙ h) ∙ sym (or-fails h refl)
-names-added c (e ∷ es) d = go (three (byteOrder c (codeOf e))) (tested (same c d)) (tested (same d (codeOf e))) (names-added c es d)
+names-added c (e ∷ es) d = go (three (byteOrder c (entryCode e))) (tested (same c d)) (tested (same d (entryCode e))) (names-added c es d)
   where
-    code : same d (codeOf (newEntry c)) ≡ same c d
+    code : same d (entryCode (newEntry c)) ≡ same c d
     code = ap (same d) (code-new c) ∙ same-sym d c
 
-    go : Three (byteOrder c (codeOf e)) → Tested (same c d) → Tested (same d (codeOf e)) → names (added c es) d ≡ (same c d || names es d)
-        → names (added c (e ∷ es)) d ≡ (same c d || names (e ∷ es) d)
+    go : Three (byteOrder c (entryCode e)) → Tested (same c d) → Tested (same d (entryCode e)) → names (codeAdded c es) d ≡ (same c d || names es d)
+        → names (codeAdded c (e ∷ es)) d ≡ (same c d || names (e ∷ es) d)
     go (isB h) (passed k) f ih =
         ap (λ (l : List Entry). names l d) (added-sooner c e es h)
         ∙ names-hit (newEntry c) (e ∷ es) d (code ∙ k)
@@ -109,20 +109,20 @@ names-added c (e ∷ es) d = go (three (byteOrder c (codeOf e))) (tested (same c
         ∙ names-miss (newEntry c) (e ∷ es) d (code ∙ k)
         ∙ sym (ap (λ (b : Bool). b || names (e ∷ es) d) k)
     go (isS h) (passed k) f ih =
-        ap (λ (l : List Entry). names l d) (added-here c e es (order-alike-same c (codeOf e) h))
+        ap (λ (l : List Entry). names l d) (added-here c e es (order-alike-same c (entryCode e) h))
         ∙ names-hit (oneMore e) es d
-        (ap (same d) (sym (order-same c (codeOf e) h)) ∙ same-sym d c ∙ k)
+        (ap (same d) (sym (order-same c (entryCode e) h)) ∙ same-sym d c ∙ k)
         ∙ sym (or-first (names (e ∷ es) d) k)
     go (isS h) (failed k) f ih =
-        ap (λ (l : List Entry). names l d) (added-here c e es (order-alike-same c (codeOf e) h))
+        ap (λ (l : List Entry). names l d) (added-here c e es (order-alike-same c (entryCode e) h))
         ∙ sym (ap (λ (b : Bool). b || names (e ∷ es) d) k)
     go (isA h) t (passed f) ih =
         ap (λ (l : List Entry). names l d) (added-later c e es h)
-        ∙ names-hit e (added c es) d f
+        ∙ names-hit e (codeAdded c es) d f
         ∙ sym (or-second (same c d) (names-hit e es d f))
     go (isA h) t (failed f) ih =
         ap (λ (l : List Entry). names l d) (added-later c e es h)
-        ∙ names-miss e (added c es) d f
+        ∙ names-miss e (codeAdded c es) d f
         ∙ ih
         ∙ ap (λ (b : Bool). same c d || b) (sym (names-miss e es d f))
 
@@ -142,7 +142,7 @@ once-miss c d h = ap (λ (b : Bool). elim b [ true ↦ 1 | false ↦ 0 ]) h
 count-new : (c : List ℕ) (es : List Entry) (d : List ℕ) → names es c ≡ false → countOf (newEntry c ∷ es) d ≡ countOf es d + once c d
 count-new c es d n = go (tested (same c d))
   where
-    code : same d (codeOf (newEntry c)) ≡ same c d
+    code : same d (entryCode (newEntry c)) ≡ same c d
     code = ap (same d) (code-new c) ∙ same-sym d c
 
     go : Tested (same c d) → countOf (newEntry c ∷ es) d ≡ countOf es d + once c d
@@ -151,68 +151,68 @@ count-new c es d n = go (tested (same c d))
         omega (arith, count-hit (newEntry c) es d (code ∙ h), once-hit c d h)
     go (failed h) = omega (arith, count-miss (newEntry c) es d (code ∙ h), once-miss c d h)
 
-count-after : (last c : List ℕ) (es : List Entry) → risesAfter last es ≡ true → (d : List ℕ) → countOf (added c es) d ≡ countOf es d + once c d
-unfolding added names
+count-after : (last c : List ℕ) (es : List Entry) → risesAfter last es ≡ true → (d : List ℕ) → countOf (codeAdded c es) d ≡ countOf es d + once c d
+unfolding codeAdded names
 count-after last c [] w d = count-new c [] d refl
 count-after last c (e ∷ es) w d =
-    go (three (byteOrder c (codeOf e))) (tested (same d (codeOf e))) (rises-rising last e es w) (λ v. count-after (codeOf e) c es v d)
+    go (three (byteOrder c (entryCode e))) (tested (same d (entryCode e))) (rises-rising last e es w) (λ v. count-after (entryCode e) c es v d)
   where
-    go : Three (byteOrder c (codeOf e)) → Tested (same d (codeOf e)) → Rising last e es
-        → (risesAfter (codeOf e) es ≡ true → countOf (added c es) d ≡ countOf es d + once c d)
-        → countOf (added c (e ∷ es)) d ≡ countOf (e ∷ es) d + once c d
+    go : Three (byteOrder c (entryCode e)) → Tested (same d (entryCode e)) → Rising last e es
+        → (risesAfter (entryCode e) es ≡ true → countOf (codeAdded c es) d ≡ countOf es d + once c d)
+        → countOf (codeAdded c (e ∷ es)) d ≡ countOf (e ∷ es) d + once c d
     go (isB h) t r ih =
         ap (λ (l : List Entry). countOf l d) (added-sooner c e es h)
         ∙ count-new c (e ∷ es) d
         (rises-unnamed c (e ∷ es) (rising-rises c e es (record { some = r .some; short = r .short; behind = h; rest = r .rest })))
     go (isS h) (passed f) r ih =
-        let same-code : same c d ≡ true = ap (same c) (same-equal d (codeOf e) f) ∙ order-alike-same c (codeOf e) h in
-        ap (λ (l : List Entry). countOf l d) (added-here c e es (order-alike-same c (codeOf e) h))
+        let same-code : same c d ≡ true = ap (same c) (same-equal d (entryCode e) f) ∙ order-alike-same c (entryCode e) h in
+        ap (λ (l : List Entry). countOf l d) (added-here c e es (order-alike-same c (entryCode e) h))
         ∙ omega (arith, count-hit (oneMore e) es d f, count-hit e es d f, once-hit c d same-code)
     go (isS h) (failed f) r ih =
-        let other-code : same c d ≡ false = same-sym c d ∙ ap (same d) (order-same c (codeOf e) h) ∙ f in
-        ap (λ (l : List Entry). countOf l d) (added-here c e es (order-alike-same c (codeOf e) h))
+        let other-code : same c d ≡ false = same-sym c d ∙ ap (same d) (order-same c (entryCode e) h) ∙ f in
+        ap (λ (l : List Entry). countOf l d) (added-here c e es (order-alike-same c (entryCode e) h))
         ∙ omega (arith, count-miss (oneMore e) es d f, count-miss e es d f, once-miss c d other-code)
     go (isA h) (passed f) r ih =
-        let other-code : same c d ≡ false = ap (same c) (same-equal d (codeOf e) f) ∙ after-differs c (codeOf e) h in
+        let other-code : same c d ≡ false = ap (same c) (same-equal d (entryCode e) f) ∙ after-differs c (entryCode e) h in
         ap (λ (l : List Entry). countOf l d) (added-later c e es h)
-        ∙ omega (arith, count-hit e (added c es) d f, count-hit e es d f, once-miss c d other-code)
+        ∙ omega (arith, count-hit e (codeAdded c es) d f, count-hit e es d f, once-miss c d other-code)
     go (isA h) (failed f) r ih =
         ap (λ (l : List Entry). countOf l d) (added-later c e es h)
-        ∙ omega (arith, count-miss e (added c es) d f, count-miss e es d f, ih (r .rest))
+        ∙ omega (arith, count-miss e (codeAdded c es) d f, count-miss e es d f, ih (r .rest))
 
 pub count-added : (c : List ℕ) (es : List Entry) → rises es ≡ true → (d : List ℕ)
-    → countOf (added c es) d ≡ countOf es d + elim (same c d) [ true ↦ 1 | false ↦ 0 ]
+    → countOf (codeAdded c es) d ≡ countOf es d + elim (same c d) [ true ↦ 1 | false ↦ 0 ]
 count-added c es w d = count-after [] c es w d
 
 -- how many are named: one more where the code was not
 length-after : (last c : List ℕ) (es : List Entry) → risesAfter last es ≡ true
-    → length (added c es) ≡ elim (names es c) [ true ↦ length es | false ↦ suc (length es) ]
-unfolding added names
+    → length (codeAdded c es) ≡ elim (names es c) [ true ↦ length es | false ↦ suc (length es) ]
+unfolding codeAdded names
 length-after last c [] w = refl
-length-after last c (e ∷ es) w = go (three (byteOrder c (codeOf e))) (rises-rising last e es w) (length-after (codeOf e) c es)
+length-after last c (e ∷ es) w = go (three (byteOrder c (entryCode e))) (rises-rising last e es w) (length-after (entryCode e) c es)
   where
-    go : Three (byteOrder c (codeOf e)) → Rising last e es
-        → (risesAfter (codeOf e) es ≡ true → length (added c es) ≡ elim (names es c) [ true ↦ length es | false ↦ suc (length es) ])
-        → length (added c (e ∷ es)) ≡ elim (names (e ∷ es) c) [ true ↦ suc (length es) | false ↦ suc (suc (length es)) ]
+    go : Three (byteOrder c (entryCode e)) → Rising last e es
+        → (risesAfter (entryCode e) es ≡ true → length (codeAdded c es) ≡ elim (names es c) [ true ↦ length es | false ↦ suc (length es) ])
+        → length (codeAdded c (e ∷ es)) ≡ elim (names (e ∷ es) c) [ true ↦ suc (length es) | false ↦ suc (suc (length es)) ]
     go (isB h) r ih =
         ap length (added-sooner c e es h)
         ∙ sym (ap (λ (b : Bool). elim b [ true ↦ suc (length es) | false ↦ suc (suc (length es)) ])
         (rises-unnamed c (e ∷ es) (rising-rises c e es (record { some = r .some; short = r .short; behind = h; rest = r .rest }))))
     go (isS h) r ih =
-        ap length (added-here c e es (order-alike-same c (codeOf e) h))
+        ap length (added-here c e es (order-alike-same c (entryCode e) h))
         ∙ sym (ap (λ (b : Bool). elim b [ true ↦ suc (length es) | false ↦ suc (suc (length es)) ])
-        (names-hit e es c (order-alike-same c (codeOf e) h)))
+        (names-hit e es c (order-alike-same c (entryCode e) h)))
     go (isA h) r ih =
         ap length (added-later c e es h)
         ∙ ap suc (ih (r .rest))
         ∙ by (names es c)
         ∙ sym (ap (λ (b : Bool). elim b [ true ↦ suc (length es) | false ↦ suc (suc (length es)) ])
-        (names-miss e es c (after-differs c (codeOf e) h)))
+        (names-miss e es c (after-differs c (entryCode e) h)))
       where
         by : (b : Bool) → suc (elim b [ true ↦ length es | false ↦ suc (length es) ]) ≡ elim b [ true ↦ suc (length es) | false ↦ suc (suc (length es)) ]
         by true = refl
         by false = refl
 
 pub length-added : (c : List ℕ) (es : List Entry) → rises es ≡ true
-    → length (added c es) ≡ elim (names es c) [ true ↦ length es | false ↦ suc (length es) ]
+    → length (codeAdded c es) ≡ elim (names es c) [ true ↦ length es | false ↦ suc (length es) ]
 length-added c es w = length-after [] c es w

@@ -13,7 +13,7 @@ use Rattle.index.specs.declared.finding.Found.{Found}
 use Rattle.index.specs.Refusals.{longCode, fullIndex, fullCount, noIndex}
 use Rattle.index.specs.Index.{Entry, codesMost, codeMost, countsPast, namedIn, entriesIn, roomy, codesPut, countsPut}
 use Rattle.index.specs.Adding.{nothing, oneMore, declines, leaves, gives, additionAt, addition, additionNumber, frontAfter, AddsAs}
-use Rattle.index.specs.inner.Halving.{soughtBy}
+use Rattle.index.specs.inner.Halving.{soughtAmong}
 use Rattle.index.specs.inner.Changing.{CountsOnceMore, Inserts, inserted}
 use Rattle.index.proofs.KeptHalf.{Within, sought-within}
 use Rattle.index.proofs.Putting.{length-entries, entry-there, kept-codes, once-more-counts}
@@ -59,7 +59,7 @@ module _ (c codes counts : List ℕ) where
       unfolding addition
       long-adds h = declined (rw (e, ne-eqb (length c) 0 some, lt-leb (length c) codeMost h, addition))
 
-      module _ (short : length c ≤ codeMost) {f : Found} (found : f ≡ soughtBy codes (namedIn counts) c) where
+      module _ (short : length c ≤ codeMost) {f : Found} (found : f ≡ soughtAmong codes (namedIn counts) c) where
         abbrev es : List Entry
         es = entriesIn codes counts
 

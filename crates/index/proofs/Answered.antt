@@ -16,10 +16,10 @@ use Rattle.index.specs.declared.asking.Codes.the-variants as C
 use Rattle.index.specs.declared.asking.Count.{Count}
 use Rattle.index.specs.declared.asking.Count.the-variants as N
 use Rattle.index.specs.declared.asking.Code.the-variants as K
-use Rattle.index.specs.Index.{Entry, codeMost, placeSize, lengthOf, codeOf, namedIn, entryAt, entriesIn, risesAfter, soundIndex, names, countOf}
+use Rattle.index.specs.Index.{Entry, codeMost, placeSize, lengthOf, entryCode, namedIn, entryAt, entriesIn, risesAfter, soundIndex, names, countOf}
 use Rattle.index.specs.Adding.{nothing}
 use Rattle.index.specs.Finding.{placeFound, codesAsked, countAt, countAsked, codeAsked}
-use Rattle.index.specs.inner.Halving.{soughtBy}
+use Rattle.index.specs.inner.Halving.{soughtAmong}
 use Rattle.index.specs.inner.Rising.{lengthAt}
 use Rattle.index.proofs.Sizes.{roomy-parts}
 use Rattle.index.proofs.Entries.{length-entries, entry-there}
@@ -32,7 +32,7 @@ use Rattle.index.proofs.Asked.{some-codes, too-long, found-sought, coun
 pub rises-some : (last : List ℕ) (es : List Entry) → risesAfter last es ≡ true → (i : ℕ) → i < length es → 1 ≤ lengthOf (getD es i nothing)
 rises-some last [] w i h = absurd (omega arith)
 rises-some last (e ∷ es) w zero h = rises-rising last e es w .some
-rises-some last (e ∷ es) w (suc i) h = rises-some (codeOf e) es (rises-rising last e es w .rest) i (omega arith)
+rises-some last (e ∷ es) w (suc i) h = rises-some (entryCode e) es (rises-rising last e es w .rest) i (omega arith)
 
 -- what a finder is to say of any code, also of one that is too long for a place: whether it is named, and where it stands
 pub record FindsCode (es : List Entry) (c : List ℕ) (f : Found) : Type 0 where
@@ -59,7 +59,7 @@ module _ (codes counts : List ℕ) (sound : soundIndex codes counts ≡ true) wh
       (rises-short [] es (sound-rises codes counts sound) i (omega (arith, length-entries codes counts)))
 
   -- so a code there has as many bytes as its place says
-  length-code : (i : ℕ) → i < namedIn counts → length (codeOf (entryAt codes counts i)) ≡ lengthAt codes i
+  length-code : (i : ℕ) → i < namedIn counts → length (entryCode (entryAt codes counts i)) ≡ lengthAt codes i
   length-code i h =
       let room = roomy-parts codes counts (sound-roomy codes counts sound) in
       let short = place-fits i h in
@@ -75,13 +75,13 @@ module _ (codes counts : List ℕ) (sound : soundIndex codes counts ≡ true) wh
   -- a code that is named has at most 22 bytes
   named-short : (c : List ℕ) → names es c ≡ true → length c ≤ codeMost
   named-short c n =
-      let f = soughtBy codes (namedIn counts) c in
+      let f = soughtAmong codes (namedIn counts) c in
       let s = found-sound codes counts sound c in
       let here = s .here (s .name ∙ n) in
       let inside : f .at < namedIn counts = omega (arith, here .inside, length-entries codes counts) in
       let long : length c ≡ lengthAt codes (f .at) =
       ap (λ (d : List ℕ). length d) (sym (here .code))
-      ∙ ap (λ (e : Entry). length (codeOf e)) (entry-there codes counts (f .at) inside)
+      ∙ ap (λ (e : Entry). length (entryCode e)) (entry-there codes counts (f .at) inside)
       ∙ length-code (f .at) inside in
       omega (arith, long, place-fits (f .at) inside)
 
@@ -129,7 +129,7 @@ module _ (codes counts : List ℕ) (sound : soundIndex codes counts ≡ true) wh
     inside : k - 1 < namedIn counts
     inside = omega arith
 
-    pub code-answered : codeAsked codes counts k ≡ K.At ((k - 1) * placeSize + 1) (length (codeOf kth)) (kth .count)
+    pub code-answered : codeAsked codes counts k ≡ K.At ((k - 1) * placeSize + 1) (length (entryCode kth)) (kth .count)
     code-answered =
         sym (code-asked codes counts k (sound-roomy codes counts sound) (λ z. omega (arith, z)) within
         (λ z. omega (arith, z, place-filled (k - 1) inside)) (place-fits (k - 1) inside))
@@ -137,7 +137,7 @@ module _ (codes counts : List ℕ) (sound : soundIndex codes counts ≡ true) wh
         (ap (λ (n : ℕ). getD counts n 0) (let q : k ≡ suc (k - 1) = omega arith in q))
 
     -- and the bytes there are the code
-    pub code-where : take (length (codeOf kth)) (drop ((k - 1) * placeSize + 1) codes) ≡ codeOf kth
+    pub code-where : take (length (entryCode kth)) (drop ((k - 1) * placeSize + 1) codes) ≡ entryCode kth
     code-where =
         ap (λ (n : ℕ). take n (drop ((k - 1) * placeSize + 1) codes)) (length-code (k - 1) inside)
         ∙ sym (code-there codes counts (k - 1) (place-fits (k - 1) inside))

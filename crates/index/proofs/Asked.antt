@@ -16,7 +16,7 @@ use Rattle.index.specs.declared.asking.Count.the-variants as N
 use Rattle.index.specs.declared.asking.Code.the-variants as K
 use Rattle.index.specs.Index.{codeMost, placeSize, namedIn, roomy}
 use Rattle.index.specs.Finding.{placeFound, codesAsked, countAt, countAsked, codeAsked}
-use Rattle.index.specs.inner.Halving.{soughtBy, missingAt}
+use Rattle.index.specs.inner.Halving.{soughtAmong, missingAt}
 use Rattle.index.specs.inner.Rising.{lengthAt}
 use Rattle.index.proofs.KeptHalf.{Within, missing-within, sought-within}
 
@@ -42,7 +42,7 @@ module _ (codes counts : List ℕ) where
     unfolding placeFound
     too-long e h = rw (e, lt-leb (length code) codeMost h, placeFound)
 
-    pub found-sought : roomy codes counts ≡ true → length code ≤ codeMost → soughtBy codes (namedIn counts) code ≡ placeFound codes counts code
+    pub found-sought : roomy codes counts ≡ true → length code ≤ codeMost → soughtAmong codes (namedIn counts) code ≡ placeFound codes counts code
     unfolding placeFound
     found-sought e h = rw (e, le-leb (length code) codeMost h, placeFound)
 

@@ -21,9 +21,9 @@ use Rattle.index.specs.declared.code.Compared.the-variants.{Before, Same
 use Rattle.index.specs.declared.finding.Found.{Found}
 use Rattle.index.specs.Order.{byteOrder}
 use Rattle.index.specs.Refusals.{longCode, fullIndex, fullCount, noIndex}
-use Rattle.index.specs.Index.{Entry, codesMost, codeMost, placeSize, countsPast, lengthOf, codeOf, namedIn, entryAt, entriesIn, roomy, risesAfter, rises, soundIndex, names, countOf}
-use Rattle.index.specs.Adding.{nothing, newEntry, oneMore, added, Addition, declines, leaves, gives, additionAt, additionOf, addition}
-use Rattle.index.specs.inner.Halving.{comparedAt, foundAt, missingAt, halved, soughtBy}
+use Rattle.index.specs.Index.{Entry, codesMost, codeMost, placeSize, countsPast, lengthOf, entryCode, namedIn, entryAt, entriesIn, roomy, risesAfter, rises, soundIndex, names, countOf}
+use Rattle.index.specs.Adding.{nothing, newEntry, oneMore, codeAdded, Addition, declines, leaves, gives, additionAt, additionOf, addition}
+use Rattle.index.specs.inner.Halving.{comparedAt, standsAt, missingAt, halved, soughtAmong}
 use Rattle.index.proofs.Sizes.{Fit, roomy-parts}
 use Rattle.index.proofs.Orders.{Three, isB, isS, isA, three, order-same, before-after, after-before, before-trans, before-differs, after-differs, compared-order}
 use Rattle.index.proofs.Entries.{length-entries, entry-there}
@@ -31,7 +31,7 @@ use Rattle.index.proofs.Steps.{names-hit, names-miss, count-hit, count-
 
 -- the code at a place of some entries
 abbrev pub codeThere : List Entry → ℕ → List ℕ
-codeThere es i = codeOf (getD es i nothing)
+codeThere es i = entryCode (getD es i nothing)
 
 -- entries that rise: each code is behind the last one, and each before the later ones
 
@@ -40,20 +40,20 @@ rises-behind last [] w i h = absurd (omega arith)
 rises-behind last (e ∷ es) w zero h = rises-rising last e es w .behind
 rises-behind last (e ∷ es) w (suc i) h =
     let r = rises-rising last e es w in
-    rises-behind last es (rises-lower last (codeOf e) es (r .behind) (r .rest)) i (omega arith)
+    rises-behind last es (rises-lower last (entryCode e) es (r .behind) (r .rest)) i (omega arith)
 
 pub rises-short : (last : List ℕ) (es : List Entry) → risesAfter last es ≡ true → (i : ℕ) → i < length es → lengthOf (getD es i nothing) ≤ codeMost
 rises-short last [] w i h = absurd (omega arith)
 rises-short last (e ∷ es) w zero h = rises-rising last e es w .short
-rises-short last (e ∷ es) w (suc i) h = rises-short (codeOf e) es (rises-rising last e es w .rest) i (omega arith)
+rises-short last (e ∷ es) w (suc i) h = rises-short (entryCode e) es (rises-rising last e es w .rest) i (omega arith)
 
 pub rises-between : (last : List ℕ) (es : List Entry) → risesAfter last es ≡ true → (i j : ℕ) → i < j → j < length es
     → byteOrder (codeThere es i) (codeThere es j) ≡ Before
 rises-between last [] w i j h k = absurd (omega arith)
 rises-between last (e ∷ es) w i zero h k = absurd (omega arith)
-rises-between last (e ∷ es) w zero (suc j) h k = rises-behind (codeOf e) es (rises-rising last e es w .rest) j (omega arith)
+rises-between last (e ∷ es) w zero (suc j) h k = rises-behind (entryCode e) es (rises-rising last e es w .rest) j (omega arith)
 rises-between last (e ∷ es) w (suc i) (suc j) h k =
-    rises-between (codeOf e) es (rises-rising last e es w .rest) i j (omega arith) (omega arith)
+    rises-between (entryCode e) es (rises-rising last e es w .rest) i j (omega arith) (omega arith)
 
 -- a place in front of which every code is before c, and from which on every one is behind it
 pub record Apart (es : List Entry) (c : List ℕ) (at : ℕ) : Type 0 where
@@ -68,7 +68,7 @@ pub record Here (es : List Entry) (c : List ℕ) (at : ℕ) : Type 0 where
 
 -- what halving is to come to
 pub data ComesTo (es : List Entry) (c : List ℕ) : Found → Type 0 where
-  found : (i : ℕ) → Here es c i → ComesTo es c (foundAt i)
+  found : (i : ℕ) → Here es c i → ComesTo es c (standsAt i)
   missing : (i : ℕ) → Apart es c i → ComesTo es c (missingAt i)
 
 -- so many comparisons do for fewer codes than this
@@ -84,7 +84,7 @@ module _ (n : ℕ) (codes c : List ℕ) (low high : ℕ) where
         | true ↦
             elim x [
               | Before ↦ halved n codes c low ((low + high) / 2)
-              | Same ↦ foundAt ((low + high) / 2)
+              | Same ↦ standsAt ((low + high) / 2)
               | After ↦ halved n codes c ((low + high) / 2 + 1) high
             ]
         | false ↦ missingAt low
@@ -97,7 +97,7 @@ module _ (n : ℕ) (codes c : List ℕ) (low high : ℕ) where
         | true ↦
             elim y [
               | Before ↦ halved n codes c low ((low + high) / 2)
-              | Same ↦ foundAt ((low + high) / 2)
+              | Same ↦ standsAt ((low + high) / 2)
               | After ↦ halved n codes c ((low + high) / 2 + 1) high
             ]
         | false ↦ missingAt low
@@ -195,8 +195,8 @@ module _ (es : List Entry) (codes c : List ℕ) (w : rises es ≡ true)
           subst⁻¹ (ComesTo es c) (halved-by n codes c low high false (comparedAt codes c ((low + high) / 2)) t refl)
           (missing low (settled v (ltb-false low high t)))
 
-  all-sought : length es ≤ codesMost → ComesTo es c (soughtBy codes (length es) c)
-  unfolding soughtBy doubled
+  all-sought : length es ≤ codesMost → ComesTo es c (soughtAmong codes (length es) c)
+  unfolding soughtAmong doubled
   all-sought few =
       halved-sought 10 0 (length es)
       (record {
@@ -211,20 +211,20 @@ module _ (es : List Entry) (codes c : List ℕ) (w : rises es ≡ true)
 pub record NamedThere (es : List Entry) (c : List ℕ) (at : ℕ) : Type 0 where
   pub name : names es c ≡ true
   pub counted : getD es at nothing .count ≡ countOf es c
-  pub put : take at es ++ (oneMore (getD es at nothing) ∷ drop (suc at) es) ≡ added c es
+  pub put : take at es ++ (oneMore (getD es at nothing) ∷ drop (suc at) es) ≡ codeAdded c es
 
 pub here-named : (last : List ℕ) (es : List Entry) (c : List ℕ) → risesAfter last es ≡ true → (at : ℕ) → Here es c at → NamedThere es c at
 here-named last [] c w at h = absurd (omega (arith, h .inside))
 here-named last (e ∷ es) c w zero h =
-    let it : same c (codeOf e) ≡ true = ap (same c) (h .code) ∙ same-self c in
+    let it : same c (entryCode e) ≡ true = ap (same c) (h .code) ∙ same-self c in
     record { name = names-hit e es c it; counted = sym (count-hit e es c it); put = sym (added-here c e es it) }
 here-named last (e ∷ es) c w (suc i) h =
     let r = rises-rising last e es w in
     let inside : i < length es = omega (arith, h .inside) in
-    let ih = here-named (codeOf e) es c (r .rest) i (record { inside = inside; code = h .code }) in
-    let o : byteOrder c (codeOf e) ≡ After =
-    before-after (codeOf e) c (ap (byteOrder (codeOf e)) (sym (h .code)) ∙ rises-behind (codeOf e) es (r .rest) i inside) in
-    let other = after-differs c (codeOf e) o in
+    let ih = here-named (entryCode e) es c (r .rest) i (record { inside = inside; code = h .code }) in
+    let o : byteOrder c (entryCode e) ≡ After =
+    before-after (entryCode e) c (ap (byteOrder (entryCode e)) (sym (h .code)) ∙ rises-behind (entryCode e) es (r .rest) i inside) in
+    let other = after-differs c (entryCode e) o in
     record {
       name = names-miss e es c other ∙ ih .name;
       counted = ih .counted ∙ sym (count-miss e es c other);
@@ -234,17 +234,17 @@ here-named last (e ∷ es) c w (suc i) h =
 -- a code that is not: where it would stand, and what adding it gives
 pub record UnnamedThere (es : List Entry) (c : List ℕ) (at : ℕ) : Type 0 where
   pub name : names es c ≡ false
-  pub put : take at es ++ (newEntry c ∷ drop at es) ≡ added c es
+  pub put : take at es ++ (newEntry c ∷ drop at es) ≡ codeAdded c es
 
 -- every code is behind c
 behind-unnamed : (es : List Entry) (c : List ℕ) → ((i : ℕ) → i < length es → byteOrder c (codeThere es i) ≡ Before) → names es c ≡ false
 unfolding names
 behind-unnamed [] c h = refl
 behind-unnamed (e ∷ es) c h =
-    names-miss e es c (before-differs c (codeOf e) (h 0 (omega arith))) ∙ behind-unnamed es c (λ i k. h (suc i) (omega arith))
+    names-miss e es c (before-differs c (entryCode e) (h 0 (omega arith))) ∙ behind-unnamed es c (λ i k. h (suc i) (omega arith))
 
 pub apart-unnamed : (es : List Entry) (c : List ℕ) (at : ℕ) → Apart es c at → UnnamedThere es c at
-unfolding names added
+unfolding names codeAdded
 apart-unnamed [] c zero a = record { name = refl; put = refl }
 apart-unnamed [] c (suc i) a = absurd (omega (arith, a .within))
 apart-unnamed (e ∷ es) c zero a = record {
@@ -252,7 +252,7 @@ apart-unnamed (e ∷ es) c zero a = record {
   put = sym (added-sooner c e es (a .back 0 (omega arith) (omega arith)));
 }
 apart-unnamed (e ∷ es) c (suc at) a =
-    let o : byteOrder c (codeOf e) ≡ After = a .front 0 (omega arith) in
+    let o : byteOrder c (entryCode e) ≡ After = a .front 0 (omega arith) in
     let ih =
     apart-unnamed es c at
     (record {
@@ -261,7 +261,7 @@ apart-unnamed (e ∷ es) c (suc at) a =
       back = λ i h k. a .back (suc i) (omega arith) (omega arith);
     }) in
     record {
-      name = names-miss e es c (after-differs c (codeOf e) o) ∙ ih .name;
+      name = names-miss e es c (after-differs c (entryCode e) o) ∙ ih .name;
       put = ap (λ (l : List Entry). e ∷ l) (ih .put) ∙ sym (added-later c e es o);
     }
 
@@ -274,8 +274,8 @@ addition-found es c w f (found i h) =
     ∙ sym (ap
     (λ (b : Bool).
     elim b [
-      | true ↦ elim (leb countsPast (suc (countOf es c))) [ true ↦ declines fullCount | false ↦ gives (added c es) ]
-      | false ↦ elim (leb codesMost (length es)) [ true ↦ declines fullIndex | false ↦ gives (added c es) ]
+      | true ↦ elim (leb countsPast (suc (countOf es c))) [ true ↦ declines fullCount | false ↦ gives (codeAdded c es) ]
+      | false ↦ elim (leb codesMost (length es)) [ true ↦ declines fullIndex | false ↦ gives (codeAdded c es) ]
     ])
     (n .name))
 addition-found es c w f (missing i a) =
@@ -284,8 +284,8 @@ addition-found es c w f (missing i a) =
     ∙ sym (ap
     (λ (b : Bool).
     elim b [
-      | true ↦ elim (leb countsPast (suc (countOf es c))) [ true ↦ declines fullCount | false ↦ gives (added c es) ]
-      | false ↦ elim (leb codesMost (length es)) [ true ↦ declines fullIndex | false ↦ gives (added c es) ]
+      | true ↦ elim (leb countsPast (suc (countOf es c))) [ true ↦ declines fullCount | false ↦ gives (codeAdded c es) ]
+      | false ↦ elim (leb codesMost (length es)) [ true ↦ declines fullIndex | false ↦ gives (codeAdded c es) ]
     ])
     (n .name))
 
@@ -308,10 +308,10 @@ sought-sound es c w f (missing i a) =
 
 -- adding, by the answers of its three tests
 addition-by : (c codes counts : List ℕ) → roomy codes counts ≡ true → eqb (length c) 0 ≡ false → leb (length c) codeMost ≡ true
-    → addition c codes counts ≡ additionAt c (entriesIn codes counts) (soughtBy codes (namedIn counts) c)
+    → addition c codes counts ≡ additionAt c (entriesIn codes counts) (soughtAmong codes (namedIn counts) c)
 unfolding addition
 addition-by c codes counts e f g =
-    let all = additionAt c (entriesIn codes counts) (soughtBy codes (namedIn counts) c) in
+    let all = additionAt c (entriesIn codes counts) (soughtAmong codes (namedIn counts) c) in
     ap {B = Addition}
     (λ (b : Bool).
     elim b [
@@ -351,18 +351,18 @@ module _ (codes counts : List ℕ) (sound : soundIndex codes counts ≡ true) wh
       ∙ ap (λ (s : List ℕ). byteOrder c (take n s)) (sym (drop-drop 1 (i * placeSize) codes))
       ∙ ap (byteOrder c) (sym (part-taken (drop (i * placeSize) codes) 1 n placeSize (let q : 1 + n ≤ placeSize = omega arith in q)))
       ∙ ap (λ (k : ℕ). byteOrder c (take k (drop 1 place))) (sym long)
-      ∙ ap (λ (e : Entry). byteOrder c (codeOf e)) (sym there)
+      ∙ ap (λ (e : Entry). byteOrder c (entryCode e)) (sym there)
 
-  pub sought-there : (c : List ℕ) → ComesTo (entriesIn codes counts) c (soughtBy codes (namedIn counts) c)
+  pub sought-there : (c : List ℕ) → ComesTo (entriesIn codes counts) c (soughtAmong codes (namedIn counts) c)
   sought-there c =
       let room = roomy-parts codes counts sound-roomy in
       let long = length-entries codes counts in
-      subst (λ (n : ℕ). ComesTo (entriesIn codes counts) c (soughtBy codes n c)) long
+      subst (λ (n : ℕ). ComesTo (entriesIn codes counts) c (soughtAmong codes n c)) long
       (all-sought (entriesIn codes counts) codes c sound-rises (λ i h. compared-there c i (omega (arith, long)))
       (let l : length (entriesIn codes counts) ≤ codesMost = omega (arith, room .fewNamed) in l))
 
-  pub found-sound : (c : List ℕ) → FoundSound (entriesIn codes counts) c (soughtBy codes (namedIn counts) c)
-  found-sound c = sought-sound (entriesIn codes counts) c sound-rises (soughtBy codes (namedIn counts) c) (sought-there c)
+  pub found-sound : (c : List ℕ) → FoundSound (entriesIn codes counts) c (soughtAmong codes (namedIn counts) c)
+  found-sound c = sought-sound (entriesIn codes counts) c sound-rises (soughtAmong codes (namedIn counts) c) (sought-there c)
 
   -- adding a code to a sound index: what it names and counts says it all
   pub addition-sound : (c : List ℕ) → Fit c → addition c codes counts ≡ additionOf c (entriesIn codes counts)
@@ -370,4 +370,4 @@ module _ (codes counts : List ℕ) (sound : soundIndex codes counts ≡ true) wh
       addition-by c codes counts sound-roomy
       (ne-eqb (length c) 0 (λ (e : length c ≡ 0). omega (arith, fit .some)))
       (le-leb (length c) codeMost (fit .short))
-      ∙ addition-found (entriesIn codes counts) c sound-rises (soughtBy codes (namedIn counts) c) (sought-there c)
+      ∙ addition-found (entriesIn codes counts) c sound-rises (soughtAmong codes (namedIn counts) c) (sought-there c)

@@ -12,7 +12,7 @@ use Rattle.index.specs.declared.code.Compared.{Compared}
 use Rattle.index.specs.declared.code.Compared.the-variants.{Before, Same, After}
 use Rattle.index.specs.declared.finding.Found.{Found}
 use Rattle.index.specs.Index.{codesMost}
-use Rattle.index.specs.inner.Halving.{comparedAt, foundAt, missingAt, halved, soughtBy}
+use Rattle.index.specs.inner.Halving.{comparedAt, standsAt, missingAt, halved, soughtAmong}
 
 -- one step: the half before the middle is kept, or the one behind it, or the code stands there
 module _ (n : ℕ) (codes code : List ℕ) (low high : ℕ) where
@@ -26,7 +26,7 @@ module _ (n : ℕ) (codes code : List ℕ) (low high : ℕ) where
     unfolding halved
     halved-before e = rw (lt-ltb low high h, e, halved)
 
-    pub halved-same : comparedAt codes code ((low + high) / 2) ≡ Same → halved (suc n) codes code low high ≡ foundAt ((low + high) / 2)
+    pub halved-same : comparedAt codes code ((low + high) / 2) ≡ Same → halved (suc n) codes code low high ≡ standsAt ((low + high) / 2)
     unfolding halved
     halved-same e = rw (lt-ltb low high h, e, halved)
 
@@ -46,10 +46,10 @@ pub record Halving (codes : List ℕ) (named : ℕ) (code : List ℕ) (low high 
   pub enough : high < low + doubled comparisons
   pub ordered : low ≤ high
   pub within : high ≤ named
-  pub rest : halved comparisons codes code low high ≡ soughtBy codes named code
+  pub rest : halved comparisons codes code low high ≡ soughtAmong codes named code
 
 pub halving-begins : (codes : List ℕ) (named : ℕ) (code : List ℕ) → named ≤ codesMost → Halving codes named code 0 named
-unfolding soughtBy doubled
+unfolding soughtAmong doubled
 halving-begins codes named code few =
     record { comparisons = 10; enough = omega arith; ordered = omega arith; within = omega arith; rest = refl }
 
@@ -61,7 +61,7 @@ module _ {codes : List ℕ} {named : ℕ} {code : List ℕ} {low high : ℕ} (u 
     pub middle-named : middle < named
     middle-named = omega (arith, u .within)
 
-    keep-before : (n : ℕ) → high < low + doubled n → halved n codes code low high ≡ soughtBy codes named code
+    keep-before : (n : ℕ) → high < low + doubled n → halved n codes code low high ≡ soughtAmong codes named code
         → comparedAt codes code middle ≡ Before → Halving codes named code low middle
     unfolding doubled
     keep-before zero enough rest e = absurd (omega arith)
@@ -74,7 +74,7 @@ module _ {codes : List ℕ} {named : ℕ} {code : List ℕ} {low high : ℕ} (u 
           rest = sym (halved-before n codes code low high h e) ∙ rest;
         }
 
-    keep-after : (n : ℕ) → high < low + doubled n → halved n codes code low high ≡ soughtBy codes named code
+    keep-after : (n : ℕ) → high < low + doubled n → halved n codes code low high ≡ soughtAmong codes named code
         → comparedAt codes code middle ≡ After → Halving codes named code (middle + 1) high
     unfolding doubled
     keep-after zero enough rest e = absurd (omega arith)
@@ -87,8 +87,8 @@ module _ {codes : List ℕ} {named : ℕ} {code : List ℕ} {low high : ℕ} (u 
           rest = sym (halved-after n codes code low high h e) ∙ rest;
         }
 
-    stop : (n : ℕ) → high < low + doubled n → halved n codes code low high ≡ soughtBy codes named code
-        → comparedAt codes code middle ≡ Same → foundAt middle ≡ soughtBy codes named code
+    stop : (n : ℕ) → high < low + doubled n → halved n codes code low high ≡ soughtAmong codes named code
+        → comparedAt codes code middle ≡ Same → standsAt middle ≡ soughtAmong codes named code
     unfolding doubled
     stop zero enough rest e = absurd (omega arith)
     stop (suc n) enough rest e = sym (halved-same n codes code low high h e) ∙ rest
@@ -99,15 +99,15 @@ module _ {codes : List ℕ} {named : ℕ} {code : List ℕ} {low high : ℕ} (u 
     pub keeps-after : comparedAt codes code middle ≡ After → Halving codes named code (middle + 1) high
     keeps-after e = keep-after (u .comparisons) (u .enough) (u .rest) e
 
-    pub stops : comparedAt codes code middle ≡ Same → foundAt middle ≡ soughtBy codes named code
+    pub stops : comparedAt codes code middle ≡ Same → standsAt middle ≡ soughtAmong codes named code
     stops e = stop (u .comparisons) (u .enough) (u .rest) e
 
-  end-here : (n : ℕ) → halved n codes code low high ≡ soughtBy codes named code → high ≤ low → missingAt low ≡ soughtBy codes named code
+  end-here : (n : ℕ) → halved n codes code low high ≡ soughtAmong codes named code → high ≤ low → missingAt low ≡ soughtAmong codes named code
   unfolding halved
   end-here zero rest h = rest
   end-here (suc n) rest h = sym (halved-none n codes code low high h) ∙ rest
 
-  pub halving-ends : high ≤ low → missingAt low ≡ soughtBy codes named code
+  pub halving-ends : high ≤ low → missingAt low ≡ soughtAmong codes named code
   halving-ends h = end-here (u .comparisons) (u .rest) h
 
 -- a place up to the end; where the code is named, before it
@@ -143,6 +143,6 @@ halved-within (suc n) codes code low high h =
     go (passed t) After e first second =
         let l = ltb-true low high t in rw (halved-after n codes code low high l e) (second l)
 
-pub sought-within : (codes : List ℕ) (named : ℕ) (code : List ℕ) → Within named (soughtBy codes named code)
-unfolding soughtBy
+pub sought-within : (codes : List ℕ) (named : ℕ) (code : List ℕ) → Within named (soughtAmong codes named code)
+unfolding soughtAmong
 sought-within codes named code = halved-within 10 codes code 0 named (omega arith)

@@ -11,8 +11,8 @@ use lib.Dec.{leb}
 use Rattle.laws.proofs.Tests.{Tested, passed, failed, tested, never-both, never-holds, or-first, or-second, or-fails, or-cases}
 use Rattle.index.specs.declared.code.Compared.the-variants.{Before}
 use Rattle.index.specs.Order.{byteOrder}
-use Rattle.index.specs.Index.{Entry, countsPast, codeOf, risesAfter, rises, names, countOf}
-use Rattle.index.specs.Adding.{newEntry, oneMore, added, tooLarge}
+use Rattle.index.specs.Index.{Entry, countsPast, entryCode, risesAfter, rises, names, countOf}
+use Rattle.index.specs.Adding.{newEntry, oneMore, codeAdded, tooLarge}
 use Rattle.index.proofs.Orders.{Three, isB, isS, isA, three, order-alike-same, after-differs}
 use Rattle.index.proofs.Steps.{names-hit, names-miss, count-hit, count-miss, added-here, added-sooner, added-later, Rising, rises-rising, rising-rises, rises-unnamed}
 
@@ -49,88 +49,88 @@ module _ (e : Entry) (es : List Entry) where
   small-rest h = never-holds (tooLarge es) (λ k. never-both (large-rest k) h)
 
 -- no count shrinks
-pub large-added : (c : List ℕ) (es : List Entry) → tooLarge es ≡ true → tooLarge (added c es) ≡ true
+pub large-added : (c : List ℕ) (es : List Entry) → tooLarge es ≡ true → tooLarge (codeAdded c es) ≡ true
 unfolding tooLarge
 large-added c [] w = absurd (never-both w refl)
-large-added c (e ∷ es) w = go (three (byteOrder c (codeOf e))) (large-cases e es w) (large-added c es)
+large-added c (e ∷ es) w = go (three (byteOrder c (entryCode e))) (large-cases e es w) (large-added c es)
   where
-    go : Three (byteOrder c (codeOf e)) → (countsPast ≤ e .count) ⊎ (tooLarge es ≡ true) → (tooLarge es ≡ true → tooLarge (added c es) ≡ true)
-        → tooLarge (added c (e ∷ es)) ≡ true
+    go : Three (byteOrder c (entryCode e)) → (countsPast ≤ e .count) ⊎ (tooLarge es ≡ true) → (tooLarge es ≡ true → tooLarge (codeAdded c es) ≡ true)
+        → tooLarge (codeAdded c (e ∷ es)) ≡ true
     go (isB h) k ih = ap tooLarge (added-sooner c e es h) ∙ large-rest (newEntry c) (e ∷ es) w
     go (isS h) (inl k) ih =
-        ap tooLarge (added-here c e es (order-alike-same c (codeOf e) h))
+        ap tooLarge (added-here c e es (order-alike-same c (entryCode e) h))
         ∙ large-first (oneMore e) es (let m : countsPast ≤ suc (e .count) = omega arith in m)
-    go (isS h) (inr k) ih = ap tooLarge (added-here c e es (order-alike-same c (codeOf e) h)) ∙ large-rest (oneMore e) es k
-    go (isA h) (inl k) ih = ap tooLarge (added-later c e es h) ∙ large-first e (added c es) k
-    go (isA h) (inr k) ih = ap tooLarge (added-later c e es h) ∙ large-rest e (added c es) (ih k)
+    go (isS h) (inr k) ih = ap tooLarge (added-here c e es (order-alike-same c (entryCode e) h)) ∙ large-rest (oneMore e) es k
+    go (isA h) (inl k) ih = ap tooLarge (added-later c e es h) ∙ large-first e (codeAdded c es) k
+    go (isA h) (inr k) ih = ap tooLarge (added-later c e es h) ∙ large-rest e (codeAdded c es) (ih k)
 
 -- a new code is counted once, which is not too large
-pub small-new : (c : List ℕ) (es : List Entry) → names es c ≡ false → tooLarge es ≡ false → tooLarge (added c es) ≡ false
-unfolding added tooLarge
+pub small-new : (c : List ℕ) (es : List Entry) → names es c ≡ false → tooLarge es ≡ false → tooLarge (codeAdded c es) ≡ false
+unfolding codeAdded tooLarge
 small-new c [] n w = refl
-small-new c (e ∷ es) n w = go (three (byteOrder c (codeOf e))) (small-new c es)
+small-new c (e ∷ es) n w = go (three (byteOrder c (entryCode e))) (small-new c es)
   where
-    go : Three (byteOrder c (codeOf e)) → (names es c ≡ false → tooLarge es ≡ false → tooLarge (added c es) ≡ false)
-        → tooLarge (added c (e ∷ es)) ≡ false
+    go : Three (byteOrder c (entryCode e)) → (names es c ≡ false → tooLarge es ≡ false → tooLarge (codeAdded c es) ≡ false)
+        → tooLarge (codeAdded c (e ∷ es)) ≡ false
     go (isB h) ih = ap tooLarge (added-sooner c e es h) ∙ w
-    go (isS h) ih = absurd (never-both (names-hit e es c (order-alike-same c (codeOf e) h)) n)
+    go (isS h) ih = absurd (never-both (names-hit e es c (order-alike-same c (entryCode e) h)) n)
     go (isA h) ih =
         ap tooLarge (added-later c e es h)
-        ∙ small-both e (added c es) (small-first e es w)
-        (ih (sym (names-miss e es c (after-differs c (codeOf e) h)) ∙ n) (small-rest e es w))
+        ∙ small-both e (codeAdded c es) (small-first e es w)
+        (ih (sym (names-miss e es c (after-differs c (entryCode e) h)) ∙ n) (small-rest e es w))
 
 -- of a code that is named, its own count decides
 
 -- a code that is before the first one is not named
-sooner-unnamed : (last c : List ℕ) (e : Entry) (es : List Entry) → Rising last e es → byteOrder c (codeOf e) ≡ Before → names (e ∷ es) c ≡ false
+sooner-unnamed : (last c : List ℕ) (e : Entry) (es : List Entry) → Rising last e es → byteOrder c (entryCode e) ≡ Before → names (e ∷ es) c ≡ false
 sooner-unnamed last c e es r h =
     rises-unnamed c (e ∷ es) (rising-rises c e es (record { some = r .some; short = r .short; behind = h; rest = r .rest }))
 
 small-after : (last c : List ℕ) (es : List Entry) → risesAfter last es ≡ true → names es c ≡ true → suc (countOf es c) < countsPast
-    → tooLarge es ≡ false → tooLarge (added c es) ≡ false
+    → tooLarge es ≡ false → tooLarge (codeAdded c es) ≡ false
 unfolding names
 small-after last c [] v n less w = absurd (never-both n refl)
 small-after last c (e ∷ es) v n less w =
-    go (three (byteOrder c (codeOf e))) (rises-rising last e es v) (small-after (codeOf e) c es)
+    go (three (byteOrder c (entryCode e))) (rises-rising last e es v) (small-after (entryCode e) c es)
   where
-    go : Three (byteOrder c (codeOf e)) → Rising last e es
-        → (risesAfter (codeOf e) es ≡ true → names es c ≡ true → suc (countOf es c) < countsPast → tooLarge es ≡ false → tooLarge (added c es) ≡ false)
-        → tooLarge (added c (e ∷ es)) ≡ false
+    go : Three (byteOrder c (entryCode e)) → Rising last e es
+        → (risesAfter (entryCode e) es ≡ true → names es c ≡ true → suc (countOf es c) < countsPast → tooLarge es ≡ false → tooLarge (codeAdded c es) ≡ false)
+        → tooLarge (codeAdded c (e ∷ es)) ≡ false
     go (isB h) r ih = absurd (never-both n (sooner-unnamed last c e es r h))
     go (isS h) r ih =
-        let here = order-alike-same c (codeOf e) h in
+        let here = order-alike-same c (entryCode e) h in
         ap tooLarge (added-here c e es here)
         ∙ small-both (oneMore e) es (let m : suc (e .count) < countsPast = omega (arith, count-hit e es c here) in m) (small-rest e es w)
     go (isA h) r ih =
-        let other = after-differs c (codeOf e) h in
+        let other = after-differs c (entryCode e) h in
         ap tooLarge (added-later c e es h)
-        ∙ small-both e (added c es) (small-first e es w)
+        ∙ small-both e (codeAdded c es) (small-first e es w)
         (ih (r .rest) (sym (names-miss e es c other) ∙ n)
         (let m : suc (countOf es c) < countsPast = omega (arith, count-miss e es c other) in m) (small-rest e es w))
 
 pub small-named : (c : List ℕ) (es : List Entry) → rises es ≡ true → names es c ≡ true → suc (countOf es c) < countsPast → tooLarge es ≡ false
-    → tooLarge (added c es) ≡ false
+    → tooLarge (codeAdded c es) ≡ false
 small-named c es v n less w = small-after [] c es v n less w
 
 large-after : (last c : List ℕ) (es : List Entry) → risesAfter last es ≡ true → names es c ≡ true → countsPast ≤ suc (countOf es c)
-    → tooLarge (added c es) ≡ true
+    → tooLarge (codeAdded c es) ≡ true
 unfolding names
 large-after last c [] v n past = absurd (never-both n refl)
-large-after last c (e ∷ es) v n past = go (three (byteOrder c (codeOf e))) (rises-rising last e es v) (large-after (codeOf e) c es)
+large-after last c (e ∷ es) v n past = go (three (byteOrder c (entryCode e))) (rises-rising last e es v) (large-after (entryCode e) c es)
   where
-    go : Three (byteOrder c (codeOf e)) → Rising last e es
-        → (risesAfter (codeOf e) es ≡ true → names es c ≡ true → countsPast ≤ suc (countOf es c) → tooLarge (added c es) ≡ true)
-        → tooLarge (added c (e ∷ es)) ≡ true
+    go : Three (byteOrder c (entryCode e)) → Rising last e es
+        → (risesAfter (entryCode e) es ≡ true → names es c ≡ true → countsPast ≤ suc (countOf es c) → tooLarge (codeAdded c es) ≡ true)
+        → tooLarge (codeAdded c (e ∷ es)) ≡ true
     go (isB h) r ih = absurd (never-both n (sooner-unnamed last c e es r h))
     go (isS h) r ih =
-        let here = order-alike-same c (codeOf e) h in
+        let here = order-alike-same c (entryCode e) h in
         ap tooLarge (added-here c e es here)
         ∙ large-first (oneMore e) es (let m : countsPast ≤ suc (e .count) = omega (arith, count-hit e es c here) in m)
     go (isA h) r ih =
-        let other = after-differs c (codeOf e) h in
+        let other = after-differs c (entryCode e) h in
         ap tooLarge (added-later c e es h)
-        ∙ large-rest e (added c es)
+        ∙ large-rest e (codeAdded c es)
         (ih (r .rest) (sym (names-miss e es c other) ∙ n) (let m : countsPast ≤ suc (countOf es c) = omega (arith, count-miss e es c other) in m))
 
-pub large-named : (c : List ℕ) (es : List Entry) → rises es ≡ true → names es c ≡ true → countsPast ≤ suc (countOf es c) → tooLarge (added c es) ≡ true
+pub large-named : (c : List ℕ) (es : List Entry) → rises es ≡ true → names es c ≡ true → countsPast ≤ suc (countOf es c) → tooLarge (codeAdded c es) ≡ true
 large-named c es v n past = large-after [] c es v n past

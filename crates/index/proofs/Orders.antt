@@ -13,7 +13,7 @@ use Rattle.laws.proofs.Lists.{same-self, different-same}
 use Rattle.laws.proofs.Tests.{Tested, passed, failed, tested, never-both}
 use Rattle.index.specs.declared.code.Compared.{Compared}
 use Rattle.index.specs.declared.code.Compared.the-variants.{Before, Same, After}
-use Rattle.index.specs.Order.{byteOrder, isBefore, before}
+use Rattle.index.specs.Order.{byteOrder, isBefore, comesBefore}
 use Rattle.index.specs.inner.Comparing.{compared}
 
 -- the three are different
@@ -130,7 +130,7 @@ before-trans (a ∷ s) (b ∷ t) (c ∷ u) h k = go (first a b) (first b c) (bef
         order-alike a s c u (e ∙ f) ∙ ih (sym (order-alike a s b t e) ∙ h) (sym (order-alike b t c u f) ∙ k)
 
 -- the test `before`, and the test `same`, by the order
-pub before-is : (s t : List ℕ) → before s t ≡ true → byteOrder s t ≡ Before
+pub before-is : (s t : List ℕ) → comesBefore s t ≡ true → byteOrder s t ≡ Before
 unfolding isBefore
 before-is s t h = go (three (byteOrder s t))
   where
@@ -140,11 +140,11 @@ before-is s t h = go (three (byteOrder s t))
     go (isA e) = absurd (never-both h (ap isBefore e))
 
 module _ (s t : List ℕ) where
-  pub is-before : byteOrder s t ≡ Before → before s t ≡ true
+  pub is-before : byteOrder s t ≡ Before → comesBefore s t ≡ true
   unfolding isBefore
   is-before e = ap isBefore e
 
-  pub after-not-before : byteOrder s t ≡ After → before s t ≡ false
+  pub after-not-before : byteOrder s t ≡ After → comesBefore s t ≡ false
   unfolding isBefore
   after-not-before e = ap isBefore e
 

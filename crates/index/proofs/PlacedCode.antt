@@ -12,18 +12,18 @@ use Rattle.laws.proofs.Cases.{less-or-not}
 use Rattle.laws.proofs.Parts.{left-cons}
 use Rattle.laws.proofs.Stores.{sets-first}
 use Rattle.index.specs.Index.{codeMost, placeSize}
-use Rattle.index.specs.Adding.{placed}
+use Rattle.index.specs.Adding.{placeOfCode}
 
 module _ (c : List ℕ) (short : length c ≤ codeMost) where
-  pub length-placed : length (placed c) ≡ placeSize
-  unfolding placed
+  pub length-placed : length (placeOfCode c) ≡ placeSize
+  unfolding placeOfCode
   length-placed =
       omega (arith, length-append c (replicate (codeMost - length c) 0), length-replicate {A = ℕ} (codeMost - length c) 0, short)
 
   -- behind its length stand its bytes, and zeros
-  pub placed-byte : (k : ℕ) → k < codeMost → getD (placed c) (k + 1) 0 ≡ getD c k 0
-  unfolding placed
-  placed-byte k h = ap (λ (n : ℕ). getD (placed c) n 0) (add-one k) ∙ go (less-or-not k (length c))
+  pub placed-byte : (k : ℕ) → k < codeMost → getD (placeOfCode c) (k + 1) 0 ≡ getD c k 0
+  unfolding placeOfCode
+  placed-byte k h = ap (λ (n : ℕ). getD (placeOfCode c) n 0) (add-one k) ∙ go (less-or-not k (length c))
     where
       go : (k < length c) ⊎ (length c ≤ k) → getD (c ++ replicate (codeMost - length c) 0) k 0 ≡ getD c k 0
       go (inl l) = List·getD-append c (replicate (codeMost - length c) 0) 0 k l
@@ -37,14 +37,14 @@ module _ (c : List ℕ) (short : length c ≤ codeMost) where
 pub record Placing (c codes : List ℕ) (at : ℕ) (stands : List ℕ) (k : ℕ) : Type 0 where
   pub within : k ≤ codeMost
   pub long : length stands ≡ length codes
-  pub rest : sets stands (at + (k + 1)) (drop (k + 1) (placed c)) ≡ sets codes (at + 1) (drop 1 (placed c))
+  pub rest : sets stands (at + (k + 1)) (drop (k + 1) (placeOfCode c)) ≡ sets codes (at + 1) (drop 1 (placeOfCode c))
 
 pub placing-begins : (c codes : List ℕ) (at : ℕ) → Placing c codes at codes 0
 placing-begins c codes at = record { within = omega arith; long = refl; rest = refl }
 
 -- the length, and the rest behind it
-placed-whole : (c codes : List ℕ) (at : ℕ) → sets (set codes at (length c)) (at + 1) (drop 1 (placed c)) ≡ sets codes at (placed c)
-unfolding placed
+placed-whole : (c codes : List ℕ) (at : ℕ) → sets (set codes at (length c)) (at + 1) (drop 1 (placeOfCode c)) ≡ sets codes at (placeOfCode c)
+unfolding placeOfCode
 placed-whole c codes at = sym (sets-first codes at (length c) (c ++ replicate (codeMost - length c) 0))
 
 module _ {c codes : List ℕ} {at : ℕ} {stands : List ℕ} {k : ℕ} (u : Placing c codes at stands k) (short : length c ≤ codeMost) where
@@ -54,22 +54,22 @@ module _ {c codes : List ℕ} {at : ℕ} {stands : List ℕ} {k : ℕ} (u : Plac
         within = omega arith;
         long = simp length-set (u .long);
         rest =
-            ap (λ (n : ℕ). sets (set stands (at + (k + 1)) b) n (drop (k + 1 + 1) (placed c)))
+            ap (λ (n : ℕ). sets (set stands (at + (k + 1)) b) n (drop (k + 1 + 1) (placeOfCode c)))
             (let i : at + (k + 1 + 1) ≡ at + (k + 1) + 1 = omega arith in i)
-            ∙ sym (sets-first stands (at + (k + 1)) b (drop (k + 1 + 1) (placed c)))
-            ∙ ap (λ (n : ℕ). sets stands (at + (k + 1)) (n ∷ drop (k + 1 + 1) (placed c))) (e ∙ sym (placed-byte c short k h))
+            ∙ sym (sets-first stands (at + (k + 1)) b (drop (k + 1 + 1) (placeOfCode c)))
+            ∙ ap (λ (n : ℕ). sets stands (at + (k + 1)) (n ∷ drop (k + 1 + 1) (placeOfCode c))) (e ∙ sym (placed-byte c short k h))
             ∙ ap (λ (s : List ℕ). sets stands (at + (k + 1)) s)
-            (sym (left-cons (placed c) (k + 1) 0 (omega (arith, length-placed c short))))
+            (sym (left-cons (placeOfCode c) (k + 1) 0 (omega (arith, length-placed c short))))
             ∙ u .rest;
       }
 
-  placed-behind : codeMost ≤ k → stands ≡ sets codes (at + 1) (drop 1 (placed c))
+  placed-behind : codeMost ≤ k → stands ≡ sets codes (at + 1) (drop 1 (placeOfCode c))
   placed-behind h =
       sym
       (ap (λ (s : List ℕ). sets stands (at + (k + 1)) s)
-      (drop-of-length-le (placed c) {i = k + 1} (let past : length (placed c) ≤ k + 1 = omega (arith, length-placed c short) in past)))
+      (drop-of-length-le (placeOfCode c) {i = k + 1} (let past : length (placeOfCode c) ≤ k + 1 = omega (arith, length-placed c short) in past)))
       ∙ u .rest
 
 pub placing-done : {c : List ℕ} (codes : List ℕ) {at : ℕ} {stands : List ℕ} {k : ℕ} → Placing c (set codes at (length c)) at stands k
-    → length c ≤ codeMost → codeMost ≤ k → stands ≡ sets codes at (placed c)
+    → length c ≤ codeMost → codeMost ≤ k → stands ≡ sets codes at (placeOfCode c)
 placing-done {c} codes {at} u short h = placed-behind u short h ∙ placed-whole c codes at

@@ -14,7 +14,7 @@ use Rattle.laws.proofs.Stores.{sets-append, sets-in-front}
 use Rattle.laws.proofs.Sums.{concat-append}
 use Rattle.laws.proofs.Tables.{length-values, values-append, getD-values-zero}
 use Rattle.index.specs.Index.{Entry, placeSize, namedIn, entryAt, entriesIn, roomy, codesPut, countsPut}
-use Rattle.index.specs.Adding.{placed, nothing, newEntry, oneMore}
+use Rattle.index.specs.Adding.{placeOfCode, nothing, newEntry, oneMore}
 use Rattle.index.specs.inner.Changing.{inserted, Insertable}
 use Rattle.index.proofs.PlacedCode.{length-placed}
 use Rattle.index.proofs.Roominess.{room}
@@ -132,29 +132,29 @@ module _ (c : List ℕ) (p n : ℕ) (codes counts : List ℕ) (asked : Insertabl
       ∙ ap₂ (λ (i m : ℕ). values (entryAt codes counts) i (m - p)) (let e : 0 + p ≡ p = omega arith in e) (sym (asked .known))
 
   inserted-codes :
-      codesPut (inserted c p es) ≡ take (p * placeSize) codes ++ (placed c ++ take (n * placeSize - p * placeSize) (drop (p * placeSize) codes))
+      codesPut (inserted c p es) ≡ take (p * placeSize) codes ++ (placeOfCode c ++ take (n * placeSize - p * placeSize) (drop (p * placeSize) codes))
   unfolding codesPut concat
   inserted-codes =
       ap concat (map-append placeOf (take p es) (newEntry c ∷ drop p es))
       ∙ concat-append (map placeOf (take p es)) (map placeOf (newEntry c ∷ drop p es))
-      ∙ ap₂ (λ (s t : List ℕ). s ++ (placed c ++ t))
+      ∙ ap₂ (λ (s t : List ℕ). s ++ (placeOfCode c ++ t))
       (ap (λ (s : List Entry). concat (map placeOf s)) first-entries ∙ places-there codes counts p 0)
       (ap (λ (s : List Entry). concat (map placeOf s)) last-entries ∙ places-there codes counts (n - p) p)
-      ∙ ap (λ (k : ℕ). take (p * placeSize) codes ++ (placed c ++ take k (drop (p * placeSize) codes)))
+      ∙ ap (λ (k : ℕ). take (p * placeSize) codes ++ (placeOfCode c ++ take k (drop (p * placeSize) codes)))
       (let e : (n - p) * placeSize ≡ n * placeSize - p * placeSize = omega arith in e)
 
   pub new-codes :
-      sets (sets codes (p * placeSize + placeSize) (take (n * placeSize - p * placeSize) (drop (p * placeSize) codes))) (p * placeSize) (placed c)
+      sets (sets codes (p * placeSize + placeSize) (take (n * placeSize - p * placeSize) (drop (p * placeSize) codes))) (p * placeSize) (placeOfCode c)
       ≡ sets codes 0 (codesPut (inserted c p es))
   new-codes =
       let behind = take (n * placeSize - p * placeSize) (drop (p * placeSize) codes) in
       let long = room codes counts (asked .room) .codesLong in
       sym
       (ap (sets codes 0) inserted-codes
-      ∙ sets-kept codes 0 (p * placeSize) (placed c ++ behind) (omega (arith, long, asked .within, asked .free))
-      ∙ ap (λ (k : ℕ). sets codes k (placed c ++ behind)) (let e : 0 + p * placeSize ≡ p * placeSize = omega arith in e)
-      ∙ sym (sets-in-front codes (p * placeSize) (placed c) behind)
-      ∙ ap (λ (k : ℕ). sets (sets codes (p * placeSize + k) behind) (p * placeSize) (placed c)) (length-placed c (asked .short)))
+      ∙ sets-kept codes 0 (p * placeSize) (placeOfCode c ++ behind) (omega (arith, long, asked .within, asked .free))
+      ∙ ap (λ (k : ℕ). sets codes k (placeOfCode c ++ behind)) (let e : 0 + p * placeSize ≡ p * placeSize = omega arith in e)
+      ∙ sym (sets-in-front codes (p * placeSize) (placeOfCode c) behind)
+      ∙ ap (λ (k : ℕ). sets (sets codes (p * placeSize + k) behind) (p * placeSize) (placeOfCode c)) (length-placed c (asked .short)))
 
   inserted-counts : countsPut (inserted c p es) ≡ suc n ∷ (take p (drop 1 counts) ++ (1 ∷ take (n - p) (drop (suc p) counts)))
   unfolding countsPut

@@ -13,8 +13,8 @@ use lib.Seq.{getD-take, getD-drop, drop-drop}
 use Rattle.laws.specs.Tables.{values}
 use Rattle.laws.proofs.Parts.{part-taken}
 use Rattle.laws.proofs.Tests.{Tested, passed, failed, tested}
-use Rattle.index.specs.Order.{byteOrder, isBefore, before}
-use Rattle.index.specs.Index.{codeMost, placeSize, lengthOf, codeOf, namedIn, entryAt, entriesIn, roomy, risesAfter, rises, soundIndex}
+use Rattle.index.specs.Order.{byteOrder, isBefore, comesBefore}
+use Rattle.index.specs.Index.{codeMost, placeSize, lengthOf, entryCode, namedIn, entryAt, entriesIn, roomy, risesAfter, rises, soundIndex}
 use Rattle.index.specs.inner.Comparing.{compared}
 use Rattle.index.specs.inner.Rising.{lengthAt, isLength, isBehind, codeFrom, followsAt, risesFrom, allRise}
 use Rattle.index.proofs.InByteOrder.{compared-taken, behind-before}
@@ -32,14 +32,14 @@ module _ (codes counts : List ℕ) where
       ∙ getD-drop (i * placeSize) codes 0 0
       ∙ ap (λ (n : ℕ). getD codes n 0) (add-zero (i * placeSize))
 
-  pub code-there : (i : ℕ) → lengthAt codes i ≤ codeMost → codeOf (entryAt codes counts i) ≡ codeFrom codes (i * placeSize)
+  pub code-there : (i : ℕ) → lengthAt codes i ≤ codeMost → entryCode (entryAt codes counts i) ≡ codeFrom codes (i * placeSize)
   code-there i fits =
       ap (λ (n : ℕ). take n (drop 1 (take placeSize (drop (i * placeSize) codes)))) (length-there i)
       ∙ part-taken (drop (i * placeSize) codes) 1 (lengthAt codes i) placeSize (omega arith)
       ∙ ap (take (lengthAt codes i)) (drop-drop 1 (i * placeSize) codes)
 
   -- a code of 1 byte or more is behind the empty one
-  some-behind : (n : ℕ) (s : List ℕ) → 1 ≤ n → 1 ≤ length s → before [] (take n s) ≡ true
+  some-behind : (n : ℕ) (s : List ℕ) → 1 ≤ n → 1 ≤ length s → comesBefore [] (take n s) ≡ true
   unfolding byteOrder isBefore
   some-behind zero s h l = absurd (omega arith)
   some-behind (suc n) [] h l = absurd (omega arith)
@@ -47,14 +47,14 @@ module _ (codes counts : List ℕ) where
 
   -- the code at a place behind the one at another: as the codes of their entries stand
   behind-there : (at next : ℕ) → getD codes at 0 + (at + 1) ≤ length codes
-      → isBehind (compared (codeFrom codes next) (getD codes at 0) (drop (at + 1) codes)) ≡ before (codeFrom codes at) (codeFrom codes next)
+      → isBehind (compared (codeFrom codes next) (getD codes at 0) (drop (at + 1) codes)) ≡ comesBefore (codeFrom codes at) (codeFrom codes next)
   behind-there at next long =
       ap isBehind (compared-taken (codeFrom codes next) (getD codes at 0) (drop (at + 1) codes) (omega (arith, length-drop (at + 1) codes, long)))
       ∙ behind-before (codeFrom codes next) (codeFrom codes at)
 
   -- an entry by its two tests: without a code's length it ends the rise, with one the code before it and the entries behind it decide
   entry-rises : (last : List ℕ) (i n : ℕ) (b d : Bool)
-      → (lengthAt codes i ≤ codeMost → 1 ≤ lengthAt codes i → b ≡ before last (codeFrom codes (i * placeSize)))
+      → (lengthAt codes i ≤ codeMost → 1 ≤ lengthAt codes i → b ≡ comesBefore last (codeFrom codes (i * placeSize)))
       → (lengthAt codes i ≤ codeMost → d ≡ risesAfter (codeFrom codes (i * placeSize)) (values (entryAt codes counts) (suc i) n))
       → (isLength (lengthAt codes i) && b && d) ≡ risesAfter last (values (entryAt codes counts) i (suc n))
   unfolding risesAfter values isLength
@@ -72,7 +72,7 @@ module _ (codes counts : List ℕ) where
           ∙ sym
           (ap₂
           (λ (k : ℕ) (d : List ℕ).
-          leb 1 k && leb k codeMost && before last d && risesAfter d (values (entryAt codes counts) (suc i) n)) (length-there i) (code-there i fits))
+          leb 1 k && leb k codeMost && comesBefore last d && risesAfter d (values (entryAt codes counts) (suc i) n)) (length-there i) (code-there i fits))
 
   none-left : (last : List ℕ) (i : ℕ) → true ≡ risesAfter last (values (entryAt codes counts) i 0)
   unfolding risesAfter values

@@ -9,9 +9,9 @@ use lib.ListN.{length, length-map}
 use Rattle.laws.specs.Every.{All, none, also}
 use Rattle.laws.specs.Lists.{same}
 use Rattle.laws.proofs.Tests.{never-both}
-use Rattle.index.specs.Order.{byteOrder, before}
-use Rattle.index.specs.Index.{Entry, codeMost, placeSize, lengthOf, codeOf, risesAfter, rises, names}
-use Rattle.index.specs.Adding.{newEntry, added}
+use Rattle.index.specs.Order.{byteOrder, comesBefore}
+use Rattle.index.specs.Index.{Entry, codeMost, placeSize, lengthOf, entryCode, risesAfter, rises, names}
+use Rattle.index.specs.Adding.{newEntry, codeAdded}
 use Rattle.index.proofs.Sizes.{Sized}
 use Rattle.index.proofs.Orders.{Three, isB, isS, isA, three, order-alike-same, after-differs}
 use Rattle.index.proofs.Steps.{names-miss, added-here, added-sooner, added-later, Rising, rises-rising, rising-rises, rises-unnamed}
@@ -30,33 +30,33 @@ uncounted ps = map bare ps
 bare-names : (es : List Entry) (d : List ℕ) → names es d ≡ names (uncounted (placeList es)) d
 unfolding names
 bare-names [] d = refl
-bare-names (e ∷ es) d = ap (λ (b : Bool). elim (same d (codeOf e)) [ true ↦ true | false ↦ b ]) (bare-names es d)
+bare-names (e ∷ es) d = ap (λ (b : Bool). elim (same d (entryCode e)) [ true ↦ true | false ↦ b ]) (bare-names es d)
 
 bare-rises : (last : List ℕ) (es : List Entry) → risesAfter last es ≡ risesAfter last (uncounted (placeList es))
 unfolding risesAfter
 bare-rises last [] = refl
 bare-rises last (e ∷ es) =
-    ap (λ (b : Bool). leb 1 (lengthOf e) && leb (lengthOf e) codeMost && before last (codeOf e) && b) (bare-rises (codeOf e) es)
+    ap (λ (b : Bool). leb 1 (lengthOf e) && leb (lengthOf e) codeMost && comesBefore last (entryCode e) && b) (bare-rises (entryCode e) es)
 
-bare-added : (c : List ℕ) (es : List Entry) → placeList (added c es) ≡ placeList (added c (uncounted (placeList es)))
-unfolding added
+bare-added : (c : List ℕ) (es : List Entry) → placeList (codeAdded c es) ≡ placeList (codeAdded c (uncounted (placeList es)))
+unfolding codeAdded
 bare-added c [] = refl
-bare-added c (e ∷ es) = go (three (byteOrder c (codeOf e))) (bare-added c es)
+bare-added c (e ∷ es) = go (three (byteOrder c (entryCode e))) (bare-added c es)
   where
     twice : (es : List Entry) → placeList es ≡ placeList (uncounted (placeList es))
     twice [] = refl
     twice (e ∷ es) = ap (λ (ps : List (List ℕ)). e .place ∷ ps) (twice es)
 
-    go : Three (byteOrder c (codeOf e)) → placeList (added c es) ≡ placeList (added c (uncounted (placeList es)))
-        → placeList (added c (e ∷ es)) ≡ placeList (added c (uncounted (placeList (e ∷ es))))
+    go : Three (byteOrder c (entryCode e)) → placeList (codeAdded c es) ≡ placeList (codeAdded c (uncounted (placeList es)))
+        → placeList (codeAdded c (e ∷ es)) ≡ placeList (codeAdded c (uncounted (placeList (e ∷ es))))
     go (isB h) ih =
         ap placeList (added-sooner c e es h)
         ∙ ap (λ (ps : List (List ℕ)). newEntry c .place ∷ e .place ∷ ps) (twice es)
         ∙ sym (ap placeList (added-sooner c (bare (e .place)) (uncounted (placeList es)) h))
     go (isS h) ih =
-        ap placeList (added-here c e es (order-alike-same c (codeOf e) h))
+        ap placeList (added-here c e es (order-alike-same c (entryCode e) h))
         ∙ ap (λ (ps : List (List ℕ)). e .place ∷ ps) (twice es)
-        ∙ sym (ap placeList (added-here c (bare (e .place)) (uncounted (placeList es)) (order-alike-same c (codeOf e) h)))
+        ∙ sym (ap placeList (added-here c (bare (e .place)) (uncounted (placeList es)) (order-alike-same c (entryCode e) h)))
     go (isA h) ih =
         ap placeList (added-later c e es h)
         ∙ ap (λ (ps : List (List ℕ)). e .place ∷ ps) ih
@@ -74,8 +74,8 @@ module _ (es fs : List Entry) (alike : placeList es ≡ placeList fs) where
   same-many =
       sym (length-map es (λ (e : Entry). e .place)) ∙ ap (λ (ps : List (List ℕ)). length ps) alike ∙ length-map fs (λ (e : Entry). e .place)
 
-  pub same-added : (c : List ℕ) → placeList (added c es) ≡ placeList (added c fs)
-  same-added c = bare-added c es ∙ ap (λ (ps : List (List ℕ)). placeList (added c (uncounted ps))) alike ∙ sym (bare-added c fs)
+  pub same-added : (c : List ℕ) → placeList (codeAdded c es) ≡ placeList (codeAdded c fs)
+  same-added c = bare-added c es ∙ ap (λ (ps : List (List ℕ)). placeList (codeAdded c (uncounted ps))) alike ∙ sym (bare-added c fs)
 
 -- whole places stay whole
 places-sized : (es : List Entry) → Sized es → All (λ (p : List ℕ). length p ≡ placeSize) (placeList es)
@@ -91,20 +91,20 @@ same-sized es fs alike w =
     sized-places fs (subst (λ (ps : List (List ℕ)). All (λ (p : List ℕ). length p ≡ placeSize) ps) alike (places-sized es w))
 
 -- a code that is named leaves the places as they are
-named-after : (last c : List ℕ) (es : List Entry) → risesAfter last es ≡ true → names es c ≡ true → placeList (added c es) ≡ placeList es
+named-after : (last c : List ℕ) (es : List Entry) → risesAfter last es ≡ true → names es c ≡ true → placeList (codeAdded c es) ≡ placeList es
 unfolding names
 named-after last c [] w n = absurd (never-both n refl)
-named-after last c (e ∷ es) w n = go (three (byteOrder c (codeOf e))) (rises-rising last e es w) (named-after (codeOf e) c es)
+named-after last c (e ∷ es) w n = go (three (byteOrder c (entryCode e))) (rises-rising last e es w) (named-after (entryCode e) c es)
   where
-    go : Three (byteOrder c (codeOf e)) → Rising last e es → (risesAfter (codeOf e) es ≡ true → names es c ≡ true → placeList (added c es) ≡ placeList es)
-        → placeList (added c (e ∷ es)) ≡ placeList (e ∷ es)
+    go : Three (byteOrder c (entryCode e)) → Rising last e es → (risesAfter (entryCode e) es ≡ true → names es c ≡ true → placeList (codeAdded c es) ≡ placeList es)
+        → placeList (codeAdded c (e ∷ es)) ≡ placeList (e ∷ es)
     go (isB h) r ih =
         absurd (never-both n
         (rises-unnamed c (e ∷ es) (rising-rises c e es (record { some = r .some; short = r .short; behind = h; rest = r .rest }))))
-    go (isS h) r ih = ap placeList (added-here c e es (order-alike-same c (codeOf e) h))
+    go (isS h) r ih = ap placeList (added-here c e es (order-alike-same c (entryCode e) h))
     go (isA h) r ih =
         ap placeList (added-later c e es h)
-        ∙ ap (λ (ps : List (List ℕ)). e .place ∷ ps) (ih (r .rest) (sym (names-miss e es c (after-differs c (codeOf e) h)) ∙ n))
+        ∙ ap (λ (ps : List (List ℕ)). e .place ∷ ps) (ih (r .rest) (sym (names-miss e es c (after-differs c (entryCode e) h)) ∙ n))
 
-pub named-places : (c : List ℕ) (es : List Entry) → rises es ≡ true → names es c ≡ true → placeList (added c es) ≡ placeList es
+pub named-places : (c : List ℕ) (es : List Entry) → rises es ≡ true → names es c ≡ true → placeList (codeAdded c es) ≡ placeList es
 named-places c es w n = named-after [] c es w n

@@ -22,8 +22,8 @@ use Rattle.index.specs.declared.asking.Code.{Code}
 use Rattle.index.specs.declared.asking.Code.the-variants as K
 use Rattle.index.specs.declared.tally.Tally.{Tally}
 use Rattle.index.specs.declared.tally.Tallied.{Tallied}
-use Rattle.index.specs.Order.{byteOrder, before}
-use Rattle.index.specs.Index.{Entry, codesMost, codeMost, placeSize, countsPast, lengthOf, codeOf, namedIn, entryAt, entriesIn, roomy, risesAfter, rises, soundIndex, names, countOf}
+use Rattle.index.specs.Order.{byteOrder, comesBefore}
+use Rattle.index.specs.Index.{Entry, codesMost, codeMost, placeSize, countsPast, lengthOf, entryCode, namedIn, entryAt, entriesIn, roomy, risesAfter, rises, soundIndex, names, countOf}
 use Rattle.index.specs.Finding.{placeFound, codesAsked, countAsked, codeAsked}
 use Rattle.index.specs.Tallying.{withMessage, tallyTooLarge, tallied}
 use Rattle.index.proofs.Orders.{before-not-same, order-self}
@@ -40,25 +40,25 @@ module _ (codes counts code : List ℕ) (sound : soundIndex codes counts ≡ tru
   misses-a-code n e = never-both (ap (λ (f : Found). f .named) meets ∙ finds-code codes counts sound code .name ∙ n) e
 
   -- a finder that comes to a place next to the code's own, or to any other
-  pub finds-a-neighbour : r .named ≡ true → (codeOf (entryAt codes counts (r .at)) ≡ code → ⊥) → ⊥
+  pub finds-a-neighbour : r .named ≡ true → (entryCode (entryAt codes counts (r .at)) ≡ code → ⊥) → ⊥
   finds-a-neighbour e other =
       let at = placeFound codes counts code .at in
       let here = finds-code codes counts sound code .here (ap (λ (f : Found). f .named) (sym meets) ∙ e) in
       other
-      (ap (λ (f : Found). codeOf (entryAt codes counts (f .at))) meets
-      ∙ ap (λ (e : Entry). codeOf e) (sym (entry-there codes counts at (omega (arith, here .inside, length-entries codes counts))))
+      (ap (λ (f : Found). entryCode (entryAt codes counts (f .at))) meets
+      ∙ ap (λ (e : Entry). entryCode e) (sym (entry-there codes counts at (omega (arith, here .inside, length-entries codes counts))))
       ∙ here .code)
 
 -- what meets the contract of `is_sound`
 module _ (codes counts : List ℕ) {r : Bool} (meets : r ≡ soundIndex codes counts) where
   -- a judge that takes a code twice, at places next to each other or further apart
-  pub takes-a-code-twice : (i j : ℕ) → i < j → j < namedIn counts → codeOf (entryAt codes counts i) ≡ codeOf (entryAt codes counts j) → r ≡ true → ⊥
+  pub takes-a-code-twice : (i j : ℕ) → i < j → j < namedIn counts → entryCode (entryAt codes counts i) ≡ entryCode (entryAt codes counts j) → r ≡ true → ⊥
   takes-a-code-twice i j h k twice e =
       before-not-same
       (rises-between [] (entriesIn codes counts) (sound-rises codes counts (sym meets ∙ e)) i j h (omega (arith, k, length-entries codes counts)))
-      (ap₂ (λ (d e : Entry). byteOrder (codeOf d) (codeOf e)) (entry-there codes counts i (omega (arith, h, k))) (entry-there codes counts j k)
-      ∙ ap (byteOrder (codeOf (entryAt codes counts i))) (sym twice)
-      ∙ order-self (codeOf (entryAt codes counts i)))
+      (ap₂ (λ (d e : Entry). byteOrder (entryCode d) (entryCode e)) (entry-there codes counts i (omega (arith, h, k))) (entry-there codes counts j k)
+      ∙ ap (byteOrder (entryCode (entryAt codes counts i))) (sym twice)
+      ∙ order-self (entryCode (entryAt codes counts i)))
 
   -- a judge that takes an empty code
   pub takes-an-empty-code : (i : ℕ) → i < namedIn counts → lengthOf (entryAt codes counts i) ≡ 0 → r ≡ true → ⊥
@@ -66,14 +66,14 @@ module _ (codes counts : List ℕ) {r : Bool} (meets : r ≡ soundIndex codes co
 
 -- entries of the same lengths and codes rise alike, whatever else stands in their places, and however often they were counted
 alike-rise : (f g : ℕ → Entry) (i n : ℕ) (last : List ℕ)
-    → ((k : ℕ) → i ≤ k → k < i + n → lengthOf (f k) ≡ lengthOf (g k)) → ((k : ℕ) → i ≤ k → k < i + n → codeOf (f k) ≡ codeOf (g k))
+    → ((k : ℕ) → i ≤ k → k < i + n → lengthOf (f k) ≡ lengthOf (g k)) → ((k : ℕ) → i ≤ k → k < i + n → entryCode (f k) ≡ entryCode (g k))
     → risesAfter last (values f i n) ≡ risesAfter last (values g i n)
 unfolding risesAfter values
 alike-rise f g i zero last long code = refl
 alike-rise f g i (suc n) last long code =
-    ap (λ (b : Bool). leb 1 (lengthOf (f i)) && leb (lengthOf (f i)) codeMost && before last (codeOf (f i)) && b)
-    (alike-rise f g (suc i) n (codeOf (f i)) (λ k low high. long k (omega arith) (omega arith)) (λ k low high. code k (omega arith) (omega arith)))
-    ∙ ap₂ (λ (m : ℕ) (c : List ℕ). leb 1 m && leb m codeMost && before last c && risesAfter c (values g (suc i) n))
+    ap (λ (b : Bool). leb 1 (lengthOf (f i)) && leb (lengthOf (f i)) codeMost && comesBefore last (entryCode (f i)) && b)
+    (alike-rise f g (suc i) n (entryCode (f i)) (λ k low high. long k (omega arith) (omega arith)) (λ k low high. code k (omega arith) (omega arith)))
+    ∙ ap₂ (λ (m : ℕ) (c : List ℕ). leb 1 m && leb m codeMost && comesBefore last c && risesAfter c (values g (suc i) n))
     (long i (omega arith) (omega arith)) (code i (omega arith) (omega arith))
 
 module _ (codes counts codes′ counts′ : List ℕ) {r s : Bool} (meets : r ≡ soundIndex codes counts) (meets′ : s ≡ soundIndex codes′ counts′) where
@@ -81,7 +81,7 @@ module _ (codes counts codes′ counts′ : List ℕ) {r s : Bool} (meets : r �
   -- lengths of the buffers, how many codes are named, and those codes with the lengths that stand before them
   pub refuses-what-stands-behind : length codes ≡ length codes′ → length counts ≡ length counts′ → namedIn counts ≡ namedIn counts′
       → ((i : ℕ) → i < namedIn counts → lengthOf (entryAt codes counts i) ≡ lengthOf (entryAt codes′ counts′ i))
-      → ((i : ℕ) → i < namedIn counts → codeOf (entryAt codes counts i) ≡ codeOf (entryAt codes′ counts′ i))
+      → ((i : ℕ) → i < namedIn counts → entryCode (entryAt codes counts i) ≡ entryCode (entryAt codes′ counts′ i))
       → r ≡ s
   unfolding soundIndex roomy entriesIn
   refuses-what-stands-behind a b n long code =

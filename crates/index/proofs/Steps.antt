@@ -10,9 +10,9 @@ use Rattle.laws.specs.Lists.{same}
 use Rattle.laws.proofs.Lists.{same-self, same-equal}
 use Rattle.laws.proofs.Tests.{Tested, passed, failed, tested, never-both, and-first, and-second, and-both}
 use Rattle.index.specs.declared.code.Compared.the-variants.{Before, After}
-use Rattle.index.specs.Order.{byteOrder, before}
-use Rattle.index.specs.Index.{Entry, codeMost, lengthOf, codeOf, risesAfter, names, countOf}
-use Rattle.index.specs.Adding.{newEntry, oneMore, added}
+use Rattle.index.specs.Order.{byteOrder, comesBefore}
+use Rattle.index.specs.Index.{Entry, codeMost, lengthOf, entryCode, risesAfter, names, countOf}
+use Rattle.index.specs.Adding.{newEntry, oneMore, codeAdded}
 use Rattle.index.proofs.Orders.{before-is, is-before, after-not-before, before-differs, after-differs, before-trans}
 
 -- the test `same` goes either way
@@ -29,49 +29,49 @@ same-sym s t = go (tested (same s t)) (tested (same t s))
 
 -- what is named, and what is counted
 module _ (e : Entry) (es : List Entry) (d : List ℕ) where
-  pub names-hit : same d (codeOf e) ≡ true → names (e ∷ es) d ≡ true
+  pub names-hit : same d (entryCode e) ≡ true → names (e ∷ es) d ≡ true
   unfolding names
   names-hit h = ap (λ (b : Bool). elim b [ true ↦ true | false ↦ names es d ]) h
 
-  pub names-miss : same d (codeOf e) ≡ false → names (e ∷ es) d ≡ names es d
+  pub names-miss : same d (entryCode e) ≡ false → names (e ∷ es) d ≡ names es d
   unfolding names
   names-miss h = ap (λ (b : Bool). elim b [ true ↦ true | false ↦ names es d ]) h
 
-  pub count-hit : same d (codeOf e) ≡ true → countOf (e ∷ es) d ≡ e .count
+  pub count-hit : same d (entryCode e) ≡ true → countOf (e ∷ es) d ≡ e .count
   unfolding countOf
   count-hit h = ap (λ (b : Bool). elim b [ true ↦ e .count | false ↦ countOf es d ]) h
 
-  pub count-miss : same d (codeOf e) ≡ false → countOf (e ∷ es) d ≡ countOf es d
+  pub count-miss : same d (entryCode e) ≡ false → countOf (e ∷ es) d ≡ countOf es d
   unfolding countOf
   count-miss h = ap (λ (b : Bool). elim b [ true ↦ e .count | false ↦ countOf es d ]) h
 
 -- where a code is added
 module _ (c : List ℕ) (e : Entry) (es : List Entry) where
-  added-by : (x y : Bool) → same c (codeOf e) ≡ x → before c (codeOf e) ≡ y
-      → added c (e ∷ es)
-      ≡ elim x [ true ↦ oneMore e ∷ es | false ↦ elim y [ true ↦ newEntry c ∷ e ∷ es | false ↦ e ∷ added c es ] ]
-  unfolding added
+  added-by : (x y : Bool) → same c (entryCode e) ≡ x → comesBefore c (entryCode e) ≡ y
+      → codeAdded c (e ∷ es)
+      ≡ elim x [ true ↦ oneMore e ∷ es | false ↦ elim y [ true ↦ newEntry c ∷ e ∷ es | false ↦ e ∷ codeAdded c es ] ]
+  unfolding codeAdded
   added-by x y f g =
       ap₂
       (λ (v w : Bool).
-      elim v [ true ↦ oneMore e ∷ es | false ↦ elim w [ true ↦ newEntry c ∷ e ∷ es | false ↦ e ∷ added c es ] ])
+      elim v [ true ↦ oneMore e ∷ es | false ↦ elim w [ true ↦ newEntry c ∷ e ∷ es | false ↦ e ∷ codeAdded c es ] ])
       f g
 
-  pub added-here : same c (codeOf e) ≡ true → added c (e ∷ es) ≡ oneMore e ∷ es
-  added-here h = added-by true (before c (codeOf e)) h refl
+  pub added-here : same c (entryCode e) ≡ true → codeAdded c (e ∷ es) ≡ oneMore e ∷ es
+  added-here h = added-by true (comesBefore c (entryCode e)) h refl
 
-  pub added-sooner : byteOrder c (codeOf e) ≡ Before → added c (e ∷ es) ≡ newEntry c ∷ e ∷ es
-  added-sooner h = added-by false true (before-differs c (codeOf e) h) (is-before c (codeOf e) h)
+  pub added-sooner : byteOrder c (entryCode e) ≡ Before → codeAdded c (e ∷ es) ≡ newEntry c ∷ e ∷ es
+  added-sooner h = added-by false true (before-differs c (entryCode e) h) (is-before c (entryCode e) h)
 
-  pub added-later : byteOrder c (codeOf e) ≡ After → added c (e ∷ es) ≡ e ∷ added c es
-  added-later h = added-by false false (after-differs c (codeOf e) h) (after-not-before c (codeOf e) h)
+  pub added-later : byteOrder c (entryCode e) ≡ After → codeAdded c (e ∷ es) ≡ e ∷ codeAdded c es
+  added-later h = added-by false false (after-differs c (entryCode e) h) (after-not-before c (entryCode e) h)
 
 -- entries that rise: the first is behind the last code, and the rest rises after it
 pub record Rising (last : List ℕ) (e : Entry) (es : List Entry) : Type 0 where
   pub some : 1 ≤ lengthOf e
   pub short : lengthOf e ≤ codeMost
-  pub behind : byteOrder last (codeOf e) ≡ Before
-  pub rest : risesAfter (codeOf e) es ≡ true
+  pub behind : byteOrder last (entryCode e) ≡ Before
+  pub rest : risesAfter (entryCode e) es ≡ true
 
 module _ (last : List ℕ) (e : Entry) (es : List Entry) where
   pub rises-rising : risesAfter last (e ∷ es) ≡ true → Rising last e es
@@ -79,14 +79,14 @@ module _ (last : List ℕ) (e : Entry) (es : List Entry) where
   rises-rising h =
       let a = leb 1 (lengthOf e) in
       let b = leb (lengthOf e) codeMost in
-      let c = before last (codeOf e) in
-      let d = risesAfter (codeOf e) es in
+      let c = comesBefore last (entryCode e) in
+      let d = risesAfter (entryCode e) es in
       let abc = and-first (a && b && c) d h in
       let ab = and-first (a && b) c abc in
       record {
         some = leb-true 1 (lengthOf e) (and-first a b ab);
         short = leb-true (lengthOf e) codeMost (and-second a b ab);
-        behind = before-is last (codeOf e) (and-second (a && b) c abc);
+        behind = before-is last (entryCode e) (and-second (a && b) c abc);
         rest = and-second (a && b && c) d h;
       }
 
@@ -94,7 +94,7 @@ module _ (last : List ℕ) (e : Entry) (es : List Entry) where
   unfolding risesAfter
   rising-rises r =
       and-both
-      (and-both (and-both (le-leb 1 (lengthOf e) (r .some)) (le-leb (lengthOf e) codeMost (r .short))) (is-before last (codeOf e) (r .behind)))
+      (and-both (and-both (le-leb 1 (lengthOf e) (r .some)) (le-leb (lengthOf e) codeMost (r .short))) (is-before last (entryCode e) (r .behind)))
       (r .rest)
 
 -- what rises after a code rises after each one before it
@@ -106,7 +106,7 @@ rises-lower c last (e ∷ es) h w =
     rising-rises c e es (record {
       some = r .some;
       short = r .short;
-      behind = before-trans c last (codeOf e) h (r .behind);
+      behind = before-trans c last (entryCode e) h (r .behind);
       rest = r .rest;
     })
 
@@ -116,15 +116,15 @@ unfolding names
 rises-unnamed c [] w = refl
 rises-unnamed c (e ∷ es) w =
     let r = rises-rising c e es w in
-    names-miss e es c (before-differs c (codeOf e) (r .behind))
-    ∙ rises-unnamed c es (rises-lower c (codeOf e) es (r .behind) (r .rest))
+    names-miss e es c (before-differs c (entryCode e) (r .behind))
+    ∙ rises-unnamed c es (rises-lower c (entryCode e) es (r .behind) (r .rest))
 
 -- what is not named is not counted
 pub unnamed-uncounted : (es : List Entry) (c : List ℕ) → names es c ≡ false → countOf es c ≡ 0
 unfolding countOf
 unnamed-uncounted [] c n = refl
-unnamed-uncounted (e ∷ es) c n = go (tested (same c (codeOf e))) (unnamed-uncounted es c)
+unnamed-uncounted (e ∷ es) c n = go (tested (same c (entryCode e))) (unnamed-uncounted es c)
   where
-    go : Tested (same c (codeOf e)) → (names es c ≡ false → countOf es c ≡ 0) → countOf (e ∷ es) c ≡ 0
+    go : Tested (same c (entryCode e)) → (names es c ≡ false → countOf es c ≡ 0) → countOf (e ∷ es) c ≡ 0
     go (passed h) ih = absurd (never-both (names-hit e es c h) n)
     go (failed h) ih = count-miss e es c h ∙ ih (sym (names-miss e es c h) ∙ n)

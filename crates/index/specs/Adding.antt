@@ -8,15 +8,15 @@ use lib.Dec.{leb, ltb, eqb}
 use lib.ListN.{length, replicate, take, drop, getD}
 use lib.Seq.{sets}
 use Rattle.laws.specs.Lists.{same}
-use Rattle.index.specs.Order.{before}
+use Rattle.index.specs.Order.{comesBefore}
 use Rattle.index.specs.declared.finding.Found.{Found}
 use Rattle.index.specs.Refusals.{longCode, fullIndex, fullCount, noIndex}
-use Rattle.index.specs.Index.{Entry, codeOf, codesMost, codeMost, countsPast, namedIn, entriesIn, roomy, names, countOf, codesPut, countsPut}
-use Rattle.index.specs.inner.Halving.{soughtBy}
+use Rattle.index.specs.Index.{Entry, entryCode, codesMost, codeMost, countsPast, namedIn, entriesIn, roomy, names, countOf, codesPut, countsPut}
+use Rattle.index.specs.inner.Halving.{soughtAmong}
 
 -- a code as a place: its length, its bytes, and zeros behind them
-unfoldable pub placed : List ℕ → List ℕ
-placed c = length c ∷ (c ++ replicate (codeMost - length c) 0)
+unfoldable pub placeOfCode : List ℕ → List ℕ
+placeOfCode c = length c ∷ (c ++ replicate (codeMost - length c) 0)
 
 -- no entry
 abbrev pub nothing : Entry
@@ -24,24 +24,24 @@ nothing = record { place = []; count = 0 }
 
 -- a new code, which has been counted once; an entry counted once more
 abbrev pub newEntry : List ℕ → Entry
-newEntry c = record { place = placed c; count = 1 }
+newEntry c = record { place = placeOfCode c; count = 1 }
 
 abbrev pub oneMore : Entry → Entry
 oneMore e = record { place = e .place; count = suc (e .count) }
 
 -- a code added: counted once more where it is named, else put before the first code that it is before
-unfoldable pub added : List ℕ → List Entry → List Entry
-added c [] = newEntry c ∷ []
-added c (e ∷ es) =
-    elim (same c (codeOf e)) [
+unfoldable pub codeAdded : List ℕ → List Entry → List Entry
+codeAdded c [] = newEntry c ∷ []
+codeAdded c (e ∷ es) =
+    elim (same c (entryCode e)) [
       | true ↦ oneMore e ∷ es
-      | false ↦ elim (before c (codeOf e)) [ true ↦ newEntry c ∷ e ∷ es | false ↦ e ∷ added c es ]
+      | false ↦ elim (comesBefore c (entryCode e)) [ true ↦ newEntry c ∷ e ∷ es | false ↦ e ∷ codeAdded c es ]
     ]
 
 -- codes added one after the other
 unfoldable pub addedAll : List (List ℕ) → List Entry → List Entry
 addedAll [] es = es
-addedAll (c ∷ cs) es = addedAll cs (added c es)
+addedAll (c ∷ cs) es = addedAll cs (codeAdded c es)
 
 -- whether entries are more than an index has places for (51); whether a count is too large (52)
 abbrev pub tooMany : List Entry → Bool
@@ -73,8 +73,8 @@ additionAt c es f =
 unfoldable pub additionOf : List ℕ → List Entry → Addition
 additionOf c es =
     elim (names es c) [
-      | true ↦ elim (leb countsPast (suc (countOf es c))) [ true ↦ declines fullCount | false ↦ gives (added c es) ]
-      | false ↦ elim (leb codesMost (length es)) [ true ↦ declines fullIndex | false ↦ gives (added c es) ]
+      | true ↦ elim (leb countsPast (suc (countOf es c))) [ true ↦ declines fullCount | false ↦ gives (codeAdded c es) ]
+      | false ↦ elim (leb codesMost (length es)) [ true ↦ declines fullIndex | false ↦ gives (codeAdded c es) ]
     ]
 
 unfoldable pub addition : (c codes counts : List ℕ) → Addition
@@ -85,7 +85,7 @@ addition c codes counts =
             | true ↦ leaves
             | false ↦
                 elim (leb (length c) codeMost) [
-                  | true ↦ additionAt c (entriesIn codes counts) (soughtBy codes (namedIn counts) c)
+                  | true ↦ additionAt c (entriesIn codes counts) (soughtAmong codes (namedIn counts) c)
                   | false ↦ declines longCode
                 ]
           ]

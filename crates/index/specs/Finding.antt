@@ -13,13 +13,13 @@ use Rattle.index.specs.declared.asking.Count.the-variants as N
 use Rattle.index.specs.declared.asking.Code.{Code}
 use Rattle.index.specs.declared.asking.Code.the-variants as K
 use Rattle.index.specs.Index.{codeMost, placeSize, namedIn, roomy}
-use Rattle.index.specs.inner.Halving.{soughtBy, missingAt}
+use Rattle.index.specs.inner.Halving.{soughtAmong, missingAt}
 use Rattle.index.specs.inner.Rising.{lengthAt}
 
 -- the place that halving comes to; none where nothing can be found
 unfoldable pub placeFound : (codes counts code : List ℕ) → Found
 placeFound codes counts code =
-    elim (roomy codes counts && leb (length code) codeMost) [ true ↦ soughtBy codes (namedIn counts) code | false ↦ missingAt 0 ]
+    elim (roomy codes counts && leb (length code) codeMost) [ true ↦ soughtAmong codes (namedIn counts) code | false ↦ missingAt 0 ]
 
 -- how many codes are named
 unfoldable pub codesAsked : (codes counts : List ℕ) → Codes

@@ -7,7 +7,7 @@ use lib.Dec.{leb}
 use lib.ListN.{length, take, drop, getD}
 use Rattle.laws.specs.Lists.{same, concat}
 use Rattle.laws.specs.Tables.{values}
-use Rattle.index.specs.Order.{before}
+use Rattle.index.specs.Order.{comesBefore}
 
 -- how many codes an index has places for; the longest code; a place: the length of its code, and room for the longest
 abbrev pub codesMost : ℕ
@@ -32,8 +32,8 @@ pub record Entry : Type 0 where
 abbrev pub lengthOf : Entry → ℕ
 lengthOf e = getD (e .place) 0 0
 
-abbrev pub codeOf : Entry → List ℕ
-codeOf e = take (lengthOf e) (drop 1 (e .place))
+abbrev pub entryCode : Entry → List ℕ
+entryCode e = take (lengthOf e) (drop 1 (e .place))
 
 -- of the two buffers: how many codes are named, and what stands at place i, counted from 0
 abbrev pub namedIn : List ℕ → ℕ
@@ -54,7 +54,7 @@ roomy codes counts =
 -- codes of 1 to 22 bytes, each before the next; `last` is before the first of them
 unfoldable pub risesAfter : List ℕ → List Entry → Bool
 risesAfter last [] = true
-risesAfter last (e ∷ es) = leb 1 (lengthOf e) && leb (lengthOf e) codeMost && before last (codeOf e) && risesAfter (codeOf e) es
+risesAfter last (e ∷ es) = leb 1 (lengthOf e) && leb (lengthOf e) codeMost && comesBefore last (entryCode e) && risesAfter (entryCode e) es
 
 -- every code is behind the empty one, which is none
 abbrev pub rises : List Entry → Bool
@@ -67,11 +67,11 @@ soundIndex codes counts = roomy codes counts && rises (entriesIn codes counts)
 -- what an index names, and what it counts for a code: 0 for one that it does not name
 unfoldable pub names : List Entry → List ℕ → Bool
 names [] c = false
-names (e ∷ es) c = elim (same c (codeOf e)) [ true ↦ true | false ↦ names es c ]
+names (e ∷ es) c = elim (same c (entryCode e)) [ true ↦ true | false ↦ names es c ]
 
 unfoldable pub countOf : List Entry → List ℕ → ℕ
 countOf [] c = 0
-countOf (e ∷ es) c = elim (same c (codeOf e)) [ true ↦ e .count | false ↦ countOf es c ]
+countOf (e ∷ es) c = elim (same c (entryCode e)) [ true ↦ e .count | false ↦ countOf es c ]
 
 -- what entries put at the front of the two buffers
 unfoldable pub codesPut : List Entry → List ℕ

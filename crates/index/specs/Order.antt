@@ -21,5 +21,5 @@ isBefore Before = true
 isBefore Same = false
 isBefore After = false
 
-abbrev pub before : List ℕ → List ℕ → Bool
-before s t = isBefore (byteOrder s t)
+abbrev pub comesBefore : List ℕ → List ℕ → Bool
+comesBefore s t = isBefore (byteOrder s t)

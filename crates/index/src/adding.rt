@@ -11,7 +11,7 @@ ghost use Prim.Native.Nat.{_+_, _-_, _≤_, _<_};
 ghost use lib.ListN.{length, take, drop, getD};
 ghost use lib.Seq.{sets};
 ghost use Rattle.index.specs.Index.{codeMost, placeSize};
-ghost use Rattle.index.specs.Adding.{placed, AddsAs};
+ghost use Rattle.index.specs.Adding.{placeOfCode, AddsAs};
 ghost use Rattle.index.specs.inner.Changing.{CountsOnceMore, Insertable, Inserts};
 
 // What was added.
@@ -99,7 +99,7 @@ fn move_counts(counts: &mut [u32], from: usize, end: usize)
 // A code at a place: its length, its bytes, and zeros behind them.
 fn put_code(code: &[u8], codes: &mut [u8], at: usize)
     requires { ⌜ (length (now code) ≤ codeMost) × (at + placeSize ≤ length (now codes)) ⌝ }
-    ensures { λ _. ⌜ now (codes .exit) ≡ sets (now (codes .entry)) at (placed (now (code .entry))) ⌝ }
+    ensures { λ _. ⌜ now (codes .exit) ≡ sets (now (codes .entry)) at (placeOfCode (now (code .entry))) ⌝ }
 {
     codes[at] = code.len() as u8;
     let mut k = 0;

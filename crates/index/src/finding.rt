@@ -10,7 +10,7 @@ ghost use Prim.Native.Nat.{_*_, _≤_};
 ghost use lib.ListN.{length};
 ghost use Rattle.index.specs.Index.{codesMost, codeMost, placeSize};
 ghost use Rattle.index.specs.Finding.{placeFound};
-ghost use Rattle.index.specs.inner.Halving.{soughtBy, missingAt};
+ghost use Rattle.index.specs.inner.Halving.{soughtAmong, missingAt};
 
 // A place, counted from 0, and whether the code is named there; where it is not, it would be put there.
 pub struct Found {
@@ -45,7 +45,7 @@ fn missing() -> Found
 // Among so many named codes: the half is kept that the code stands in.
 pub(crate) fn seek(codes: &[u8], named: usize, code: &[u8]) -> Found
     requires { ⌜ (named ≤ codesMost) × (codesMost * placeSize ≤ length (now codes)) × (length (now code) ≤ codeMost) ⌝ }
-    ensures { λ r. ⌜ r ≡ soughtBy (now (codes .entry)) named (now (code .entry)) ⌝ }
+    ensures { λ r. ⌜ r ≡ soughtAmong (now (codes .entry)) named (now (code .entry)) ⌝ }
 {
     let mut low = 0;
     let mut high = named;

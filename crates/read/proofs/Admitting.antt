@@ -25,10 +25,10 @@ use Rattle.index.proofs.Halved.{sound-roomy, sound-rises}
 use Rattle.read.specs.declared.admit.Admitted.{Admitted}
 use Rattle.read.specs.declared.census.Census.{Census}
 use Rattle.read.specs.declared.decide.Decision.{Decision}
-use Rattle.read.specs.Codes.{present, firstLong}
+use Rattle.read.specs.Codes.{codesCounted, firstLong}
 use Rattle.read.specs.Counting.{Counting, turned, counted, countedOr, tallyLeft, frontLeft}
 use Rattle.read.specs.inner.Census.{carriedIn, censusNumber, CensusOf}
-use Rattle.read.specs.inner.Admitting.{admission, numberOf, placeOf, AdmitsAs}
+use Rattle.read.specs.inner.Admitting.{admission, turnedNumber, turnedPlace, AdmitsAs}
 
 -- an index copied to the front of buffers of its size is the same index
 pub record Copied (codes counts new-codes new-counts : List ℕ) : Type 0 where
@@ -134,19 +134,19 @@ module _ (t : Tally) (segments results : ℕ) {r : Tallied} (is : r ≡ tallied 
 -- what is admitted, as it is answered and left in the index
 module _ (L : Limits) (d : Decision) (tally : Tally) (m codes counts : List ℕ) where
   abbrev E : List Entry
-  E = addedAll (present (carriedIn L (d .separators) m)) (entriesIn codes counts)
+  E = addedAll (codesCounted (carriedIn L (d .separators) m)) (entriesIn codes counts)
 
   abbrev T : Tally
-  T = withMessage tally (d .segments) (length (present (carriedIn L (d .separators) m)))
+  T = withMessage tally (d .segments) (length (codesCounted (carriedIn L (d .separators) m)))
 
   -- refused
   admits-turned : {number place : ℕ} → ((t : Table) → admission L d tally m codes counts t ≡ turned number place)
       → {a : Admitted} → a ≡ record { number = number; place = place; tally = tally } → AdmitsAs L d tally m codes counts a codes counts
-  unfolding numberOf placeOf tallyLeft frontLeft
+  unfolding turnedNumber turnedPlace tallyLeft frontLeft
   admits-turned h {a} is =
       record {
-        number = λ t. ap (λ (a : Admitted). a .number) is ∙ sym (ap numberOf (h t));
-        place = λ t. ap (λ (a : Admitted). a .place) is ∙ sym (ap placeOf (h t));
+        number = λ t. ap (λ (a : Admitted). a .number) is ∙ sym (ap turnedNumber (h t));
+        place = λ t. ap (λ (a : Admitted). a .place) is ∙ sym (ap turnedPlace (h t));
         tallyIs = λ t. ap (λ (a : Admitted). a .tally) is ∙ sym (ap (tallyLeft tally) (h t));
         codesAre = λ t. sym (ap (frontLeft codesPut codes) (h t));
         countsAre = λ t. sym (ap (frontLeft countsPut counts) (h t));
@@ -155,7 +155,7 @@ module _ (L : Limits) (d : Decision) (tally : Tally) (m codes counts : List ℕ)
   module _ {new-codes new-counts new-codes′ new-counts′ : List ℕ} {r : Census} (copy : Copied codes counts new-codes new-counts)
       (census : CensusOf (carriedIn L (d .separators) m) (entriesIn new-codes new-counts) r new-codes′ new-counts′) where
     number-is : r .number ≡ censusNumber (carriedIn L (d .separators) m) E
-    number-is = census .number ∙ ap (λ (es : List Entry). censusNumber (carriedIn L (d .separators) m) (addedAll (present (carriedIn L (d .separators) m)) es)) (copy .entries)
+    number-is = census .number ∙ ap (λ (es : List Entry). censusNumber (carriedIn L (d .separators) m) (addedAll (codesCounted (carriedIn L (d .separators) m)) es)) (copy .entries)
 
     pub admits-none : (r .number ≡ 0 → ⊥) → {a : Admitted} → a ≡ record { number = r .number; place = r .place; tally = tally }
         → AdmitsAs L d tally m codes counts a codes counts
@@ -164,7 +164,7 @@ module _ (L : Limits) (d : Decision) (tally : Tally) (m codes counts : List ℕ)
         (λ t. census-turns (carriedIn L (d .separators) m) t E T (λ z. h (number-is ∙ z)) ∙ ap₂ turned (sym number-is) (sym (census .place)))
 
     module _ (none : r .number ≡ 0) {tried : Tallied} (is : tried ≡ tallied tally (d .segments) (r .results)) where
-      tried-is : tried ≡ tallied tally (d .segments) (length (present (carriedIn L (d .separators) m)))
+      tried-is : tried ≡ tallied tally (d .segments) (length (codesCounted (carriedIn L (d .separators) m)))
       tried-is = is ∙ ap (tallied tally (d .segments)) (census .results none)
 
       pub admits-no-more : tried .fits ≡ false → {a : Admitted} → a ≡ record { number = fullCount; place = 0; tally = tally }
@@ -178,12 +178,12 @@ module _ (L : Limits) (d : Decision) (tally : Tally) (m codes counts : List ℕ)
       pub admits : tried .fits ≡ true → {more : ℕ} {codes′ counts′ : List ℕ} → more ≡ namedIn new-counts′
           → codes′ ≡ sets codes 0 (take (more * placeSize) new-codes′) → counts′ ≡ sets counts 0 (take (more + 1) new-counts′)
           → AdmitsAs L d tally m codes counts (record { number = 0; place = 0; tally = tried .tally }) codes′ counts′
-      unfolding numberOf placeOf tallyLeft frontLeft
+      unfolding turnedNumber turnedPlace tallyLeft frontLeft
       admits h {more} {codes′} {counts′} named codes-are counts-are =
           let o : (t : Table) → admission L d tally m codes counts t ≡ counted t E T
           = λ t. all-counted (carriedIn L (d .separators) m) t E T (sym number-is ∙ none) (tally-fits tally (d .segments) _ tried-is h) in
           let there : entriesIn new-codes′ new-counts′ ≡ E
-          = census .entries none ∙ ap (addedAll (present (carriedIn L (d .separators) m))) (copy .entries) in
+          = census .entries none ∙ ap (addedAll (codesCounted (carriedIn L (d .separators) m))) (copy .entries) in
           let c : codes′ ≡ sets codes 0 (codesPut E)
           = codes-are ∙ ap (λ (n : ℕ). sets codes 0 (take (n * placeSize) new-codes′)) named
           ∙ ap (sets codes 0) (sym (put-codes new-codes′ new-counts′ (census .roomIs none)) ∙ ap codesPut there) in
@@ -191,8 +191,8 @@ module _ (L : Limits) (d : Decision) (tally : Tally) (m codes counts : List ℕ)
           = counts-are ∙ ap (λ (k : ℕ). sets counts 0 (take k new-counts′)) (let one : more + 1 ≡ suc (namedIn new-counts′) = omega (arith, named) in one)
           ∙ ap (sets counts 0) (sym (put-counts new-codes′ new-counts′ (census .roomIs none)) ∙ ap countsPut there) in
           record {
-            number = λ t. sym (ap numberOf (o t));
-            place = λ t. sym (ap placeOf (o t));
+            number = λ t. sym (ap turnedNumber (o t));
+            place = λ t. sym (ap turnedPlace (o t));
             tallyIs = λ t. tally-is tally (d .segments) _ tried-is h ∙ sym (ap (tallyLeft tally) (o t));
             codesAre = λ t. c ∙ sym (ap (frontLeft codesPut codes) (o t));
             countsAre = λ t. n ∙ sym (ap (frontLeft countsPut counts) (o t));

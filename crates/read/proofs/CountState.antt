@@ -12,7 +12,7 @@ use borrow.Author.Tests.{eq-eqb, ne-eqb, lt-ltb, le-ltb, ltb-true, leb-true, leb
 use Rattle.laws.proofs.Tests.{Tested, passed, failed, tested, and-both}
 use Rattle.index.specs.Refusals.{fullIndex, fullCount}
 use Rattle.index.specs.Index.{Entry, codesMost, countsPast, entriesIn, roomy, soundIndex, rises, names, countOf, codesPut, countsPut}
-use Rattle.index.specs.Adding.{added, tooMany, tooLarge, Addition, declines, gives, additionOf, additionNumber, frontAfter, AddsAs}
+use Rattle.index.specs.Adding.{codeAdded, tooMany, tooLarge, Addition, declines, gives, additionOf, additionNumber, frontAfter, AddsAs}
 use Rattle.index.proofs.Sizes.{Sized, Fit, Roomy, roomy-parts}
 use Rattle.index.proofs.Entries.{length-entries, entries-sized, entries-put, roomy-put}
 use Rattle.index.proofs.Added.{added-sized, added-rises, length-added}
@@ -47,10 +47,10 @@ data Tried (c codes counts : List ℕ) (r : ℕ) (codes′ counts′ : List ℕ)
   full-index : names (entriesIn codes counts) c ≡ false → codesMost ≤ length (entriesIn codes counts) → r ≡ fullIndex
       → codes′ ≡ codes → counts′ ≡ counts → Tried c codes counts r codes′ counts′
   once-more : names (entriesIn codes counts) c ≡ true → suc (countOf (entriesIn codes counts) c) < countsPast → r ≡ 0
-      → codes′ ≡ sets codes 0 (codesPut (added c (entriesIn codes counts))) → counts′ ≡ sets counts 0 (countsPut (added c (entriesIn codes counts)))
+      → codes′ ≡ sets codes 0 (codesPut (codeAdded c (entriesIn codes counts))) → counts′ ≡ sets counts 0 (countsPut (codeAdded c (entriesIn codes counts)))
       → Tried c codes counts r codes′ counts′
   new : names (entriesIn codes counts) c ≡ false → length (entriesIn codes counts) < codesMost → r ≡ 0
-      → codes′ ≡ sets codes 0 (codesPut (added c (entriesIn codes counts))) → counts′ ≡ sets counts 0 (countsPut (added c (entriesIn codes counts)))
+      → codes′ ≡ sets codes 0 (codesPut (codeAdded c (entriesIn codes counts))) → counts′ ≡ sets counts 0 (countsPut (codeAdded c (entriesIn codes counts)))
       → Tried c codes counts r codes′ counts′
 
 module _ (c codes counts : List ℕ) (sound : soundIndex codes counts ≡ true) (fit : Fit c) {r : ℕ} {codes′ counts′ : List ℕ}
@@ -77,13 +77,13 @@ module _ (c codes counts : List ℕ) (sound : soundIndex codes counts ≡ true) 
           let e : additionOf c es ≡ declines fullCount = rw (n, f, additionOf) in
           full-count n (leb-true _ _ f) (number-is e) (codes-are e) (counts-are e)
       by (passed n) (failed f) m =
-          let e : additionOf c es ≡ gives (added c es) = rw (n, f, additionOf) in
+          let e : additionOf c es ≡ gives (codeAdded c es) = rw (n, f, additionOf) in
           once-more n (leb-false _ _ f) (number-is e) (codes-are e) (counts-are e)
       by (failed n) f (passed m) =
           let e : additionOf c es ≡ declines fullIndex = rw (n, m, additionOf) in
           full-index n (leb-true _ _ m) (number-is e) (codes-are e) (counts-are e)
       by (failed n) f (failed m) =
-          let e : additionOf c es ≡ gives (added c es) = rw (n, m, additionOf) in
+          let e : additionOf c es ≡ gives (codeAdded c es) = rw (n, m, additionOf) in
           new n (leb-false _ _ m) (number-is e) (codes-are e) (counts-are e)
 
   -- entries with the code, put at the front, are what then stands there
@@ -93,27 +93,27 @@ module _ (c codes counts : List ℕ) (sound : soundIndex codes counts ≡ true) 
   rise : rises es ≡ true
   rise = sound-rises codes counts sound
 
-  sized : Sized (added c es)
+  sized : Sized (codeAdded c es)
   sized = added-sized c es fit (entries-sized codes counts (sound-roomy codes counts sound))
 
-  module _ (few : length (added c es) ≤ codesMost) (codes-put : codes′ ≡ sets codes 0 (codesPut (added c es))) (counts-put : counts′ ≡ sets counts 0 (countsPut (added c es))) where
-    put-entries : entriesIn codes′ counts′ ≡ added c es
-    put-entries = ap₂ entriesIn codes-put counts-put ∙ entries-put (added c es) codes counts sized few (room .codesRoom) (room .countsRoom)
+  module _ (few : length (codeAdded c es) ≤ codesMost) (codes-put : codes′ ≡ sets codes 0 (codesPut (codeAdded c es))) (counts-put : counts′ ≡ sets counts 0 (countsPut (codeAdded c es))) where
+    put-entries : entriesIn codes′ counts′ ≡ codeAdded c es
+    put-entries = ap₂ entriesIn codes-put counts-put ∙ entries-put (codeAdded c es) codes counts sized few (room .codesRoom) (room .countsRoom)
 
     put-sound : soundIndex codes′ counts′ ≡ true
     unfolding soundIndex
     put-sound =
-        and-both (ap₂ roomy codes-put counts-put ∙ roomy-put (added c es) codes counts sized few (room .codesRoom) (room .countsRoom))
+        and-both (ap₂ roomy codes-put counts-put ∙ roomy-put (codeAdded c es) codes counts sized few (room .codesRoom) (room .countsRoom))
         (ap rises put-entries ∙ added-rises c es fit rise)
 
-  few-named : names es c ≡ true → length (added c es) ≤ codesMost
+  few-named : names es c ≡ true → length (codeAdded c es) ≤ codesMost
   few-named n =
-      let same : length (added c es) ≡ length es = length-added c es rise ∙ ap {B = ℕ} (λ (t : Bool). elim t [ true ↦ length es | false ↦ suc (length es) ]) n in
+      let same : length (codeAdded c es) ≡ length es = length-added c es rise ∙ ap {B = ℕ} (λ (t : Bool). elim t [ true ↦ length es | false ↦ suc (length es) ]) n in
       omega (arith, same, length-entries codes counts, room .fewNamed)
 
-  few-new : names es c ≡ false → length es < codesMost → length (added c es) ≤ codesMost
+  few-new : names es c ≡ false → length es < codesMost → length (codeAdded c es) ≤ codesMost
   few-new n few =
-      let more : length (added c es) ≡ suc (length es) = length-added c es rise ∙ ap {B = ℕ} (λ (t : Bool). elim t [ true ↦ length es | false ↦ suc (length es) ]) n in
+      let more : length (codeAdded c es) ≡ suc (length es) = length-added c es rise ∙ ap {B = ℕ} (λ (t : Bool). elim t [ true ↦ length es | false ↦ suc (length es) ]) n in
       omega (arith, more)
 
 -- the entries E that codes give, and what stands in the buffers, by the number so far: just those, with no count too large; the same places, and a
@@ -137,15 +137,15 @@ module _ (E : List Entry) (rise-E : rises E ≡ true) (n : ℕ) (c codes counts 
   sound-kept e f = ap₂ soundIndex e f ∙ w .sound
 
   -- more than there are places for
-  many-new : names E c ≡ false → codesMost ≤ length E → tooMany (added c E) ≡ true
+  many-new : names E c ≡ false → codesMost ≤ length E → tooMany (codeAdded c E) ≡ true
   many-new u full =
-      let more : length (added c E) ≡ suc (length E) = length-added c E rise-E ∙ ap {B = ℕ} (λ (t : Bool). elim t [ true ↦ length E | false ↦ suc (length E) ]) u in
-      lt-ltb codesMost (length (added c E)) (omega (arith, more))
+      let more : length (codeAdded c E) ≡ suc (length E) = length-added c E rise-E ∙ ap {B = ℕ} (λ (t : Bool). elim t [ true ↦ length E | false ↦ suc (length E) ]) u in
+      lt-ltb codesMost (length (codeAdded c E)) (omega (arith, more))
 
-  many-still : tooMany E ≡ true → tooMany (added c E) ≡ true
-  many-still h = lt-ltb codesMost (length (added c E)) (omega (arith, ltb-true codesMost (length E) h, length-grows c E))
+  many-still : tooMany E ≡ true → tooMany (codeAdded c E) ≡ true
+  many-still h = lt-ltb codesMost (length (codeAdded c E)) (omega (arith, ltb-true codesMost (length E) h, length-grows c E))
 
-  from-held : n ≡ 0 → there ≡ E → tooLarge E ≡ false → Tried c codes counts r codes′ counts′ → CountedOn (added c E) (lowerOf n r) codes′ counts′
+  from-held : n ≡ 0 → there ≡ E → tooLarge E ≡ false → Tried c codes counts r codes′ counts′ → CountedOn (codeAdded c E) (lowerOf n r) codes′ counts′
   from-held z e small (full-count u f k cs ns) =
       record {
         sound = sound-kept cs ns;
@@ -166,7 +166,7 @@ module _ (E : List Entry) (rise-E : rises E ≡ true) (n : ℕ) (c codes counts 
         sound = put-sound c codes counts (w .sound) fit adds (few-named c codes counts (w .sound) fit adds u) cs ns;
         state =
             held (lower-second n r z ∙ k)
-            (put-entries c codes counts (w .sound) fit adds (few-named c codes counts (w .sound) fit adds u) cs ns ∙ ap (added c) e)
+            (put-entries c codes counts (w .sound) fit adds (few-named c codes counts (w .sound) fit adds u) cs ns ∙ ap (codeAdded c) e)
             (small-named c E rise-E (ap (λ (es : List Entry). names es c) (sym e) ∙ u) (subst (λ (es : List Entry). suc (countOf es c) < countsPast) e f) small);
       }
   from-held z e small (new u f k cs ns) =
@@ -174,7 +174,7 @@ module _ (E : List Entry) (rise-E : rises E ≡ true) (n : ℕ) (c codes counts 
         sound = put-sound c codes counts (w .sound) fit adds (few-new c codes counts (w .sound) fit adds u f) cs ns;
         state =
             held (lower-second n r z ∙ k)
-            (put-entries c codes counts (w .sound) fit adds (few-new c codes counts (w .sound) fit adds u f) cs ns ∙ ap (added c) e)
+            (put-entries c codes counts (w .sound) fit adds (few-new c codes counts (w .sound) fit adds u f) cs ns ∙ ap (codeAdded c) e)
             (small-new c E (ap (λ (es : List Entry). names es c) (sym e) ∙ u) small);
       }
 
@@ -182,7 +182,7 @@ module _ (E : List Entry) (rise-E : rises E ≡ true) (n : ℕ) (c codes counts 
   not-zero e z = omega (arith, e, z)
 
   from-large : n ≡ fullCount → placeList there ≡ placeList E → tooLarge E ≡ true → Tried c codes counts r codes′ counts′
-      → CountedOn (added c E) (lowerOf n r) codes′ counts′
+      → CountedOn (codeAdded c E) (lowerOf n r) codes′ counts′
   from-large z e big (full-count u f k cs ns) =
       record {
         sound = sound-kept cs ns;
@@ -215,7 +215,7 @@ module _ (E : List Entry) (rise-E : rises E ≡ true) (n : ℕ) (c codes counts 
             (large-added c E big);
       }
 
-  from-many : n ≡ fullIndex → tooMany E ≡ true → Tried c codes counts r codes′ counts′ → CountedOn (added c E) (lowerOf n r) codes′ counts′
+  from-many : n ≡ fullIndex → tooMany E ≡ true → Tried c codes counts r codes′ counts′ → CountedOn (codeAdded c E) (lowerOf n r) codes′ counts′
   from-many z h (full-count u f k cs ns) =
       record {
         sound = sound-kept cs ns;
@@ -237,10 +237,10 @@ module _ (E : List Entry) (rise-E : rises E ≡ true) (n : ℕ) (c codes counts 
         state = many (lower-first n r (λ y. omega (arith, z, y)) k ∙ z) (many-still h);
       }
 
-  pub counted-on : CountedOn (added c E) (lowerOf n r) codes′ counts′
+  pub counted-on : CountedOn (codeAdded c E) (lowerOf n r) codes′ counts′
   counted-on = by (w .state)
     where
-      by : CountState E n codes counts → CountedOn (added c E) (lowerOf n r) codes′ counts′
+      by : CountState E n codes counts → CountedOn (codeAdded c E) (lowerOf n r) codes′ counts′
       by (held z e small) = from-held z e small (tried c codes counts (w .sound) fit adds)
       by (large z e big) = from-large z e big (tried c codes counts (w .sound) fit adds)
       by (many z h) = from-many z h (tried c codes counts (w .sound) fit adds)

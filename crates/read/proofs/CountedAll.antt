@@ -20,36 +20,36 @@ use Rattle.form.specs.declared.limits.Limits.{Limits}
 use Rattle.form.specs.declared.separators.Separators.{Separators}
 use Rattle.index.specs.Refusals.{longCode, fullIndex, fullCount}
 use Rattle.index.specs.Index.{Entry, codeMost, codesMost, countsPast, namedIn, entryAt, entriesIn, rises, soundIndex}
-use Rattle.index.specs.Adding.{added, addedAll, tooMany, tooLarge}
+use Rattle.index.specs.Adding.{codeAdded, addedAll, tooMany, tooLarge}
 use Rattle.index.proofs.Sizes.{Fit, roomy-parts}
 use Rattle.index.proofs.Entries.{length-entries}
 use Rattle.index.proofs.SamePlaces.{same-many}
 use Rattle.index.proofs.AddedAll.{addedAll-last, all-rises}
 use Rattle.index.proofs.Halved.{sound-roomy, sound-rises}
 use Rattle.read.specs.declared.census.Census.{Census}
-use Rattle.read.specs.Codes.{codeCarried, present, firstLong}
+use Rattle.read.specs.Codes.{codeCarried, codesCounted, firstLong}
 use Rattle.read.specs.Sound.{segmentsIn}
 use Rattle.read.specs.inner.Census.{carriedIn, carriedBy, censusNumber, CensusOf, RowCounted, passedOver, long, tried}
 use Rattle.read.proofs.CountState.{CountState, held, large, many, CountedOn, counted-on}
 
 -- what is present of some codes and one more
-present-append : (cs : List (List ℕ)) (c : List ℕ) → present (cs ++ (c ∷ [])) ≡ present cs ++ present (c ∷ [])
-unfolding present
+present-append : (cs : List (List ℕ)) (c : List ℕ) → codesCounted (cs ++ (c ∷ [])) ≡ codesCounted cs ++ codesCounted (c ∷ [])
+unfolding codesCounted
 present-append [] c = refl
 present-append (d ∷ cs) c = go (tested (eqb (length d) 0)) (present-append cs c)
   where
-    go : Tested (eqb (length d) 0) → present (cs ++ (c ∷ [])) ≡ present cs ++ present (c ∷ []) → present (d ∷ (cs ++ (c ∷ []))) ≡ present (d ∷ cs) ++ present (c ∷ [])
-    go (passed e) ih = rw (e, present) ih
-    go (failed e) ih = rw (e, present) (ap (λ (t : List (List ℕ)). d ∷ t) ih)
+    go : Tested (eqb (length d) 0) → codesCounted (cs ++ (c ∷ [])) ≡ codesCounted cs ++ codesCounted (c ∷ []) → codesCounted (d ∷ (cs ++ (c ∷ []))) ≡ codesCounted (d ∷ cs) ++ codesCounted (c ∷ [])
+    go (passed e) ih = rw (e, codesCounted) ih
+    go (failed e) ih = rw (e, codesCounted) (ap (λ (t : List (List ℕ)). d ∷ t) ih)
 
 module _ (c : List ℕ) where
-  present-none : length c ≡ 0 → present (c ∷ []) ≡ []
-  unfolding present
-  present-none h = rw (eq-eqb (length c) 0 h, present)
+  present-none : length c ≡ 0 → codesCounted (c ∷ []) ≡ []
+  unfolding codesCounted
+  present-none h = rw (eq-eqb (length c) 0 h, codesCounted)
 
-  present-one : 1 ≤ length c → present (c ∷ []) ≡ c ∷ []
-  unfolding present
-  present-one h = rw (ne-eqb (length c) 0 (λ e. omega arith), present)
+  present-one : 1 ≤ length c → codesCounted (c ∷ []) ≡ c ∷ []
+  unfolding codesCounted
+  present-one h = rw (ne-eqb (length c) 0 (λ e. omega arith), codesCounted)
 
 -- what is first stays first, whatever follows
 first-stays-first : (p : List ℕ → Bool) (n : ℕ) (s t : List (List ℕ)) → (firstFrom p n s ≡ 0 → ⊥) → firstFrom p n (s ++ t) ≡ firstFrom p n s
@@ -110,13 +110,13 @@ small-entries codes counts small = go 0 (namedIn counts)
     go i (suc n) = or-fails (lt-leb countsPast (getD counts (suc i) 0) (small (suc i))) (go (suc i) n)
 
 -- no more are present than there are, nor more taken than are asked for
-few-present : (ds : List (List ℕ)) → length (present ds) ≤ length ds
-unfolding present
+few-present : (ds : List (List ℕ)) → length (codesCounted ds) ≤ length ds
+unfolding codesCounted
 few-present [] = omega arith
 few-present (d ∷ ds) =
     ⊎-elim
-    (λ (e : eqb (length d) 0 ≡ true). rw (e, present) (omega (arith, few-present ds)))
-    (λ (e : eqb (length d) 0 ≡ false). rw (e, present) (omega (arith, few-present ds)))
+    (λ (e : eqb (length d) 0 ≡ true). rw (e, codesCounted) (omega (arith, few-present ds)))
+    (λ (e : eqb (length d) 0 ≡ false). rw (e, codesCounted) (omega (arith, few-present ds)))
     (either (eqb (length d) 0))
 
 length-taken : (n : ℕ) (ds : List (List ℕ)) → length (take n ds) ≤ n
@@ -127,15 +127,15 @@ length-taken (suc n) (d ∷ ds) = omega (arith, length-taken n ds)
 -- the rows so far
 pub record RowsCounted (cs : List (List ℕ)) (es : List Entry) (row : ℕ) (census : Census) (codes counts : List ℕ) : Type 0 where
   pub none-long : firstLong (take row cs) ≡ 0
-  pub fit : All Fit (present (take row cs))
+  pub fit : All Fit (codesCounted (take row cs))
   pub rise : rises es ≡ true
-  pub results : census .results ≡ length (present (take row cs))
+  pub results : census .results ≡ length (codesCounted (take row cs))
   pub place : census .place ≡ 0
-  pub state : CountedOn (addedAll (present (take row cs)) es) (census .number) codes counts
+  pub state : CountedOn (addedAll (codesCounted (take row cs)) es) (census .number) codes counts
 
 pub rows-begin : {cs : List (List ℕ)} {codes counts : List ℕ} → soundIndex codes counts ≡ true → ((i : ℕ) → getD counts i 0 < countsPast)
     → RowsCounted cs (entriesIn codes counts) 0 (record { number = 0; place = 0; results = 0 }) codes counts
-unfolding firstLong firstFrom present addedAll
+unfolding firstLong firstFrom codesCounted addedAll
 rows-begin {codes = codes} {counts = counts} sound small =
     record {
       none-long = refl;
@@ -164,15 +164,15 @@ module _ {cs : List (List ℕ)} {es : List Entry} {row : ℕ} {census : Census} 
     next-row : take (row + 1) cs ≡ take row cs ++ (c ∷ [])
     next-row = ap (λ (n : ℕ). take n cs) (let e : row + 1 ≡ suc row = omega arith in e) ∙ take-suc cs row [] within
 
-    next-present : present (take (row + 1) cs) ≡ present (take row cs) ++ present (c ∷ [])
-    next-present = ap present next-row ∙ present-append (take row cs) c
+    next-present : codesCounted (take (row + 1) cs) ≡ codesCounted (take row cs) ++ codesCounted (c ∷ [])
+    next-present = ap codesCounted next-row ∙ present-append (take row cs) c
 
     -- one row more
     pub rows-on : {r : Census} {codes′ counts′ : List ℕ} → RowCounted c row census codes counts r codes′ counts′ → (r .number ≡ longCode → ⊥)
         → RowsCounted cs es (row + 1) r codes′ counts′
     rows-on {r} {codes′} {counts′} (passedOver none-there same-census same-codes same-counts) other =
-        let nothing : present (take (row + 1) cs) ≡ present (take row cs)
-        = next-present ∙ ap (λ (t : List (List ℕ)). present (take row cs) ++ t) (present-none c none-there) ∙ append-nil (present (take row cs)) in
+        let nothing : codesCounted (take (row + 1) cs) ≡ codesCounted (take row cs)
+        = next-present ∙ ap (λ (t : List (List ℕ)). codesCounted (take row cs) ++ t) (present-none c none-there) ∙ append-nil (codesCounted (take row cs)) in
         record {
           none-long = ap firstLong next-row ∙ not-long-here (take row cs) c (w .none-long) (omega arith);
           fit = subst⁻¹ (All Fit) nothing (w .fit);
@@ -181,28 +181,28 @@ module _ {cs : List (List ℕ)} {es : List Entry} {row : ℕ} {census : Census} 
           place = ap (λ (x : Census). x .place) same-census ∙ w .place;
           state =
               subst⁻¹ (λ (t : List (List ℕ)). CountedOn (addedAll t es) (r .number) codes′ counts′) nothing
-              (subst⁻¹ (λ (x : Census). CountedOn (addedAll (present (take row cs)) es) (x .number) codes′ counts′) same-census
-              (subst⁻¹ (λ (s : List ℕ). CountedOn (addedAll (present (take row cs)) es) (census .number) s counts′) same-codes
-              (subst⁻¹ (λ (s : List ℕ). CountedOn (addedAll (present (take row cs)) es) (census .number) codes s) same-counts (w .state))));
+              (subst⁻¹ (λ (x : Census). CountedOn (addedAll (codesCounted (take row cs)) es) (x .number) codes′ counts′) same-census
+              (subst⁻¹ (λ (s : List ℕ). CountedOn (addedAll (codesCounted (take row cs)) es) (census .number) s counts′) same-codes
+              (subst⁻¹ (λ (s : List ℕ). CountedOn (addedAll (codesCounted (take row cs)) es) (census .number) codes s) same-counts (w .state))));
         }
     rows-on (long too-long is) other = absurd (other (ap (λ (x : Census). x .number) is))
     rows-on {r} {codes′} {counts′} (tried some short number adds is) other =
-        let one : present (take (row + 1) cs) ≡ present (take row cs) ++ (c ∷ [])
-        = next-present ∙ ap (λ (t : List (List ℕ)). present (take row cs) ++ t) (present-one c some) in
+        let one : codesCounted (take (row + 1) cs) ≡ codesCounted (take row cs) ++ (c ∷ [])
+        = next-present ∙ ap (λ (t : List (List ℕ)). codesCounted (take row cs) ++ t) (present-one c some) in
         let fits : Fit c = record { some = some; short = short } in
-        let E : List Entry = addedAll (present (take row cs)) es in
+        let E : List Entry = addedAll (codesCounted (take row cs)) es in
         record {
           none-long = ap firstLong next-row ∙ not-long-here (take row cs) c (w .none-long) short;
           fit = subst⁻¹ (All Fit) one (all-append (w .fit) (also fits none));
           rise = w .rise;
           results =
               ap (λ (x : Census). x .results) is ∙ ap (λ (n : ℕ). n + 1) (w .results)
-              ∙ sym (ap length one ∙ length-append (present (take row cs)) (c ∷ []));
+              ∙ sym (ap length one ∙ length-append (codesCounted (take row cs)) (c ∷ []));
           place = ap (λ (x : Census). x .place) is;
           state =
-              subst⁻¹ (λ (t : List Entry). CountedOn t (r .number) codes′ counts′) (ap (λ (t : List (List ℕ)). addedAll t es) one ∙ addedAll-last (present (take row cs)) c es)
-              (subst⁻¹ (λ (x : Census). CountedOn (added c E) (x .number) codes′ counts′) is
-              (counted-on E (all-rises (present (take row cs)) es (w .fit) (w .rise)) (census .number) c codes counts (w .state) fits adds));
+              subst⁻¹ (λ (t : List Entry). CountedOn t (r .number) codes′ counts′) (ap (λ (t : List (List ℕ)). addedAll t es) one ∙ addedAll-last (codesCounted (take row cs)) c es)
+              (subst⁻¹ (λ (x : Census). CountedOn (codeAdded c E) (x .number) codes′ counts′) is
+              (counted-on E (all-rises (codesCounted (take row cs)) es (w .fit) (w .rise)) (census .number) c codes counts (w .state) fits adds));
         }
 
     -- a row whose code is too long
@@ -214,7 +214,7 @@ module _ {cs : List (List ℕ)} {es : List Entry} {row : ℕ} {census : Census} 
         let first : firstLong cs ≡ firstLong (take (row + 1) cs)
         = ap firstLong (sym (take-append-drop (row + 1) cs)) ∙ stays (λ e. omega (arith, here, e)) in
         record {
-          number = h ∙ sym (census-long cs (addedAll (present cs) es) (λ e. omega (arith, first, here, e)));
+          number = h ∙ sym (census-long cs (addedAll (codesCounted cs) es) (λ e. omega (arith, first, here, e)));
           place = ap (λ (x : Census). x .place) is ∙ sym (first ∙ here ∙ ap suc (length-take-le row cs (omega arith)) ∙ add-one-sym row);
           results = λ z. absurd (let y : ⊥ = omega (arith, z, h) in y);
           roomIs = λ z. absurd (let y : ⊥ = omega (arith, z, h) in y);
@@ -229,7 +229,7 @@ module _ {cs : List (List ℕ)} {es : List Entry} {row : ℕ} {census : Census} 
     rows-long (tried some short number adds is) h =
         absurd
         (state-number
-        (counted-on (addedAll (present (take row cs)) es) (all-rises (present (take row cs)) es (w .fit) (w .rise)) (census .number) c codes counts (w .state)
+        (counted-on (addedAll (codesCounted (take row cs)) es) (all-rises (codesCounted (take row cs)) es (w .fit) (w .rise)) (census .number) c codes counts (w .state)
         (record { some = some; short = short }) adds .state)
         (sym (ap (λ (x : Census). x .number) is) ∙ h))
 
@@ -239,7 +239,7 @@ module _ {cs : List (List ℕ)} {es : List Entry} {row : ℕ} {census : Census} 
     all-taken = take-all row cs past
 
     abbrev E : List Entry
-    E = addedAll (present cs) es
+    E = addedAll (codesCounted cs) es
 
     none-long-in : firstLong cs ≡ 0
     none-long-in = ap firstLong (sym all-taken) ∙ w .none-long
@@ -252,7 +252,7 @@ module _ {cs : List (List ℕ)} {es : List Entry} {row : ℕ} {census : Census} 
         record {
           number = z ∙ sym (census-held cs E none-long-in (le-ltb codesMost (length E) (subst (λ (t : List Entry). length t ≤ codesMost) same few)) small);
           place = w .place ∙ sym none-long-in;
-          results = λ o. w .results ∙ ap (λ (t : List (List ℕ)). length (present t)) all-taken;
+          results = λ o. w .results ∙ ap (λ (t : List (List ℕ)). length (codesCounted t)) all-taken;
           roomIs = λ o. sound-roomy codes counts (w .state .sound);
           entries = λ o. same;
         }
@@ -274,7 +274,7 @@ module _ {cs : List (List ℕ)} {es : List Entry} {row : ℕ} {census : Census} 
         }
 
     pub rows-done : CensusOf cs es census codes counts
-    rows-done = done-by (subst (λ (t : List (List ℕ)). CountState (addedAll (present t) es) (census .number) codes counts) all-taken (w .state .state))
+    rows-done = done-by (subst (λ (t : List (List ℕ)). CountState (addedAll (codesCounted t) es) (census .number) codes counts) all-taken (w .state .state))
 
 -- what the segment of a row carries is the row's code
 pub carried-at : (L : Limits) (ps : Separators) (m : List ℕ) (row : ℕ) → row < length (segmentsIn L ps m) → getD (carriedIn L ps m) row [] ≡ carriedBy L ps m row

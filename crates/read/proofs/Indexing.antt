@@ -26,22 +26,22 @@ use Rattle.read.specs.declared.admit.Admitted.{Admitted}
 use Rattle.read.specs.declared.decide.Decision.{Decision}
 use Rattle.read.specs.declared.indexed.Indexed.{Indexed}
 use Rattle.read.specs.Answering.{Gives, answerOf}
-use Rattle.read.specs.Codes.{codesIn, present, firstLong}
+use Rattle.read.specs.Codes.{codesIn, codesCounted, firstLong}
 use Rattle.read.specs.Counting.{Counting, turned, counted, Ledger, countedOr, countingOf, counting, asOutcome, tallyLeft, frontLeft, Leaves, IndexedAs}
-use Rattle.read.specs.inner.Admitting.{IndexesWithin, Admissible, AdmitsAs, admission, numberOf, placeOf}
+use Rattle.read.specs.inner.Admitting.{IndexesWithin, Admissible, AdmitsAs, admission, turnedNumber, turnedPlace}
 use Rattle.read.specs.inner.Census.{carriedIn}
 use Rattle.read.specs.inner.Deciding.{DecidesAs}
 use Rattle.read.specs.inner.Filling.{tableIn}
 use Rattle.read.proofs.Answering.{gives-refusal, refuses-reading, accepts-table, form-within}
 
 -- what is turned away is a refusal by its number and place, and leaves the tally
-pub turned-outcome : (o : Counting) → (numberOf o ≡ 0 → ⊥) → asOutcome o ≡ refused (numberOf o) (placeOf o)
-unfolding asOutcome numberOf placeOf
+pub turned-outcome : (o : Counting) → (turnedNumber o ≡ 0 → ⊥) → asOutcome o ≡ refused (turnedNumber o) (turnedPlace o)
+unfolding asOutcome turnedNumber turnedPlace
 turned-outcome (turned n p) h = refl
 turned-outcome (counted t es y) h = absurd (h refl)
 
-pub turned-tally : (o : Counting) → (numberOf o ≡ 0 → ⊥) → (tally : Tally) → tallyLeft tally o ≡ tally
-unfolding tallyLeft numberOf
+pub turned-tally : (o : Counting) → (turnedNumber o ≡ 0 → ⊥) → (tally : Tally) → tallyLeft tally o ≡ tally
+unfolding tallyLeft turnedNumber
 turned-tally (turned n p) h tally = refl
 turned-tally (counted t es y) h tally = absurd (h refl)
 
@@ -58,14 +58,14 @@ judged short many large place t entries tally =
     ]
 
 judged-outcome : (short many large : Bool) (place : ℕ) (t : Table) (es : List Entry) (tally : Tally)
-    → numberOf (judged short many large place t es tally) ≡ 0 → asOutcome (judged short many large place t es tally) ≡ accepted t
-unfolding asOutcome numberOf
+    → turnedNumber (judged short many large place t es tally) ≡ 0 → asOutcome (judged short many large place t es tally) ≡ accepted t
+unfolding asOutcome turnedNumber
 judged-outcome true true large place t es tally e = let z : ⊥ = omega (arith, e) in absurd z
 judged-outcome true false true place t es tally e = let z : ⊥ = omega (arith, e) in absurd z
 judged-outcome true false false place t es tally e = refl
 judged-outcome false many large place t es tally e = let z : ⊥ = omega (arith, e) in absurd z
 
-pub counted-outcome : (cs : List (List ℕ)) (t : Table) (es : List Entry) (tally : Tally) → numberOf (countedOr cs t es tally) ≡ 0
+pub counted-outcome : (cs : List (List ℕ)) (t : Table) (es : List Entry) (tally : Tally) → turnedNumber (countedOr cs t es tally) ≡ 0
     → asOutcome (countedOr cs t es tally) ≡ accepted t
 unfolding countedOr
 counted-outcome cs t es tally =
@@ -145,8 +145,8 @@ module _ {L : Limits} {message class kinds starts : List ℕ} {d : Decision} (te
         counting-sound L (levelIn table) (roomOf text segments leaves) l message sound
         ∙ ap (countingOf (codesIn L message) l) (accepts-table text segments leaves w table yes)
         ∙ (λ i.
-        countedOr (carried i) t (addedAll (present (carried i)) (entriesIn codes counts))
-        (withMessage tally (sym (a .segments) i) (length (present (carried i)))))
+        countedOr (carried i) t (addedAll (codesCounted (carried i)) (entriesIn codes counts))
+        (withMessage tally (sym (a .segments) i) (length (codesCounted (carried i)))))
 
     -- what counting and filing leave is what reading leaves
     pub admitted-indexed : {q : Indexed} {text′ segments′ leaves′ codes′ counts′ : List ℕ}
@@ -163,7 +163,7 @@ module _ {L : Limits} {d : Decision} {tally : Tally} {message codes counts : Lis
       → Leaves (admission L d tally message codes counts t) tally text segments leaves codes counts q text segments leaves codes′ counts′
   turned-left h {q} is =
       let o = admission L d tally message codes counts t in
-      let h′ : numberOf o ≡ 0 → ⊥ = λ e. h (admits .number t ∙ e) in
+      let h′ : turnedNumber o ≡ 0 → ⊥ = λ e. h (admits .number t ∙ e) in
       record {
         given =
             gives-refusal (turned-outcome o h′)
@@ -181,7 +181,7 @@ module _ {L : Limits} {d : Decision} {tally : Tally} {message codes counts : Lis
       record {
         given =
             subst⁻¹ (λ (o : Outcome). Gives o text segments leaves (q .answer) text′ segments′ leaves′)
-            (counted-outcome cs t (addedAll (present cs) (entriesIn codes counts)) (withMessage tally (d .segments) (length (present cs)))
+            (counted-outcome cs t (addedAll (codesCounted cs) (entriesIn codes counts)) (withMessage tally (d .segments) (length (codesCounted cs)))
             (sym (admits .number t) ∙ e))
             g;
         tallyIs = u ∙ admits .tallyIs t;

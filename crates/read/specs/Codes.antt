@@ -37,9 +37,9 @@ codesIn L message =
     elim (headerOf message) [ Sound ps ↦ map (codeCarried ps) (segmentsIn L ps message) | Broken ↦ [] ]
 
 -- those that are counted: what is absent or empty is not
-unfoldable pub present : List (List ℕ) → List (List ℕ)
-present [] = []
-present (c ∷ cs) = elim (eqb (length c) 0) [ true ↦ present cs | false ↦ c ∷ present cs ]
+unfoldable pub codesCounted : List (List ℕ) → List (List ℕ)
+codesCounted [] = []
+codesCounted (c ∷ cs) = elim (eqb (length c) 0) [ true ↦ codesCounted cs | false ↦ c ∷ codesCounted cs ]
 
 -- the number of the first segment whose code is too long, or 0
 unfoldable pub firstLong : List (List ℕ) → ℕ

@@ -17,7 +17,7 @@ use Rattle.index.specs.Adding.{addedAll, tooMany, tooLarge}
 use Rattle.index.specs.Tallying.{withMessage, tallyTooLarge}
 use Rattle.read.specs.declared.indexed.Indexed.{Indexed}
 use Rattle.read.specs.Answering.{Gives}
-use Rattle.read.specs.Codes.{codesIn, present, firstLong}
+use Rattle.read.specs.Codes.{codesIn, codesCounted, firstLong}
 
 -- what a reading is lent beside its three buffers: the index, in two buffers, and the tally
 pub record Ledger : Type 0 where
@@ -46,8 +46,8 @@ countedOr codes t entries tally =
 unfoldable pub countingOf : List (List ℕ) → Ledger → Outcome → Counting
 countingOf codes l (refused number place) = turned number place
 countingOf codes l (accepted t) =
-    countedOr codes t (addedAll (present codes) (entriesIn (l .codes) (l .counts)))
-    (withMessage (l .tally) (t .card .segments) (length (present codes)))
+    countedOr codes t (addedAll (codesCounted codes) (entriesIn (l .codes) (l .counts)))
+    (withMessage (l .tally) (t .card .segments) (length (codesCounted codes)))
 
 -- all tests in their turn: of the index (53), the reader's own (N2), and those of what is counted
 unfoldable pub counting : Limits → (ℕ → ℕ → ℕ) → Room → Ledger → List ℕ → Counting

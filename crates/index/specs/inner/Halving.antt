@@ -16,8 +16,8 @@ abbrev pub comparedAt : (codes code : List ℕ) → ℕ → Compared
 comparedAt codes code i = compared code (getD codes (i * placeSize) 0) (drop (i * placeSize + 1) codes)
 
 -- found at a place; or not named, and it would stand there
-abbrev pub foundAt : ℕ → Found
-foundAt i = record { at = i; named = true }
+abbrev pub standsAt : ℕ → Found
+standsAt i = record { at = i; named = true }
 
 abbrev pub missingAt : ℕ → Found
 missingAt i = record { at = i; named = false }
@@ -30,12 +30,12 @@ halved (suc n) codes code low high =
       | true ↦
           elim (comparedAt codes code ((low + high) / 2)) [
             | Before ↦ halved n codes code low ((low + high) / 2)
-            | Same ↦ foundAt ((low + high) / 2)
+            | Same ↦ standsAt ((low + high) / 2)
             | After ↦ halved n codes code ((low + high) / 2 + 1) high
           ]
       | false ↦ missingAt low
     ]
 
 -- among all that are named
-unfoldable pub soughtBy : (codes : List ℕ) (named : ℕ) (code : List ℕ) → Found
-soughtBy codes named code = halved 10 codes code 0 named
+unfoldable pub soughtAmong : (codes : List ℕ) (named : ℕ) (code : List ℕ) → Found
+soughtAmong codes named code = halved 10 codes code 0 named

@@ -13,7 +13,7 @@ use Rattle.index.specs.Adding.{addedAll}
 use Rattle.index.specs.Tallying.{withMessage}
 use Rattle.read.specs.declared.admit.Admitted.{Admitted}
 use Rattle.read.specs.declared.decide.Decision.{Decision}
-use Rattle.read.specs.Codes.{present}
+use Rattle.read.specs.Codes.{codesCounted}
 use Rattle.read.specs.Counting.{Counting, turned, counted, countedOr, tallyLeft, frontLeft}
 use Rattle.read.specs.inner.Census.{carriedIn}
 use Rattle.read.specs.inner.Deciding.{Accepts, ReadsWithin}
@@ -33,22 +33,22 @@ pub record Admissible (L : Limits) (class kinds starts : List ℕ) (d : Decision
 abbrev pub admission : Limits → Decision → Tally → (message codes counts : List ℕ) → Table → Counting
 admission L d tally message codes counts t =
     countedOr (carriedIn L (d .separators) message) t
-    (addedAll (present (carriedIn L (d .separators) message)) (entriesIn codes counts))
-    (withMessage tally (d .segments) (length (present (carriedIn L (d .separators) message))))
+    (addedAll (codesCounted (carriedIn L (d .separators) message)) (entriesIn codes counts))
+    (withMessage tally (d .segments) (length (codesCounted (carriedIn L (d .separators) message))))
 
 -- number and place of what it comes to
-unfoldable pub numberOf : Counting → ℕ
-numberOf (turned number place) = number
-numberOf (counted t entries tally) = 0
+unfoldable pub turnedNumber : Counting → ℕ
+turnedNumber (turned number place) = number
+turnedNumber (counted t entries tally) = 0
 
-unfoldable pub placeOf : Counting → ℕ
-placeOf (turned number place) = place
-placeOf (counted t entries tally) = 0
+unfoldable pub turnedPlace : Counting → ℕ
+turnedPlace (turned number place) = place
+turnedPlace (counted t entries tally) = 0
 
 -- what it gives, whatever table the message is filed in
 pub record AdmitsAs (L : Limits) (d : Decision) (tally : Tally) (message codes counts : List ℕ) (r : Admitted) (codes′ counts′ : List ℕ) : Type 0 where
-  pub number : (t : Table) → r .number ≡ numberOf (admission L d tally message codes counts t)
-  pub place : (t : Table) → r .place ≡ placeOf (admission L d tally message codes counts t)
+  pub number : (t : Table) → r .number ≡ turnedNumber (admission L d tally message codes counts t)
+  pub place : (t : Table) → r .place ≡ turnedPlace (admission L d tally message codes counts t)
   pub tallyIs : (t : Table) → r .tally ≡ tallyLeft tally (admission L d tally message codes counts t)
   pub codesAre : (t : Table) → codes′ ≡ frontLeft codesPut codes (admission L d tally message codes counts t)
   pub countsAre : (t : Table) → counts′ ≡ frontLeft countsPut counts (admission L d tally message codes counts t)

@@ -12,7 +12,7 @@ use Rattle.index.specs.Refusals.{longCode, fullIndex, fullCount}
 use Rattle.index.specs.Index.{Entry, codeMost, entriesIn, roomy, soundIndex}
 use Rattle.index.specs.Adding.{addedAll, tooMany, tooLarge, AddsAs}
 use Rattle.read.specs.declared.census.Census.{Census}
-use Rattle.read.specs.Codes.{codeCarried, present, firstLong}
+use Rattle.read.specs.Codes.{codeCarried, codesCounted, firstLong}
 use Rattle.read.specs.Sound.{segmentsIn}
 use Rattle.read.specs.inner.Filling.{Fillable}
 use Rattle.read.specs.inner.Noting.{Started}
@@ -67,8 +67,8 @@ pub data RowCounted (c : List ℕ) (row : ℕ) (census : Census) (codes counts :
 
 -- what counting gives: number and place; where nothing is refused, how many codes were counted, and an index with them
 pub record CensusOf (cs : List (List ℕ)) (es : List Entry) (r : Census) (codes′ counts′ : List ℕ) : Type 0 where
-  pub number : r .number ≡ censusNumber cs (addedAll (present cs) es)
+  pub number : r .number ≡ censusNumber cs (addedAll (codesCounted cs) es)
   pub place : r .place ≡ firstLong cs
-  pub results : r .number ≡ 0 → r .results ≡ length (present cs)
+  pub results : r .number ≡ 0 → r .results ≡ length (codesCounted cs)
   pub roomIs : r .number ≡ 0 → roomy codes′ counts′ ≡ true
-  pub entries : r .number ≡ 0 → entriesIn codes′ counts′ ≡ addedAll (present cs) es
+  pub entries : r .number ≡ 0 → entriesIn codes′ counts′ ≡ addedAll (codesCounted cs) es

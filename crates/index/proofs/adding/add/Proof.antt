@@ -8,7 +8,7 @@ use native.Mathlib.Omega.{arith}
 use borrow.Author.Needs.{needs}
 use borrow.Author.Tests.{not-true, not-false}
 use Rattle.index.specs.Index.{codesMost, namedIn, roomy}
-use Rattle.index.specs.inner.Halving.{soughtBy}
+use Rattle.index.specs.inner.Halving.{soughtAmong}
 use Rattle.index.proofs.Additions.{not-roomy-adds, empty-adds, long-adds, place-within, full-adds, inserted-adds, counted-adds}
 use Rattle.index.proofs.KeptHalf.{Within}
 use Rattle.index.proofs.Roominess.{Room, room}
@@ -69,10 +69,10 @@ named-here : (c : tie.After-seek) → c .before .before .wide .result ≡ namedI
 named-here c = c .before .before .wide .ensures .0
 
 found-here : (c : tie.After-seek)
-    → c .seek .result ≡ soughtBy (codes-at (roomy-at c)) (namedIn (counts-at (roomy-at c))) (code-at (roomy-at c))
+    → c .seek .result ≡ soughtAmong (codes-at (roomy-at c)) (namedIn (counts-at (roomy-at c))) (code-at (roomy-at c))
 found-here c =
     let r = roomy-at c in
-    c .seek .ensures ∙ ap (λ (n : ℕ). soughtBy (codes-at r) n (code-at r)) (named-here c)
+    c .seek .ensures ∙ ap (λ (n : ℕ). soughtAmong (codes-at r) n (code-at r)) (named-here c)
 
 within-here : (c : tie.After-seek) → Within (namedIn (counts-at (roomy-at c))) (c .seek .result)
 within-here c =

@@ -7,7 +7,7 @@ use native.Mathlib.Omega.{arith}
 use lib.ListN.{set, length-set}
 use lib.Seq.{sets}
 use Rattle.index.specs.Index.{placeSize}
-use Rattle.index.specs.Adding.{placed}
+use Rattle.index.specs.Adding.{placeOfCode}
 use Rattle.index.proofs.Putting.{new-codes, new-counts}
 use Rattle.index.proofs.Roominess.{Room, room}
 use Rattle.index.proofs.adding.insert.Statement.{statement}
@@ -78,7 +78,7 @@ returns c =
     record {
       codesLeft =
           put .put-code .ensures
-          ∙ ap (λ (l : List ℕ). sets l (a .place * placeSize) (placed (a .code .now))) (codes-moved .move-codes .ensures)
+          ∙ ap (λ (l : List ℕ). sets l (a .place * placeSize) (placeOfCode (a .code .now))) (codes-moved .move-codes .ensures)
           ∙ new-codes (a .code .now) (a .place) (a .named) (a .codes .now) (a .counts .now) (s .pre);
       countsLeft =
           ap (λ (l : List ℕ). set (set l (a .place + 1) 1) 0 (a .named + 1)) (counts-moved .move-counts .ensures)

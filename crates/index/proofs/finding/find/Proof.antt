@@ -7,7 +7,7 @@ use native.Mathlib.Omega.{arith}
 use borrow.Author.Needs.{needs}
 use borrow.Author.Tests.{not-true, not-false}
 use Rattle.index.specs.Index.{roomy}
-use Rattle.index.specs.inner.Halving.{soughtBy}
+use Rattle.index.specs.inner.Halving.{soughtAmong}
 use Rattle.index.proofs.Asked.{found-nowhere, too-long, found-sought}
 use Rattle.index.proofs.Roominess.{room}
 use Rattle.index.proofs.finding.find.Statement.{statement}
@@ -52,7 +52,7 @@ returns-3 c =
     let fitting = c .before .before .before .before in
     let a = start-of fitting .args in
     c .seek .ensures
-    ∙ ap (λ (n : ℕ). soughtBy (a .codes .now) n (a .code .now)) (c .before .wide .ensures .0)
+    ∙ ap (λ (n : ℕ). soughtAmong (a .codes .now) n (a .code .now)) (c .before .wide .ensures .0)
     ∙ found-sought (a .codes .now) (a .counts .now) (a .code .now) (roomy-here fitting) (c .before .before .before .if2 .left)
 
 pub find-spec : {M : Type 1} → statement M
