@@ -49,33 +49,33 @@ use Rattle.write.proofs.LentTables.{is-table-rows}
 use Rattle.write.proofs.ReadTables.{filed-table}
 use Rattle.look.specs.declared.leaf.Place.{Place}
 use Rattle.look.specs.declared.leaf.Sought.the-variants.{NotThere}
-use Rattle.look.specs.Looking.{numbersOf, leafNamed, fits, leafFits}
+use Rattle.look.specs.Looking.{numbersOf, leafNamed, fits, leafFits, textFound}
 use Rattle.look.specs.inner.Searching.{foundOf, soughtIn}
 use Rattle.look.proofs.Entries.{start-taken, length-taken, fits-taken}
 use Rattle.look.proofs.Seeking.{foundAt, found-empty, found-some, sought-searched}
 use Rattle.tested.proofs.LentRows.{count-lent, row-at}
 use Rattle.tested.proofs.TableLeft.{message-left}
-use Rattle.demands.specs.Counts.{segmentCount, textSought, codeSought, codeInRow, LooksUpCodes}
+use Rattle.demands.specs.Counts.{segmentCount, codeSought, codeInRow, LooksUpCodes}
 use Rattle.demands.proofs.CodeLeaf.{textAtPlace, text-at-first, text-at-later, code-leaf}
 use Rattle.demands.proofs.Counting.{table-segments}
 use Rattle.demands.proofs.Counts.{codes-sound, counts-hold}
 
 -- the text of what a row states, be it empty or not
-text-of-row : (text : List ℕ) (start n : ℕ) → textSought text (foundOf start n) ≡ take n (drop start text)
-unfolding textSought
+text-of-row : (text : List ℕ) (start n : ℕ) → textFound text (foundOf start n) ≡ take n (drop start text)
+unfolding textFound
 text-of-row text start n = by (equal-or-not n 0)
   where
-    by : (n ≡ 0) ⊎ (n ≡ 0 → ⊥) → textSought text (foundOf start n) ≡ take n (drop start text)
-    by (inl e) = ap (textSought text) (found-empty start n e) ∙ ap (λ (k : ℕ). take k (drop start text)) (sym e)
-    by (inr e) = ap (textSought text) (found-some start n e)
+    by : (n ≡ 0) ⊎ (n ≡ 0 → ⊥) → textFound text (foundOf start n) ≡ take n (drop start text)
+    by (inl e) = ap (textFound text) (found-empty start n e) ∙ ap (λ (k : ℕ). take k (drop start text)) (sym e)
+    by (inr e) = ap (textFound text) (found-some start n e)
 
 -- a search by places over the rows of some leaves finds the text of the first leaf that has the place
 module _ (text rows q : List ℕ) (test : ℕ → Bool) (stated : ℕ → Leaf) where
   searched-text : (i n : ℕ)
       → ((k : ℕ) → i ≤ k → k < i + n → test k ≡ same (stated k .place) q)
-      → ((k : ℕ) → i ≤ k → k < i + n → textSought text (foundAt rows k) ≡ stated k .text)
-      → textSought text (firstOf test (foundAt rows) NotThere i n) ≡ textAtPlace q (values stated i n)
-  unfolding firstOf values textAtPlace textSought
+      → ((k : ℕ) → i ≤ k → k < i + n → textFound text (foundAt rows k) ≡ stated k .text)
+      → textFound text (firstOf test (foundAt rows) NotThere i n) ≡ textAtPlace q (values stated i n)
+  unfolding firstOf values textAtPlace textFound
   searched-text i zero places texts = refl
   searched-text i (suc n) places texts =
       go (tested (test i))
@@ -84,13 +84,13 @@ module _ (text rows q : List ℕ) (test : ℕ → Bool) (stated : ℕ → Leaf) 
       place : test i ≡ same (stated i .place) q
       place = places i (omega arith) (omega arith)
 
-      go : Tested (test i) → textSought text (firstOf test (foundAt rows) NotThere (suc i) n) ≡ textAtPlace q (values stated (suc i) n)
-          → textSought text (firstOf test (foundAt rows) NotThere i (suc n)) ≡ textAtPlace q (stated i ∷ values stated (suc i) n)
+      go : Tested (test i) → textFound text (firstOf test (foundAt rows) NotThere (suc i) n) ≡ textAtPlace q (values stated (suc i) n)
+          → textFound text (firstOf test (foundAt rows) NotThere i (suc n)) ≡ textAtPlace q (stated i ∷ values stated (suc i) n)
       go (passed e) later =
-          ap (textSought text) (firstOf-hit test (foundAt rows) NotThere i n e) ∙ texts i (omega arith) (omega arith)
+          ap (textFound text) (firstOf-hit test (foundAt rows) NotThere i n e) ∙ texts i (omega arith) (omega arith)
           ∙ sym (text-at-first q (stated i) (values stated (suc i) n) (sym place ∙ e))
       go (failed e) later =
-          ap (textSought text) (firstOf-miss test (foundAt rows) NotThere i n e) ∙ later
+          ap (textFound text) (firstOf-miss test (foundAt rows) NotThere i n e) ∙ later
           ∙ sym (text-at-later q (stated i) (values stated (suc i) n) (sym place ∙ e))
 
 -- in a lent table that passes the table test, the lookup finds the text of the first counted leaf that has the place
@@ -108,7 +108,7 @@ module _ (L : Limits) (lawful : Lawful L) (levels : ℕ → ℕ → ℕ) (t : Le
       ∙ and-true (same (placeIn rows k) (numbersOf p))
 
   text-stated : (k : ℕ) → k < t .card .leaves
-      → textSought (t .text) (foundAt (t .leafRows) k) ≡ leafAt (counted t .leafRows) (counted t .text) k .text
+      → textFound (t .text) (foundAt (t .leafRows) k) ≡ leafAt (counted t .leafRows) (counted t .text) k .text
   unfolding leafAt counted
   text-stated k h =
       let rows = counted t .leafRows in
@@ -116,10 +116,10 @@ module _ (L : Limits) (lawful : Lawful L) (levels : ℕ → ℕ → ℕ) (t : Le
       ∙ ap₂ (λ (start n : ℕ). take n (drop start (t .text))) (sym (start-taken t k h)) (sym (length-taken t k h))
       ∙ sym (part-taken (t .text) (startIn rows k) (lengthIn rows k) (t .card .text) (inside k h))
 
-  looked-up-leaf : textSought (t .text) (soughtIn t p) ≡ textAtPlace (numbersOf p) (leavesOf (counted t))
+  looked-up-leaf : textFound (t .text) (soughtIn t p) ≡ textAtPlace (numbersOf p) (leavesOf (counted t))
   unfolding leavesOf counted
   looked-up-leaf =
-      ap (textSought (t .text)) (sought-searched (leafFits t p) t (is-table-rows L lawful levels t .0 passes .0))
+      ap (textFound (t .text)) (sought-searched (leafFits t p) t (is-table-rows L lawful levels t .0 passes .0))
       ∙ searched-text (t .text) (t .leafRows) (numbersOf p) (leafFits t p) (leafAt (counted t .leafRows) (counted t .text)) 0 (t .card .leaves)
       (λ k l h. place-tested k (omega (arith, h))) (λ k l h. text-stated k (omega (arith, h)))
 
@@ -193,7 +193,7 @@ module _ (L : Limits) (lawful : Lawful L) (levels : ℕ → ℕ → ℕ) (messag
 
   -- in each row the lookup finds at 10.4.1 what of an OBX is counted as its code
   pub code-looked-up : (ps : Separators) → headerOf message ≡ Sound ps → (i : ℕ)
-      → textSought text′ (soughtIn (lent (r .answer .card) segments′ leaves′ text′) (leafNamed (suc i) 4 1))
+      → textFound text′ (soughtIn (lent (r .answer .card) segments′ leaves′ text′) (leafNamed (suc i) 4 1))
       ≡ leafCode ps (getD (segmentsIn L ps message) i [])
   code-looked-up ps header i = read-code L lawful levels message as-read taken ps header i
 

@@ -28,7 +28,8 @@ use Rattle.read.specs.Counting.{Ledger, Counting, turned, countingOf, counting,
 use Rattle.demands.specs.Counts.{entriesWith, tallyWith, Eligible, AddsMessage, Counts}
 use Rattle.read.proofs.OnlyOne.{refusal-numbers}
 use Rattle.read.proofs.CutAnyhow.{joined-separators, same-joined}
-use Rattle.demands.proofs.Counting.{Judging, by-index, by-reader, by-long, by-many, by-large, counts-it, judging, outcome-unsound, outcome-long, outcome-many, outcome-past, outcome-held, is-turned, is-counted}
+use Rattle.demands.proofs.Counting.{Judging, by-index, by-reader, by-long, by-many, by-large, counts-it, judging}
+use Rattle.demands.proofs.Counting.{outcome-unsound, outcome-long, outcome-many, outcome-past, outcome-held, is-turned, is-counted}
 use Rattle.demands.proofs.IndexMeans.{index-means}
 use Rattle.demands.proofs.GivenEntries.{entries-given}
 use Rattle.demands.proofs.MessageAdded.{adds-message}

@@ -5,9 +5,8 @@ use mathlib.Core.List.{List, [], _∷_}
 use mathlib.Core.Path.{_≡_, refl, ap, ap₂, _∙_}
 use Prim.Native.Nat.{ℕ, _+_}
 use lib.ListN.{length}
-use Rattle.laws.specs.Lists.{same, among, count, concat, numbered, firstFrom}
+use Rattle.laws.specs.Lists.{same, among, count, concat, numbered, firstFrom, sumOf}
 use Rattle.laws.specs.Texts.{bytes}
-use Rattle.laws.specs.inner.Sums.{sumOf}
 use Rattle.laws.proofs.Tests.{never-both}
 use Rattle.form.specs.declared.forms.Form.{Form}
 use Rattle.form.specs.declared.forms.Form.the-variants.{Small, Large}

@@ -7,10 +7,9 @@ use Prim.Native.Nat.{ℕ, suc, _+_, _≤_}
 use native.Mathlib.Omega.{arith}
 use lib.ListN.{length}
 use borrow.Author.Tests.{le-ltb}
-use Rattle.laws.specs.Lists.{same, among, count, firstFrom}
+use Rattle.laws.specs.Lists.{same, among, count, firstFrom, sumOf}
 use Rattle.laws.specs.Texts.{bytes}
 use Rattle.laws.specs.Every.{All, none, also}
-use Rattle.laws.specs.inner.Sums.{sumOf}
 use Rattle.laws.proofs.Tests.{never-both, or-second}
 use Rattle.form.specs.declared.limits.Limits.{Limits}
 use Rattle.form.specs.declared.forms.Form.{Form}

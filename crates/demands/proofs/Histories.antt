@@ -7,7 +7,7 @@ use mathlib.Core.Logic.{_⊎_, inl, inr}
 use mathlib.Core.Path.{_≡_, refl, ap, subst⁻¹}
 use Prim.Native.Nat.{ℕ, _+_, _<_, _≤_}
 use native.Mathlib.Omega.{arith}
-use Rattle.laws.specs.inner.Sums.{sumOf}
+use Rattle.laws.specs.Lists.{sumOf}
 use Rattle.laws.proofs.Tests.{and-both, never-both}
 use Rattle.laws.proofs.Cases.{less-or-not}
 use Rattle.form.specs.declared.limits.Limits.{Limits}
@@ -18,6 +18,7 @@ use Rattle.index.specs.declared.tally.Tally.{Tally}
 use Rattle.index.specs.Index.{Entry, namedIn, entriesIn, roomy, risesAfter, rises, soundIndex, names, countOf}
 use Rattle.index.proofs.Entries.{entries-empty}
 use Rattle.demands.specs.Counts.{resultsWith, AddsMessage, AddedMessage, History, made, adding, refusing, HoldsHistory, Histories, CountsOfForms}
+use Rattle.demands.proofs.CodesLookedUp.{forms-look-up-codes}
 use Rattle.demands.proofs.Counts.{refused-unchanged, adds, counts-hold}
 
 -- an index that names no codes, and a tally of zeros
@@ -90,4 +91,5 @@ pub histories-hold : (levels : ℕ → ℕ → ℕ) → Histories levels
 histories-hold levels codes counts tally added h = holds-history h
 
 pub counts-of-forms : CountsOfForms
-counts-of-forms = record { each = λ f. counts-hold (limitsOf f) (form-lawful f) level; histories = histories-hold level }
+counts-of-forms =
+    record { each = λ f. counts-hold (limitsOf f) (form-lawful f) level; looked-up = forms-look-up-codes; histories = histories-hold level }

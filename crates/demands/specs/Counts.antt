@@ -7,10 +7,9 @@ use mathlib.Core.Logic.{_↔_, _⊎_}
 use mathlib.Core.Path.{_≡_}
 use Prim.Native.Nat.{ℕ, suc, _+_, _*_, _≤_, _<_}
 use lib.Dec.{eqb}
-use lib.ListN.{length, take, drop, getD}
-use Rattle.laws.specs.Lists.{same, count}
+use lib.ListN.{length, getD}
+use Rattle.laws.specs.Lists.{same, count, sumOf}
 use Rattle.laws.specs.Tables.{values}
-use Rattle.laws.specs.inner.Sums.{sumOf}
 use Rattle.form.specs.declared.limits.Limits.{Limits}
 use Rattle.form.specs.declared.forms.Form.{Form}
 use Rattle.form.specs.declared.separators.Separators.{Separators}
@@ -32,9 +31,7 @@ use Rattle.read.specs.Answering.{ReadAs, noCard}
 use Rattle.read.specs.Sound.{segmentsIn, SoundLines}
 use Rattle.read.specs.Codes.{countedKind, leafCode, codesIn, codesCounted, firstLong}
 use Rattle.read.specs.Counting.{IndexedAs}
-use Rattle.look.specs.declared.leaf.Sought.{Sought}
-use Rattle.look.specs.declared.leaf.Sought.the-variants.{At, Empty, NotThere}
-use Rattle.look.specs.Looking.{leafNamed}
+use Rattle.look.specs.Looking.{leafNamed, textFound}
 use Rattle.look.specs.inner.Searching.{soughtIn}
 
 -- of a message: how many segments it has, how many of its OBX have a code, and how many of these carry the code c
@@ -163,15 +160,9 @@ pub record Counts (L : Limits) (levels : ℕ → ℕ → ℕ) : Type 0 where
       → IndexedAs L levels tally other text segments leaves codes counts s text₂ segments₂ leaves₂ codes₂ counts₂
       → (r ≡ s) × (text₁ ≡ text₂) × (segments₁ ≡ segments₂) × (leaves₁ ≡ leaves₂) × (codes₁ ≡ codes₂) × (counts₁ ≡ counts₂)
 
--- the text that an answer of the leaf lookup stands for (F1): no text where the leaf is empty or not there
-unfoldable pub textSought : (text : List ℕ) → Sought → List ℕ
-textSought text (At start n) = take n (drop start text)
-textSought text Empty = []
-textSought text NotThere = []
-
--- what it finds at 10.4.1 of row i of a lent table, counted from 0; and the code of that row by lookups alone: none, where it is no OBX
+-- the text that the leaf lookup (F1) finds at 10.4.1 of row i of a lent table, counted from 0; and the code of that row by lookups alone: none, where it is no OBX
 abbrev pub codeSought : Lent → ℕ → List ℕ
-codeSought t i = textSought (t .text) (soughtIn t (leafNamed (suc i) 4 1))
+codeSought t i = textFound (t .text) (soughtIn t (leafNamed (suc i) 4 1))
 
 unfoldable pub codeInRow : Lent → ℕ → List ℕ
 codeInRow t i = elim (eqb (kindIn (t .segmentRows) i) countedKind) [ true ↦ codeSought t i | false ↦ [] ]
@@ -182,7 +173,7 @@ pub record LooksUpCodes (L : Limits) (levels : ℕ → ℕ → ℕ) : Type 0 whe
   pub each-row : (message : List ℕ) {tally : Tally} {text segments leaves codes counts text′ segments′ leaves′ codes′ counts′ : List ℕ} {r : Indexed}
       → IndexedAs L levels tally message text segments leaves codes counts r text′ segments′ leaves′ codes′ counts′ → r .answer .number ≡ 0
       → (ps : Separators) → headerOf message ≡ Sound ps → (i : ℕ)
-      → textSought text′ (soughtIn (lent (r .answer .card) segments′ leaves′ text′) (leafNamed (suc i) 4 1))
+      → textFound text′ (soughtIn (lent (r .answer .card) segments′ leaves′ text′) (leafNamed (suc i) 4 1))
       ≡ leafCode ps (getD (segmentsIn L ps message) i [])
   -- so the codes of the message are, row by row, what it finds where the row is an OBX
   pub all-rows : (message : List ℕ) {tally : Tally} {text segments leaves codes counts text′ segments′ leaves′ codes′ counts′ : List ℕ} {r : Indexed}
@@ -229,4 +220,5 @@ Histories levels = (codes counts : List ℕ) (tally : Tally) (added : List Added
 -- The index in both forms (T6, T8), by the levels in force: of each reading, and of a history whose readings may be of either form.
 pub record CountsOfForms : Type 0 where
   pub each : (f : Form) → Counts (limitsOf f) level
+  pub looked-up : (f : Form) → LooksUpCodes (limitsOf f) level
   pub histories : Histories level

@@ -3,7 +3,7 @@
 use mathlib.Core.Bool.{true, false, _&&_}
 use mathlib.Core.List.{List}
 use Prim.Native.Nat.{ℕ, suc, _+_, _*_, _-_}
-use lib.Dec.{leb, ltb, eqb}
+use lib.Dec.{leb}
 use lib.ListN.{length, getD}
 use Rattle.index.specs.declared.finding.Found.{Found}
 use Rattle.index.specs.declared.asking.Codes.{Codes}

@@ -1,7 +1,7 @@
 -- The tally (X5): three counts, brought up to date by each message that is counted.
 -- Assumes nothing.
 use mathlib.Core.Bool.{Bool, true, false, _||_}
-use Prim.Native.Nat.{ℕ, suc, _+_}
+use Prim.Native.Nat.{ℕ, _+_}
 use lib.Dec.{leb}
 use Rattle.index.specs.declared.tally.Tally.{Tally}
 use Rattle.index.specs.declared.tally.Tallied.{Tallied}

@@ -5,8 +5,7 @@ use mathlib.Core.List.{List, [], _∷_, _++_, append-assoc}
 use Prim.Native.Nat.{ℕ, zero, suc, _+_, _≤_}
 use native.Mathlib.Omega.{arith}
 use lib.ListN.{length, take, getD, length-append}
-use Rattle.laws.specs.Lists.{concat}
-use Rattle.laws.specs.inner.Sums.{sumOf}
+use Rattle.laws.specs.Lists.{concat, sumOf}
 
 module _ {ℓ} {A : Type ℓ} where
   pub sumOf-nil : (f : A → ℕ) → sumOf f [] ≡ 0

@@ -2,7 +2,7 @@
 -- Assumes nothing.
 use mathlib.Core.Bool.{Bool, true, false, _&&_}
 use mathlib.Core.List.{List, [], _∷_, _++_}
-use Prim.Native.Nat.{ℕ, suc}
+use Prim.Native.Nat.{ℕ, suc, _+_}
 use lib.Dec.{eqb}
 
 -- whether two lists of numbers are the same
@@ -21,6 +21,11 @@ among (a ∷ s) b = elim (eqb b a) [ true ↦ true | false ↦ among s b ]
 unfoldable pub count {ℓ} : {A : Type ℓ} → (A → Bool) → List A → ℕ
 count p [] = 0
 count p (a ∷ s) = elim (p a) [ true ↦ suc (count p s) | false ↦ count p s ]
+
+-- the sum of what f makes of each element
+unfoldable pub sumOf {ℓ} : {A : Type ℓ} → (A → ℕ) → List A → ℕ
+sumOf f [] = 0
+sumOf f (a ∷ s) = f a + sumOf f s
 
 -- the lists of a list, one after the other
 unfoldable pub concat {ℓ} : {A : Type ℓ} → List (List A) → List A

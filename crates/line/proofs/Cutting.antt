@@ -8,9 +8,8 @@ use native.Mathlib.Nat.{suc-mul, zero-mul}
 use native.Mathlib.Omega.{arith}
 use lib.Dec.{lit≤}
 use lib.ListN.{length, take, drop, length-append, length-take, length-drop, take-append-drop}
-use Rattle.laws.specs.Lists.{concat}
+use Rattle.laws.specs.Lists.{concat, sumOf}
 use Rattle.laws.specs.Every.{All, none, also}
-use Rattle.laws.specs.inner.Sums.{sumOf}
 use Rattle.laws.proofs.Every.{all-append, all-take, all-drop, all-both, all-map, all-from}
 use Rattle.laws.proofs.Sums.{sumOf-cons, length-concat}
 use Rattle.form.specs.declared.limits.Limits.{Limits}

@@ -9,7 +9,7 @@ use native.Mathlib.Nat.{suc-mul}
 use native.Mathlib.Omega.{arith}
 use lib.ListN.{length, drop, length-append, length-drop}
 use Rattle.laws.specs.Every.{All, also}
-use Rattle.laws.specs.inner.Sums.{sumOf}
+use Rattle.laws.specs.Lists.{sumOf}
 use Rattle.laws.proofs.Every.{all-from}
 use Rattle.laws.proofs.Tests.{either}
 use Rattle.form.specs.declared.limits.Limits.{Limits}

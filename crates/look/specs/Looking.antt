@@ -61,6 +61,12 @@ soughtNumber (At start n) = 1
 soughtNumber Empty = 2
 soughtNumber NotThere = 0
 
+-- the text that it stands for: no text where the leaf is empty or not there
+unfoldable pub textFound : (text : List ℕ) → Sought → List ℕ
+textFound text (At start n) = take n (drop start text)
+textFound text Empty = []
+textFound text NotThere = []
+
 -- whether what was sought is there with a given text
 unfoldable pub saysText : List ℕ → List ℕ → Sought → Bool
 saysText text wanted (At start n) = same (take n (drop start text)) wanted

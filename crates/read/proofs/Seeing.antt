@@ -11,10 +11,9 @@ use lib.Dec.{eqb}
 use lib.ListN.{length, getD, take, drop, length-append, length-take, length-map, take-append-drop}
 use lib.Seq.{drop-append-le, take-append-le}
 use borrow.Author.Tests.{eq-eqb, ne-eqb}
-use Rattle.laws.specs.Lists.{same, among, count, firstFrom}
+use Rattle.laws.specs.Lists.{same, among, count, firstFrom, sumOf}
 use Rattle.laws.specs.inner.First.{firstHeld}
 use Rattle.laws.specs.Texts.{bytes}
-use Rattle.laws.specs.inner.Sums.{sumOf}
 use Rattle.laws.proofs.Cases.{equal-or-not}
 use Rattle.laws.proofs.Lists.{map-append, count-append, first-append}
 use Rattle.laws.proofs.Sums.{sumOf-nil, sumOf-cons, sumOf-append}

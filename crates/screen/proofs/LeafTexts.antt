@@ -11,11 +11,11 @@ use Rattle.laws.specs.Lists.{same}
 use Rattle.table.specs.Lent.{Lent}
 use Rattle.look.specs.declared.leaf.Sought.{Sought}
 use Rattle.look.specs.declared.leaf.Sought.the-variants.{At, Empty, NotThere}
-use Rattle.look.specs.Looking.{leafNamed, saysText}
+use Rattle.look.specs.Looking.{leafNamed, saysText, textFound}
 use Rattle.look.proofs.FirstMatch.{finds-exactly}
 use Rattle.tested.proofs.NamedLeaves.{named-inside}
 use Rattle.screen.specs.Meeting.{soughtOf, hasText, isLetter, saysLetter, leafIs}
-use Rattle.screen.specs.inner.Rows.{textFound, textIn}
+use Rattle.screen.specs.inner.Rows.{textIn}
 
 -- a text of a byte or more
 text-says : (text wanted : List ℕ) (s : Sought) → 1 ≤ length wanted → same (textFound text s) wanted ≡ saysText text wanted s

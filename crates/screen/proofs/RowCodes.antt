@@ -20,10 +20,10 @@ use Rattle.table.specs.Lent.{Lent}
 use Rattle.table.specs.Rows.{kindIn}
 use Rattle.look.specs.declared.leaf.Sought.{Sought}
 use Rattle.look.specs.declared.leaf.Sought.the-variants.{At, Empty, NotThere}
-use Rattle.look.specs.Looking.{resultKind, saysText}
+use Rattle.look.specs.Looking.{resultKind, saysText, textFound}
 use Rattle.screen.specs.Rules.{codes}
 use Rattle.screen.specs.Meeting.{hasKind, hasCode, soughtOf}
-use Rattle.screen.specs.inner.Rows.{textFound, textIn}
+use Rattle.screen.specs.inner.Rows.{textIn}
 use Rattle.screen.specs.inner.Counting.{codeCount, codeNamed, firstCode, codeOf, codeIn}
 
 -- which code a text is: the codes are tried in turn

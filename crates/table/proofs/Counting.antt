@@ -5,8 +5,7 @@ use mathlib.Core.Path.{_≡_, refl, sym, ap, ap₂, _∙_}
 use Prim.Native.Nat.{ℕ, suc, _+_, _≤_}
 use native.Mathlib.Omega.{arith}
 use lib.ListN.{length, drop, length-map, length-append}
-use Rattle.laws.specs.Lists.{among, count, concat}
-use Rattle.laws.specs.inner.Sums.{sumOf}
+use Rattle.laws.specs.Lists.{among, count, concat, sumOf}
 use Rattle.laws.specs.Every.{All}
 use Rattle.laws.proofs.Tests.{Tested, passed, failed, tested}
 use Rattle.laws.proofs.Lists.{count-pass, count-fail}

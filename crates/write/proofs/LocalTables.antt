@@ -8,7 +8,7 @@ use Prim.Native.Nat.{ℕ, _≤_, _<_}
 use native.Mathlib.Omega.{arith}
 use lib.ListN.{length, drop, getD}
 use Rattle.laws.specs.Every.{All}
-use Rattle.laws.specs.inner.Sums.{sumOf}
+use Rattle.laws.specs.Lists.{sumOf}
 use Rattle.laws.proofs.Every.{all-from}
 use Rattle.laws.proofs.Tables.{getD-values}
 use Rattle.form.specs.declared.limits.Limits.{Limits}

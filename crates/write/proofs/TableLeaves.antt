@@ -5,7 +5,7 @@ use mathlib.Core.Path.{_≡_, refl, sym, ap, ap₂, _∙_}
 use Prim.Native.Nat.{ℕ, zero, suc}
 use native.Mathlib.Omega.{arith}
 use lib.ListN.{length, drop, getD}
-use Rattle.laws.specs.inner.Sums.{sumOf}
+use Rattle.laws.specs.Lists.{sumOf}
 use Rattle.laws.specs.Tables.{values}
 use Rattle.laws.proofs.Tables.{length-values}
 use Rattle.form.specs.declared.limits.Limits.{Limits}

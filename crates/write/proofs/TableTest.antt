@@ -8,7 +8,7 @@ use native.Mathlib.Omega.{arith}
 use lib.Dec.{eqb}
 use lib.ListN.{length, getD, length-map}
 use borrow.Author.Tests.{eqb-true, eqb-false, eq-eqb, ne-eqb, not-true}
-use Rattle.laws.specs.inner.Sums.{sumOf}
+use Rattle.laws.specs.Lists.{sumOf}
 use Rattle.laws.proofs.Lists.{same-equal}
 use Rattle.laws.proofs.Tables.{getD-values-zero}
 use Rattle.laws.proofs.Tests.{Tested, passed, failed, tested, and-first, and-second, and-both}

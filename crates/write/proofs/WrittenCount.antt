@@ -8,7 +8,6 @@ use native.Mathlib.Nat.{div-le-self}
 use native.Mathlib.Omega.{arith}
 use lib.Dec.{eqb}
 use lib.ListN.{length-append, length}
-use Rattle.laws.specs.inner.Sums.{sumOf}
 use Rattle.laws.specs.Tables.{values}
 use Rattle.laws.proofs.Cases.{less-or-not}
 use Rattle.laws.proofs.Tables.{length-values}
@@ -22,7 +21,7 @@ use Rattle.table.specs.inner.Back.{leafAt}
 use Rattle.table.specs.inner.BySegment.{segmentOf, withLeaf, bySegment, segmentBytes, writtenBytes}
 use Rattle.table.proofs.BySegment.{concat-bySegment}
 use Rattle.write.specs.inner.Tests.{groupsIn, InText, leavesBetween, SegmentEnd}
-use Rattle.laws.specs.Lists.{concat}
+use Rattle.laws.specs.Lists.{concat, sumOf}
 use Rattle.laws.specs.Every.{All, none, also}
 use Rattle.table.proofs.LeafRows.{textOf-append}
 use Rattle.table.proofs.EndToEnd.{end-to-end}

@@ -5,12 +5,11 @@ use mathlib.Core.List.{List, []}
 use mathlib.Core.Path.{_≡_}
 use Prim.Native.Nat.{ℕ, _-_, _≤_, _<_}
 use lib.Dec.{eqb}
-use lib.ListN.{length, getD, take, drop}
+use lib.ListN.{length, getD}
 use Rattle.laws.specs.Tables.{passing}
 use Rattle.table.specs.Lent.{Lent}
 use Rattle.table.specs.Rows.{kindIn}
-use Rattle.look.specs.declared.leaf.Sought.{Sought}
-use Rattle.look.specs.declared.leaf.Sought.the-variants.{At, Empty, NotThere}
+use Rattle.look.specs.Looking.{textFound}
 use Rattle.tested.specs.inner.Searchable.{Searchable}
 use Rattle.tested.specs.inner.KnownOwners.{KnownOwners}
 use Rattle.screen.specs.declared.Verdict.{Verdict}
@@ -44,12 +43,6 @@ firstFailed t i from end = getD (passing (failsAt t i) from (end - from)) 0 end
 -- the verdict of the lowest rule that fails and its row, counted from 1; yes where that is past the rules
 unfoldable pub verdictAt : (number place : ℕ) → Verdict
 verdictAt number place = elim (eqb number pastRules) [ true ↦ yes | false ↦ record { number = number; place = place } ]
-
--- the bytes that a lookup found in a text; none where the leaf is empty or not there
-unfoldable pub textFound : List ℕ → Sought → List ℕ
-textFound text (At start n) = take n (drop start text)
-textFound text Empty = []
-textFound text NotThere = []
 
 -- the text of a leaf of row i by its name (S5)
 abbrev pub textIn : Lent → (i field subfield : ℕ) → List ℕ

@@ -7,7 +7,7 @@ use mathlib.Core.Path.{_≡_}
 use Prim.Native.Nat.{ℕ, _≤_}
 use lib.ListN.{length, drop}
 use Rattle.laws.specs.Every.{All}
-use Rattle.laws.specs.inner.Sums.{sumOf}
+use Rattle.laws.specs.Lists.{sumOf}
 use Rattle.form.specs.declared.limits.Limits.{Limits}
 use Rattle.form.specs.Header.{allAllowed, different, five, splitting}
 use Rattle.line.specs.Lines.{CR, space}

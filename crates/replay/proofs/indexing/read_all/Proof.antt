@@ -7,7 +7,9 @@ use Rattle.replay.proofs.indexing.read_all.Statement.{statement}
 use Rattle.replay.proofs.indexing.read_all.Tie as tie
 
 abbrev Inv-loop : tie.InvT-loop
-Inv-loop operation messages message₀ text₀ segments₀ leaves₀ codes₀ counts₀ tally₀ left₀ message text segments leaves codes counts tally left = (length text₀ ≡ length text) × (length segments₀ ≡ length segments) × (length leaves₀ ≡ length leaves) × (length codes₀ ≡ length codes) × (length counts₀ ≡ length counts)
+Inv-loop operation messages message₀ text₀ segments₀ leaves₀ codes₀ counts₀ tally₀ left₀ message text segments leaves codes counts tally left =
+    (length text₀ ≡ length text) × (length segments₀ ≡ length segments) × (length leaves₀ ≡ length leaves)
+    × (length codes₀ ≡ length codes) × (length counts₀ ≡ length counts)
 
 abbrev μ-loop : tie.MeasureT-loop
 μ-loop operation messages message₀ text₀ segments₀ leaves₀ codes₀ counts₀ tally₀ left₀ message text segments leaves codes counts tally left = left

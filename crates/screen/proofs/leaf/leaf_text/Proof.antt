@@ -12,7 +12,7 @@ use Rattle.look.specs.declared.leaf.Sought.the-variants.{At}
 use Rattle.look.proofs.TextParts.{part-long}
 use Rattle.tested.proofs.NamedLeaves.{sought-named, named-inside}
 use Rattle.screen.specs.Meeting.{soughtOf}
-use Rattle.screen.specs.inner.Rows.{textFound}
+use Rattle.look.specs.Looking.{textFound}
 use Rattle.screen.proofs.leaf.leaf_text.Statement.{statement}
 use Rattle.screen.proofs.leaf.leaf_text.Tie as tie
 
