@@ -1,16 +1,16 @@
 -- Indexes that the contract of reading with one shuts out, each by a message or by one of the statements.
 -- Assumes nothing.
-use mathlib.Core.Bool.{Bool, true, false}
+use mathlib.Core.Bool.{true, false}
 use mathlib.Core.List.{List, [], _∷_}
 use mathlib.Core.Path.{_≡_, refl, ap, _∙_}
-use Prim.Native.Nat.{ℕ, suc, _+_, _≤_}
+use Prim.Native.Nat.{ℕ, _+_, _≤_}
 use native.Mathlib.Omega.{arith}
 use lib.ListN.{length}
 use borrow.Author.Tests.{le-ltb}
-use Rattle.laws.specs.Lists.{same, among, count, firstFrom, sumOf}
+use Rattle.laws.specs.Lists.{same, among, count, sumOf, firstFrom}
 use Rattle.laws.specs.Texts.{bytes}
-use Rattle.laws.specs.Every.{All, none, also}
-use Rattle.laws.proofs.Tests.{never-both, or-second}
+use Rattle.laws.specs.Every.{All}
+use Rattle.laws.proofs.Tests.{never-both}
 use Rattle.form.specs.declared.limits.Limits.{Limits}
 use Rattle.form.specs.declared.forms.Form.{Form}
 use Rattle.form.specs.declared.forms.Form.the-variants.{Small, Large}
@@ -22,11 +22,10 @@ use Rattle.line.specs.Joining.{addendum, carried, joined}
 use Rattle.table.specs.Leaves.{onto, split, kindOfSegment}
 use Rattle.index.specs.declared.tally.Tally.{Tally}
 use Rattle.index.specs.Refusals.{fullIndex, fullCount, noIndex}
-use Rattle.index.specs.Index.{Entry, codesMost, entriesIn, rises, soundIndex, names, countOf}
-use Rattle.index.specs.Adding.{codeAdded, addedAll}
-use Rattle.index.proofs.Sizes.{Fit, roomy-parts}
+use Rattle.index.specs.Index.{codesMost, entriesIn, soundIndex, names, countOf}
+use Rattle.index.proofs.Sizes.{roomy-parts}
 use Rattle.index.proofs.Entries.{length-entries}
-use Rattle.index.proofs.Added.{added-rises, names-added, length-added}
+use Rattle.index.proofs.AddedAll.{length-all-named}
 use Rattle.index.proofs.Halved.{sound-roomy, sound-rises}
 use Rattle.read.specs.declared.indexed.Indexed.{Indexed}
 use Rattle.read.specs.Codes.{leafCode, codeCarried, codesIn, codesCounted}
@@ -95,14 +94,16 @@ module _ (f : Form) (levels : ℕ → ℕ → ℕ) (message : List ℕ) {tally :
   judges-the-message-first e other = other (no-index (limitsOf f) levels message w .1 e)
 
 -- one that counts lines: of nine lines there are eight segments
-pub counts-lines : (f : Form) (levels : ℕ → ℕ → ℕ) {tally : Tally} {text segments leaves codes counts text′ segments′ leaves′ codes′ counts′ : List ℕ} {r : Indexed}
+pub counts-lines : (f : Form) (levels : ℕ → ℕ → ℕ) {tally : Tally}
+    {text segments leaves codes counts text′ segments′ leaves′ codes′ counts′ : List ℕ} {r : Indexed}
     → IndexedAs (limitsOf f) levels tally cutCode text segments leaves codes counts r text′ segments′ leaves′ codes′ counts′ → r .answer .number ≡ 0
     → r .tally .segments ≡ tally .segments + 9 → ⊥
 counts-lines f levels w taken nine =
     omega (arith, nine, ap (λ (t : Tally). t .segments) (adds (limitsOf f) levels cutCode w taken .tallied), cut-segments f)
 
 -- one that counts the parts of a cut code, or a code twice in the index for two rows in the message
-pub counts-parts : (f : Form) (levels : ℕ → ℕ → ℕ) {tally : Tally} {text segments leaves codes counts text′ segments′ leaves′ codes′ counts′ : List ℕ} {r : Indexed}
+pub counts-parts : (f : Form) (levels : ℕ → ℕ → ℕ) {tally : Tally}
+    {text segments leaves codes counts text′ segments′ leaves′ codes′ counts′ : List ℕ} {r : Indexed}
     → IndexedAs (limitsOf f) levels tally cutCode text segments leaves codes counts r text′ segments′ leaves′ codes′ counts′ → r .answer .number ≡ 0
     → (countOf (entriesIn codes′ counts′) (bytes "GLY") ≡ countOf (entriesIn codes counts) (bytes "GLY") + 2 → ⊥) → ⊥
 unfolding count same bytes
@@ -111,15 +112,19 @@ counts-parts f levels w taken other =
     other (omega (arith, adds (limitsOf f) levels cutCode w taken .counted (bytes "GLY"), two))
 
 -- one that counts a result without a code
-pub counts-the-empty : (f : Form) (levels : ℕ → ℕ → ℕ) {tally : Tally} {text segments leaves codes counts text′ segments′ leaves′ codes′ counts′ : List ℕ} {r : Indexed}
-    → IndexedAs (limitsOf f) levels tally fourResults text segments leaves codes counts r text′ segments′ leaves′ codes′ counts′ → r .answer .number ≡ 0
+pub counts-the-empty : (f : Form) (levels : ℕ → ℕ → ℕ) {tally : Tally}
+    {text segments leaves codes counts text′ segments′ leaves′ codes′ counts′ : List ℕ} {r : Indexed}
+    → IndexedAs (limitsOf f) levels tally fourResults text segments leaves codes counts r text′ segments′ leaves′ codes′ counts′
+    → r .answer .number ≡ 0
     → r .tally .results ≡ tally .results + 4 → ⊥
 counts-the-empty f levels w taken four =
     omega (arith, four, ap (λ (t : Tally). t .results) (adds (limitsOf f) levels fourResults w taken .tallied), ap length (four-results f))
 
 -- one that counts a second repetition
-pub counts-a-repetition : (f : Form) (levels : ℕ → ℕ → ℕ) {tally : Tally} {text segments leaves codes counts text′ segments′ leaves′ codes′ counts′ : List ℕ} {r : Indexed}
-    → IndexedAs (limitsOf f) levels tally twoRepetitions text segments leaves codes counts r text′ segments′ leaves′ codes′ counts′ → r .answer .number ≡ 0
+pub counts-a-repetition : (f : Form) (levels : ℕ → ℕ → ℕ) {tally : Tally}
+    {text segments leaves codes counts text′ segments′ leaves′ codes′ counts′ : List ℕ} {r : Indexed}
+    → IndexedAs (limitsOf f) levels tally twoRepetitions text segments leaves codes counts r text′ segments′ leaves′ codes′ counts′
+    → r .answer .number ≡ 0
     → countOf (entriesIn codes′ counts′) (bytes "URE") ≡ countOf (entriesIn codes counts) (bytes "URE") + 1 → ⊥
 unfolding count same bytes
 counts-a-repetition f levels w taken one =
@@ -127,18 +132,6 @@ counts-a-repetition f levels w taken one =
     omega (arith, one, adds (limitsOf f) levels twoRepetitions w taken .counted (bytes "URE"), nought)
 
 -- one that refuses with 51 where every code stood in the index: these take no place
-all-named : (cs : List (List ℕ)) (es : List Entry) → All Fit cs → rises es ≡ true → All (λ (c : List ℕ). names es c ≡ true) cs → length (addedAll cs es) ≡ length es
-unfolding addedAll
-all-named [] es none w none = refl
-all-named (c ∷ cs) es (also fit fits) w (also h hs) =
-    all-named cs (codeAdded c es) fits (added-rises c es fit w) (still hs)
-    ∙ length-added c es w
-    ∙ ap {B = ℕ} (λ (b : Bool). elim b [ true ↦ length es | false ↦ suc (length es) ]) h
-  where
-    still : {ds : List (List ℕ)} → All (λ (d : List ℕ). names es d ≡ true) ds → All (λ (d : List ℕ). names (codeAdded c es) d ≡ true) ds
-    still none = none
-    still (also {a = d} k ks) = also (names-added c es d ∙ or-second (same c d) k) (still ks)
-
 pub full-though-named : (L : Limits) (levels : ℕ → ℕ → ℕ) (message : List ℕ) {tally : Tally}
     {text segments leaves codes counts text′ segments′ leaves′ codes′ counts′ : List ℕ} {r : Indexed}
     → IndexedAs L levels tally message text segments leaves codes counts r text′ segments′ leaves′ codes′ counts′
@@ -146,14 +139,17 @@ pub full-though-named : (L : Limits) (levels : ℕ → ℕ → ℕ) (message : L
 full-though-named L levels message {codes = codes} {counts = counts} w named e =
     let so = full-index L levels message w .0 e in
     let sound = so .0 .sound in
-    let long = all-named (codesCounted (codesIn L message)) (entriesIn codes counts) (none-long-fit (codesIn L message) (so .1)) (sound-rises codes counts sound) named in
+    let long =
+    length-all-named (codesCounted (codesIn L message)) (entriesIn codes counts) (none-long-fit (codesIn L message) (so .1))
+    (sound-rises codes counts sound) named in
     never-both (so .2)
     (le-ltb codesMost (length (entriesWith L message codes counts))
     (omega (arith, long, length-entries codes counts, roomy-parts codes counts (sound-roomy codes counts sound) .fewNamed)))
 
 -- one that counts a message once which was added twice
-pub counts-once : {codes counts : List ℕ} {tally : Tally} {before : List AddedMessage} (a : AddedMessage) → HoldsHistory codes counts tally (a ∷ a ∷ before)
-    → (c : List ℕ) → 1 ≤ resultsWith (a .limits) (a .message) c
-    → countOf (entriesIn codes counts) c ≡ resultsWith (a .limits) (a .message) c + sumOf (λ (b : AddedMessage). resultsWith (b .limits) (b .message) c) before → ⊥
+pub counts-once : {codes counts : List ℕ} {tally : Tally} {before : List AddedMessage} (a : AddedMessage)
+    → HoldsHistory codes counts tally (a ∷ a ∷ before) → (c : List ℕ) → 1 ≤ resultsWith (a .limits) (a .message) c
+    → countOf (entriesIn codes counts) c
+    ≡ resultsWith (a .limits) (a .message) c + sumOf (λ (b : AddedMessage). resultsWith (b .limits) (b .message) c) before → ⊥
 unfolding sumOf
 counts-once a h c some once = omega (arith, h .counted c, once, some)

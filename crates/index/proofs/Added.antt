@@ -6,7 +6,7 @@ use mathlib.Core.List.{List, [], _∷_}
 use mathlib.Core.Path.{_≡_, refl, sym, ap, _∙_, subst⁻¹}
 use Prim.Native.Nat.{ℕ, suc, _+_, _-_}
 use native.Mathlib.Omega.{arith}
-use lib.ListN.{length, replicate, length-append, length-replicate}
+use lib.ListN.{length, replicate}
 use lib.Seq.{take-append-seam}
 use Rattle.laws.specs.Lists.{same}
 use Rattle.laws.specs.Every.{none, also}
@@ -15,42 +15,37 @@ use Rattle.laws.proofs.Lists.{same-equal}
 use Rattle.laws.proofs.Tests.{Tested, passed, failed, tested, or-first, or-second, or-fails}
 use Rattle.index.specs.declared.code.Compared.the-variants.{Before}
 use Rattle.index.specs.Order.{byteOrder}
-use Rattle.index.specs.Index.{Entry, codeMost, placeSize, entryCode, risesAfter, rises, names, countOf}
+use Rattle.index.specs.Index.{Entry, codeMost, entryCode, risesAfter, rises, names, countOf}
 use Rattle.index.specs.Adding.{placeOfCode, newEntry, oneMore, codeAdded}
 use Rattle.index.proofs.Sizes.{Sized, Fit}
-use Rattle.index.proofs.Orders.{Three, isB, isS, isA, three, order-same, order-alike-same, after-differs, after-before}
-use Rattle.index.proofs.Steps.{same-sym, names-hit, names-miss, count-hit, count-miss, added-here, added-sooner, added-later, Rising, rises-rising, rising-rises, rises-unnamed, unnamed-uncounted}
+use Rattle.index.proofs.Orders.{Three, isB, isS, isA, three, order-same, order-alike-same, after-differs, after-before, some-behind}
+use Rattle.index.proofs.Steps.{same-sym, names-hit, names-miss, count-hit, count-miss, added-here, added-sooner, added-later}
+use Rattle.index.proofs.Steps.{Rising, rises-rising, rising-rises, rising-sooner, sooner-unnamed, unnamed-uncounted}
+use Rattle.index.proofs.PlacedCode.{length-placed}
 
 -- a new entry has the code that it was made of
 pub code-new : (c : List ℕ) → entryCode (newEntry c) ≡ c
 unfolding placeOfCode
 code-new c = take-append-seam c (replicate (codeMost - length c) 0)
 
-pub new-sized : (c : List ℕ) → Fit c → length (placeOfCode c) ≡ placeSize
-unfolding placeOfCode
-new-sized c fit =
-    omega (arith, length-append c (replicate (codeMost - length c) 0), length-replicate {A = ℕ} (codeMost - length c) 0, fit .short)
-
--- a code has a byte, so it is behind the empty one
-pub fit-behind : (c : List ℕ) → Fit c → byteOrder [] c ≡ Before
-unfolding byteOrder
-fit-behind [] fit = absurd (omega (arith, fit .some))
-fit-behind (b ∷ c) fit = refl
+same-new : (c d : List ℕ) → same d (entryCode (newEntry c)) ≡ same c d
+same-new c d = ap (same d) (code-new c) ∙ same-sym d c
 
 pub added-sized : (c : List ℕ) (es : List Entry) → Fit c → Sized es → Sized (codeAdded c es)
 unfolding codeAdded
-added-sized c [] fit w = also (new-sized c fit) none
+added-sized c [] fit w = also (length-placed c (fit .short)) none
 added-sized c (e ∷ es) fit w = go (three (byteOrder c (entryCode e))) (added-sized c es fit (all-rest w))
   where
     go : Three (byteOrder c (entryCode e)) → Sized (codeAdded c es) → Sized (codeAdded c (e ∷ es))
-    go (isB h) ih = subst⁻¹ Sized (added-sooner c e es h) (also (new-sized c fit) w)
+    go (isB h) ih = subst⁻¹ Sized (added-sooner c e es h) (also (length-placed c (fit .short)) w)
     go (isS h) ih = subst⁻¹ Sized (added-here c e es (order-alike-same c (entryCode e) h)) (also (all-first w) (all-rest w))
     go (isA h) ih = subst⁻¹ Sized (added-later c e es h) (also (all-first w) ih)
 
 -- the codes still rise
 
 -- a new entry before what rises after its code
-new-rises : (last c : List ℕ) (es : List Entry) → Fit c → byteOrder last c ≡ Before → risesAfter c es ≡ true → risesAfter last (newEntry c ∷ es) ≡ true
+new-rises : (last c : List ℕ) (es : List Entry) → Fit c → byteOrder last c ≡ Before → risesAfter c es ≡ true
+    → risesAfter last (newEntry c ∷ es) ≡ true
 unfolding placeOfCode
 new-rises last c es fit h w =
     rising-rises last (newEntry c) es (record {
@@ -60,7 +55,8 @@ new-rises last c es fit h w =
       rest = ap (λ (d : List ℕ). risesAfter d es) (code-new c) ∙ w;
     })
 
-added-after : (last c : List ℕ) (es : List Entry) → Fit c → byteOrder last c ≡ Before → risesAfter last es ≡ true → risesAfter last (codeAdded c es) ≡ true
+added-after : (last c : List ℕ) (es : List Entry) → Fit c → byteOrder last c ≡ Before → risesAfter last es ≡ true
+    → risesAfter last (codeAdded c es) ≡ true
 unfolding codeAdded risesAfter
 added-after last c [] fit h w = new-rises last c [] fit h refl
 added-after last c (e ∷ es) fit h w =
@@ -71,8 +67,7 @@ added-after last c (e ∷ es) fit h w =
         → risesAfter last (codeAdded c (e ∷ es)) ≡ true
     go (isB k) r ih =
         ap (risesAfter last) (added-sooner c e es k)
-        ∙ new-rises last c (e ∷ es) fit h
-        (rising-rises c e es (record { some = r .some; short = r .short; behind = k; rest = r .rest }))
+        ∙ new-rises last c (e ∷ es) fit h (rising-sooner c r k)
     go (isS k) r ih = ap (risesAfter last) (added-here c e es (order-alike-same c (entryCode e) k)) ∙ w
     go (isA k) r ih =
         ap (risesAfter last) (added-later c e es k)
@@ -80,33 +75,27 @@ added-after last c (e ∷ es) fit h w =
         (record { some = r .some; short = r .short; behind = r .behind; rest = ih (after-before c (entryCode e) k) (r .rest) })
 
 pub added-rises : (c : List ℕ) (es : List Entry) → Fit c → rises es ≡ true → rises (codeAdded c es) ≡ true
-added-rises c es fit w = added-after [] c es fit (fit-behind c fit) w
+added-rises c es fit w = added-after [] c es fit (some-behind c (fit .some)) w
 
 -- what is named: the code that was added, and what was named before
 pub names-added : (c : List ℕ) (es : List Entry) (d : List ℕ) → names (codeAdded c es) d ≡ (same c d || names es d)
 unfolding codeAdded names
 names-added c [] d = go (tested (same c d))
   where
-    code : same d (entryCode (newEntry c)) ≡ same c d
-    code = ap (same d) (code-new c) ∙ same-sym d c
-
     go : Tested (same c d) → names (newEntry c ∷ []) d ≡ (same c d || false)
-    go (passed h) = names-hit (newEntry c) [] d (code ∙ h) ∙ sym (or-first false h)
-    go (failed h) = names-miss (newEntry c) [] d (code ∙ h) ∙ sym (or-fails h refl)
+    go (passed h) = names-hit (newEntry c) [] d (same-new c d ∙ h) ∙ sym (or-first false h)
+    go (failed h) = names-miss (newEntry c) [] d (same-new c d ∙ h) ∙ sym (or-fails h refl)
 names-added c (e ∷ es) d = go (three (byteOrder c (entryCode e))) (tested (same c d)) (tested (same d (entryCode e))) (names-added c es d)
   where
-    code : same d (entryCode (newEntry c)) ≡ same c d
-    code = ap (same d) (code-new c) ∙ same-sym d c
-
     go : Three (byteOrder c (entryCode e)) → Tested (same c d) → Tested (same d (entryCode e)) → names (codeAdded c es) d ≡ (same c d || names es d)
         → names (codeAdded c (e ∷ es)) d ≡ (same c d || names (e ∷ es) d)
     go (isB h) (passed k) f ih =
         ap (λ (l : List Entry). names l d) (added-sooner c e es h)
-        ∙ names-hit (newEntry c) (e ∷ es) d (code ∙ k)
+        ∙ names-hit (newEntry c) (e ∷ es) d (same-new c d ∙ k)
         ∙ sym (or-first (names (e ∷ es) d) k)
     go (isB h) (failed k) f ih =
         ap (λ (l : List Entry). names l d) (added-sooner c e es h)
-        ∙ names-miss (newEntry c) (e ∷ es) d (code ∙ k)
+        ∙ names-miss (newEntry c) (e ∷ es) d (same-new c d ∙ k)
         ∙ sym (ap (λ (b : Bool). b || names (e ∷ es) d) k)
     go (isS h) (passed k) f ih =
         ap (λ (l : List Entry). names l d) (added-here c e es (order-alike-same c (entryCode e) h))
@@ -142,14 +131,11 @@ once-miss c d h = ap (λ (b : Bool). elim b [ true ↦ 1 | false ↦ 0 ]) h
 count-new : (c : List ℕ) (es : List Entry) (d : List ℕ) → names es c ≡ false → countOf (newEntry c ∷ es) d ≡ countOf es d + once c d
 count-new c es d n = go (tested (same c d))
   where
-    code : same d (entryCode (newEntry c)) ≡ same c d
-    code = ap (same d) (code-new c) ∙ same-sym d c
-
     go : Tested (same c d) → countOf (newEntry c ∷ es) d ≡ countOf es d + once c d
     go (passed h) =
         let none : countOf es d ≡ 0 = ap (countOf es) (sym (same-equal c d h)) ∙ unnamed-uncounted es c n in
-        omega (arith, count-hit (newEntry c) es d (code ∙ h), once-hit c d h)
-    go (failed h) = omega (arith, count-miss (newEntry c) es d (code ∙ h), once-miss c d h)
+        omega (arith, count-hit (newEntry c) es d (same-new c d ∙ h), once-hit c d h)
+    go (failed h) = omega (arith, count-miss (newEntry c) es d (same-new c d ∙ h), once-miss c d h)
 
 count-after : (last c : List ℕ) (es : List Entry) → risesAfter last es ≡ true → (d : List ℕ) → countOf (codeAdded c es) d ≡ countOf es d + once c d
 unfolding codeAdded names
@@ -161,9 +147,7 @@ count-after last c (e ∷ es) w d =
         → (risesAfter (entryCode e) es ≡ true → countOf (codeAdded c es) d ≡ countOf es d + once c d)
         → countOf (codeAdded c (e ∷ es)) d ≡ countOf (e ∷ es) d + once c d
     go (isB h) t r ih =
-        ap (λ (l : List Entry). countOf l d) (added-sooner c e es h)
-        ∙ count-new c (e ∷ es) d
-        (rises-unnamed c (e ∷ es) (rising-rises c e es (record { some = r .some; short = r .short; behind = h; rest = r .rest })))
+        ap (λ (l : List Entry). countOf l d) (added-sooner c e es h) ∙ count-new c (e ∷ es) d (sooner-unnamed c r h)
     go (isS h) (passed f) r ih =
         let same-code : same c d ≡ true = ap (same c) (same-equal d (entryCode e) f) ∙ order-alike-same c (entryCode e) h in
         ap (λ (l : List Entry). countOf l d) (added-here c e es (order-alike-same c (entryCode e) h))
@@ -197,7 +181,7 @@ length-after last c (e ∷ es) w = go (three (byteOrder c (entryCode e))) (rises
     go (isB h) r ih =
         ap length (added-sooner c e es h)
         ∙ sym (ap (λ (b : Bool). elim b [ true ↦ suc (length es) | false ↦ suc (suc (length es)) ])
-        (rises-unnamed c (e ∷ es) (rising-rises c e es (record { some = r .some; short = r .short; behind = h; rest = r .rest }))))
+        (sooner-unnamed c r h))
     go (isS h) r ih =
         ap length (added-here c e es (order-alike-same c (entryCode e) h))
         ∙ sym (ap (λ (b : Bool). elim b [ true ↦ suc (length es) | false ↦ suc (suc (length es)) ])
@@ -209,7 +193,8 @@ length-after last c (e ∷ es) w = go (three (byteOrder c (entryCode e))) (rises
         ∙ sym (ap (λ (b : Bool). elim b [ true ↦ suc (length es) | false ↦ suc (suc (length es)) ])
         (names-miss e es c (after-differs c (entryCode e) h)))
       where
-        by : (b : Bool) → suc (elim b [ true ↦ length es | false ↦ suc (length es) ]) ≡ elim b [ true ↦ suc (length es) | false ↦ suc (suc (length es)) ]
+        by : (b : Bool)
+            → suc (elim b [ true ↦ length es | false ↦ suc (length es) ]) ≡ elim b [ true ↦ suc (length es) | false ↦ suc (suc (length es)) ]
         by true = refl
         by false = refl
 

@@ -18,7 +18,7 @@ use Rattle.index.specs.Adding.{codeAdded, addedAll, tooLarge}
 use Rattle.index.proofs.Sizes.{Sized, Fit}
 use Rattle.index.proofs.Orders.{Three, isB, isS, isA, three, order-alike-same}
 use Rattle.index.proofs.Steps.{added-here, added-sooner, added-later}
-use Rattle.index.proofs.Added.{added-sized, added-rises, names-added, once, once-hit, once-miss, count-added}
+use Rattle.index.proofs.Added.{added-sized, added-rises, names-added, once, once-hit, once-miss, count-added, length-added}
 use Rattle.index.proofs.Large.{large-added}
 use Rattle.index.proofs.SamePlaces.{placeList, same-added}
 
@@ -66,7 +66,9 @@ names-all [] es d = go (names es d)
     go : (b : Bool) → b ≡ (b || false)
     go true = refl
     go false = refl
-names-all (c ∷ cs) es d = go (tested (same c d)) (names-all cs (codeAdded c es) d ∙ ap (λ (b : Bool). b || ltb 0 (count (λ (c : List ℕ). same c d) cs)) (names-added c es d))
+names-all (c ∷ cs) es d =
+    go (tested (same c d))
+    (names-all cs (codeAdded c es) d ∙ ap (λ (b : Bool). b || ltb 0 (count (λ (c : List ℕ). same c d) cs)) (names-added c es d))
   where
     go : Tested (same c d) → names (addedAll cs (codeAdded c es)) d ≡ (same c d || names es d || ltb 0 (count (λ (c : List ℕ). same c d) cs))
         → names (addedAll cs (codeAdded c es)) d ≡ (names es d || ltb 0 (count (λ (c : List ℕ). same c d) (c ∷ cs)))
@@ -94,6 +96,20 @@ pub length-all : (cs : List (List ℕ)) (es : List Entry) → length es ≤ leng
 unfolding addedAll
 length-all [] es = omega arith
 length-all (c ∷ cs) es = omega (arith, length-grows c es, length-all cs (codeAdded c es))
+
+-- codes that were all named take no place
+pub length-all-named : (cs : List (List ℕ)) (es : List Entry) → All Fit cs → rises es ≡ true → All (λ (c : List ℕ). names es c ≡ true) cs
+    → length (addedAll cs es) ≡ length es
+unfolding addedAll
+length-all-named [] es none w none = refl
+length-all-named (c ∷ cs) es (also fit fits) w (also h hs) =
+    length-all-named cs (codeAdded c es) fits (added-rises c es fit w) (still hs)
+    ∙ length-added c es w
+    ∙ ap {B = ℕ} (λ (b : Bool). elim b [ true ↦ length es | false ↦ suc (length es) ]) h
+  where
+    still : {ds : List (List ℕ)} → All (λ (d : List ℕ). names es d ≡ true) ds → All (λ (d : List ℕ). names (codeAdded c es) d ≡ true) ds
+    still none = none
+    still (also {a = d} k ks) = also (names-added c es d ∙ or-second (same c d) k) (still ks)
 
 -- what is too large stays so
 pub large-all : (cs : List (List ℕ)) (es : List Entry) → tooLarge es ≡ true → tooLarge (addedAll cs es) ≡ true

@@ -16,7 +16,8 @@ use Rattle.index.specs.Adding.{nothing, oneMore, declines, leaves, gives
 use Rattle.index.specs.inner.Halving.{soughtAmong}
 use Rattle.index.specs.inner.Changing.{CountsOnceMore, Inserts, inserted}
 use Rattle.index.proofs.KeptHalf.{Within, sought-within}
-use Rattle.index.proofs.Putting.{length-entries, entry-there, kept-codes, once-more-counts}
+use Rattle.index.proofs.Entries.{length-entries, entry-there}
+use Rattle.index.proofs.Putting.{kept-codes, once-more-counts}
 
 module _ (c codes counts : List ℕ) where
   -- the outcome, where it is known what adding comes to
@@ -95,7 +96,7 @@ module _ (c codes counts : List ℕ) where
           more = take (f .at) es ++ (oneMore (getD es (f .at) nothing) ∷ drop (suc (f .at)) es)
 
           count-there : getD es (f .at) nothing .count ≡ count-now
-          count-there = ap (λ (n : Entry). n .count) (entry-there codes counts e (f .at) (place-within .entry known))
+          count-there = ap (λ (n : Entry). n .count) (entry-there codes counts (f .at) (place-within .entry known))
 
           at-count : additionAt c es f ≡ elim (leb countsPast (suc count-now)) [ true ↦ declines fullCount | false ↦ gives more ]
           unfolding additionAt

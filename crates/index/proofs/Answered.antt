@@ -2,12 +2,12 @@
 -- stands.
 -- Assumes nothing.
 use mathlib.Core.Bool.{Bool, true, false}
-use mathlib.Core.List.{List, [], _∷_}
+use mathlib.Core.List.{List}
 use mathlib.Core.Logic.{_⊎_, inl, inr}
 use mathlib.Core.Path.{_≡_, refl, sym, ap, ap₂, _∙_, subst}
-use Prim.Native.Nat.{ℕ, zero, suc, _+_, _-_, _*_, _<_, _≤_}
+use Prim.Native.Nat.{ℕ, suc, _+_, _-_, _*_, _<_, _≤_}
 use native.Mathlib.Omega.{arith}
-use lib.ListN.{length, take, drop, getD, length-drop}
+use lib.ListN.{length, take, drop, getD}
 use lib.Seq.{length-take-le}
 use Rattle.laws.proofs.Cases.{less-or-not}
 use Rattle.laws.proofs.Tests.{Tested, passed, failed, tested, never-both, never-holds}
@@ -16,23 +16,15 @@ use Rattle.index.specs.declared.asking.Codes.the-variants as C
 use Rattle.index.specs.declared.asking.Count.{Count}
 use Rattle.index.specs.declared.asking.Count.the-variants as N
 use Rattle.index.specs.declared.asking.Code.the-variants as K
-use Rattle.index.specs.Index.{Entry, codeMost, placeSize, lengthOf, entryCode, namedIn, entryAt, entriesIn, risesAfter, soundIndex, names, countOf}
+use Rattle.index.specs.Index.{Entry, codeMost, placeSize, entryCode, namedIn, entryAt, entriesIn, soundIndex, names, countOf}
 use Rattle.index.specs.Adding.{nothing}
 use Rattle.index.specs.Finding.{placeFound, codesAsked, countAt, countAsked, codeAsked}
 use Rattle.index.specs.inner.Halving.{soughtAmong}
 use Rattle.index.specs.inner.Rising.{lengthAt}
-use Rattle.index.proofs.Sizes.{roomy-parts}
 use Rattle.index.proofs.Entries.{length-entries, entry-there}
-use Rattle.index.proofs.Steps.{rises-rising}
-use Rattle.index.proofs.RisingEntries.{length-there, code-there}
-use Rattle.index.proofs.Halved.{rises-short, Here, sound-roomy, sound-rises, found-sound}
+use Rattle.index.proofs.RisingEntries.{code-there}
+use Rattle.index.proofs.Halved.{Here, sound-roomy, place-filled, place-fits, code-inside, found-sound}
 use Rattle.index.proofs.Asked.{some-codes, too-long, found-sought, count-found, not-named, times-there, code-zero, code-past, code-asked}
-
--- entries that rise have no empty code
-pub rises-some : (last : List ℕ) (es : List Entry) → risesAfter last es ≡ true → (i : ℕ) → i < length es → 1 ≤ lengthOf (getD es i nothing)
-rises-some last [] w i h = absurd (omega arith)
-rises-some last (e ∷ es) w zero h = rises-rising last e es w .some
-rises-some last (e ∷ es) w (suc i) h = rises-some (entryCode e) es (rises-rising last e es w .rest) i (omega arith)
 
 -- what a finder is to say of any code, also of one that is too long for a place: whether it is named, and where it stands
 pub record FindsCode (es : List Entry) (c : List ℕ) (f : Found) : Type 0 where
@@ -44,28 +36,11 @@ module _ (codes counts : List ℕ) (sound : soundIndex codes counts ≡ true) wh
   abbrev es : List Entry
   es = entriesIn codes counts
 
-  -- the length at a named place is that of its entry: 1 to 22
-  length-named : (i : ℕ) → i < namedIn counts → lengthOf (getD es i nothing) ≡ lengthAt codes i
-  length-named i h = ap (λ (e : Entry). lengthOf e) (entry-there codes counts i h) ∙ length-there codes counts i
-
-  pub place-filled : (i : ℕ) → i < namedIn counts → 1 ≤ lengthAt codes i
-  place-filled i h =
-      subst (λ (n : ℕ). 1 ≤ n) (length-named i h)
-      (rises-some [] es (sound-rises codes counts sound) i (omega (arith, length-entries codes counts)))
-
-  pub place-fits : (i : ℕ) → i < namedIn counts → lengthAt codes i ≤ codeMost
-  place-fits i h =
-      subst (λ (n : ℕ). n ≤ codeMost) (length-named i h)
-      (rises-short [] es (sound-rises codes counts sound) i (omega (arith, length-entries codes counts)))
-
-  -- so a code there has as many bytes as its place says
+  -- a code has as many bytes as its place says
   length-code : (i : ℕ) → i < namedIn counts → length (entryCode (entryAt codes counts i)) ≡ lengthAt codes i
   length-code i h =
-      let room = roomy-parts codes counts (sound-roomy codes counts sound) in
-      let short = place-fits i h in
-      ap (λ (c : List ℕ). length c) (code-there codes counts i short)
-      ∙ length-take-le (lengthAt codes i) (drop (i * placeSize + 1) codes)
-      (omega (arith, short, h, room .codesRoom, room .fewNamed, length-drop (i * placeSize + 1) codes))
+      ap (λ (c : List ℕ). length c) (code-there codes counts i (place-fits codes counts sound i h))
+      ∙ length-take-le (lengthAt codes i) (drop (i * placeSize + 1) codes) (code-inside codes counts sound i h)
 
   -- how many codes
   pub codes-answered : codesAsked codes counts ≡ C.Named (length es)
@@ -83,7 +58,7 @@ module _ (codes counts : List ℕ) (sound : soundIndex codes counts ≡ true) wh
       ap (λ (d : List ℕ). length d) (sym (here .code))
       ∙ ap (λ (e : Entry). length (entryCode e)) (entry-there codes counts (f .at) inside)
       ∙ length-code (f .at) inside in
-      omega (arith, long, place-fits (f .at) inside)
+      omega (arith, long, place-fits codes counts sound (f .at) inside)
 
   -- whatever code is looked for: halving finds what is named, and a code too long for a place is not
   pub finds-code : (c : List ℕ) → FindsCode es c (placeFound codes counts c)
@@ -132,7 +107,7 @@ module _ (codes counts : List ℕ) (sound : soundIndex codes counts ≡ true) wh
     pub code-answered : codeAsked codes counts k ≡ K.At ((k - 1) * placeSize + 1) (length (entryCode kth)) (kth .count)
     code-answered =
         sym (code-asked codes counts k (sound-roomy codes counts sound) (λ z. omega (arith, z)) within
-        (λ z. omega (arith, z, place-filled (k - 1) inside)) (place-fits (k - 1) inside))
+        (λ z. omega (arith, z, place-filled codes counts sound (k - 1) inside)) (place-fits codes counts sound (k - 1) inside))
         ∙ ap₂ (λ (n m : ℕ). K.At ((k - 1) * placeSize + 1) n m) (sym (length-code (k - 1) inside))
         (ap (λ (n : ℕ). getD counts n 0) (let q : k ≡ suc (k - 1) = omega arith in q))
 
@@ -140,7 +115,7 @@ module _ (codes counts : List ℕ) (sound : soundIndex codes counts ≡ true) wh
     pub code-where : take (length (entryCode kth)) (drop ((k - 1) * placeSize + 1) codes) ≡ entryCode kth
     code-where =
         ap (λ (n : ℕ). take n (drop ((k - 1) * placeSize + 1) codes)) (length-code (k - 1) inside)
-        ∙ sym (code-there codes counts (k - 1) (place-fits (k - 1) inside))
+        ∙ sym (code-there codes counts (k - 1) (place-fits codes counts sound (k - 1) inside))
 
   -- codes are counted from 1, and none stands past the last
   pub no-code-answered : (k : ℕ) → (k ≡ 0) ⊎ (namedIn counts < k) → codeAsked codes counts k ≡ K.NotNamed

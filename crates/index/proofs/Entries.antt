@@ -104,7 +104,8 @@ module _ (es : List Entry) (codes counts : List ℕ) (whole : Sized es) (few : l
       let counts′ = sets counts 0 (countsPut es) in
       ap (values (entryAt codes′ counts′) 0) named-put
       ∙ values-same (entryAt codes′ counts′) (λ k. getD es k nothing) 0 (length es)
-      (λ k low high. ap₂ {C = Entry} (λ (p : List ℕ) (n : ℕ). record { place = p; count = n }) (place-back k (omega arith)) (count-back k (omega arith)))
+      (λ k low high.
+      ap₂ {C = Entry} (λ (p : List ℕ) (n : ℕ). record { place = p; count = n }) (place-back k (omega arith)) (count-back k (omega arith)))
       ∙ values-entries es nothing
 
   -- and has room

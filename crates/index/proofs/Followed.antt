@@ -45,15 +45,15 @@ module _ (codes : List ℕ) (at : ℕ) where
       ∙ ap (λ (b : Bool). b && isBehind (compared (codeFrom codes (at + placeSize)) (getD codes at 0) (drop (at + 1) codes))) e
 
 -- the loop: so many places are left, up to the last one; what is left rises exactly where all do
-pub record Rising (codes : List ℕ) (n at : ℕ) : Type 0 where
+pub record StillRising (codes : List ℕ) (n at : ℕ) : Type 0 where
   pub left : ℕ
   pub upto : at + left * placeSize ≡ n * placeSize
   pub rest : risesFrom codes at left ≡ risesFrom codes 0 n
 
-pub rising-begins : (codes : List ℕ) (n : ℕ) → Rising codes n 0
+pub rising-begins : (codes : List ℕ) (n : ℕ) → StillRising codes n 0
 rising-begins codes n = record { left = n; upto = omega arith; rest = refl }
 
-module _ {codes : List ℕ} {n at : ℕ} (u : Rising codes n at) where
+module _ {codes : List ℕ} {n at : ℕ} (u : StillRising codes n at) where
   -- a place is left below the last one
   some-left : at < n * placeSize → (u .left ≡ 0 → ⊥)
   some-left h e = omega (arith, h, u .upto, e)
@@ -67,7 +67,7 @@ module _ {codes : List ℕ} {n at : ℕ} (u : Rising codes n at) where
   pub rising-room : at < n * placeSize → at + placeSize ≤ n * placeSize
   rising-room h = omega (arith, u .upto, at-least-one (u .left) (some-left h))
 
-  pub rising-next : at < n * placeSize → true ≡ followsAt codes at → Rising codes n (at + placeSize)
+  pub rising-next : at < n * placeSize → true ≡ followsAt codes at → StillRising codes n (at + placeSize)
   rising-next h e =
       record {
         left = u .left - 1;

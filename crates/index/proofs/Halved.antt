@@ -10,23 +10,26 @@ use native.Mathlib.Omega.{arith}
 use borrow.Author.Tests.{ltb-true, ltb-false, le-leb, ne-eqb}
 use lib.Dec.{leb, ltb, eqb}
 use lib.ListN.{length, take, drop, getD, length-drop}
-use lib.Seq.{getD-take, getD-drop, drop-drop}
 use Rattle.laws.specs.Lists.{same}
 use Rattle.laws.proofs.Cases.{equal-or-not}
 use Rattle.laws.proofs.Lists.{same-self}
-use Rattle.laws.proofs.Parts.{part-taken}
 use Rattle.laws.proofs.Tests.{Tested, passed, failed, tested, never-both, and-first, and-second}
-use Rattle.index.specs.declared.code.Compared.{Compared}
-use Rattle.index.specs.declared.code.Compared.the-variants.{Before, Same, After}
+use Rattle.index.specs.declared.code.Compared.the-variants.{Before, After}
 use Rattle.index.specs.declared.finding.Found.{Found}
 use Rattle.index.specs.Order.{byteOrder}
 use Rattle.index.specs.Refusals.{longCode, fullIndex, fullCount, noIndex}
-use Rattle.index.specs.Index.{Entry, codesMost, codeMost, placeSize, countsPast, lengthOf, entryCode, namedIn, entryAt, entriesIn, roomy, risesAfter, rises, soundIndex, names, countOf}
+use Rattle.index.specs.Index.{Entry, codesMost, codeMost, placeSize, countsPast, entryCode, namedIn, entryAt, entriesIn}
+use Rattle.index.specs.Index.{roomy, risesAfter, rises, soundIndex, names, countOf}
 use Rattle.index.specs.Adding.{nothing, newEntry, oneMore, codeAdded, Addition, declines, leaves, gives, additionAt, additionOf, addition}
 use Rattle.index.specs.inner.Halving.{comparedAt, standsAt, missingAt, halved, soughtAmong}
+use Rattle.index.specs.inner.Rising.{lengthAt}
 use Rattle.index.proofs.Sizes.{Fit, roomy-parts}
-use Rattle.index.proofs.Orders.{Three, isB, isS, isA, three, order-same, before-after, after-before, before-trans, before-differs, after-differs, compared-order}
+use Rattle.index.proofs.Orders.{Three, isB, isS, isA, three, order-same, before-after, after-before, before-trans}
+use Rattle.index.proofs.Orders.{before-differs, after-differs, compared-order}
 use Rattle.index.proofs.Entries.{length-entries, entry-there}
+use Rattle.index.proofs.RisingParts.{PartRises, rises-part}
+use Rattle.index.proofs.RisingEntries.{length-there, code-there}
+use Rattle.index.proofs.KeptHalf.{doubled, halved-none, halved-before, halved-same, halved-after}
 use Rattle.index.proofs.Steps.{names-hit, names-miss, count-hit, count-miss, added-here, added-sooner, added-later, rises-rising, rises-lower}
 
 -- the code at a place of some entries
@@ -41,11 +44,6 @@ rises-behind last (e ∷ es) w zero h = rises-rising last e es w .behind
 rises-behind last (e ∷ es) w (suc i) h =
     let r = rises-rising last e es w in
     rises-behind last es (rises-lower last (entryCode e) es (r .behind) (r .rest)) i (omega arith)
-
-pub rises-short : (last : List ℕ) (es : List Entry) → risesAfter last es ≡ true → (i : ℕ) → i < length es → lengthOf (getD es i nothing) ≤ codeMost
-rises-short last [] w i h = absurd (omega arith)
-rises-short last (e ∷ es) w zero h = rises-rising last e es w .short
-rises-short last (e ∷ es) w (suc i) h = rises-short (entryCode e) es (rises-rising last e es w .rest) i (omega arith)
 
 pub rises-between : (last : List ℕ) (es : List Entry) → risesAfter last es ≡ true → (i j : ℕ) → i < j → j < length es
     → byteOrder (codeThere es i) (codeThere es j) ≡ Before
@@ -71,39 +69,6 @@ pub data ComesTo (es : List Entry) (c : List ℕ) : Found → Type 0 where
   found : (i : ℕ) → Here es c i → ComesTo es c (standsAt i)
   missing : (i : ℕ) → Apart es c i → ComesTo es c (missingAt i)
 
--- so many comparisons do for fewer codes than this
-unfoldable pub doubled : ℕ → ℕ
-doubled zero = 1
-doubled (suc n) = doubled n + doubled n
-
--- one comparison
-module _ (n : ℕ) (codes c : List ℕ) (low high : ℕ) where
-  halved-by : (b : Bool) (x : Compared) → ltb low high ≡ b → comparedAt codes c ((low + high) / 2) ≡ x
-      → halved (suc n) codes c low high
-      ≡ elim b [
-        | true ↦
-            elim x [
-              | Before ↦ halved n codes c low ((low + high) / 2)
-              | Same ↦ standsAt ((low + high) / 2)
-              | After ↦ halved n codes c ((low + high) / 2 + 1) high
-            ]
-        | false ↦ missingAt low
-      ]
-  unfolding halved
-  halved-by b x e f =
-      ap₂ {C = Found}
-      (λ (v : Bool) (y : Compared).
-      elim v [
-        | true ↦
-            elim y [
-              | Before ↦ halved n codes c low ((low + high) / 2)
-              | Same ↦ standsAt ((low + high) / 2)
-              | After ↦ halved n codes c ((low + high) / 2 + 1) high
-            ]
-        | false ↦ missingAt low
-      ])
-      e f
-
 -- entries that rise, and codes that compare as theirs do
 module _ (es : List Entry) (codes c : List ℕ) (w : rises es ≡ true)
     (agree : (i : ℕ) → i < length es → comparedAt codes c i ≡ byteOrder c (codeThere es i)) where
@@ -124,7 +89,8 @@ module _ (es : List Entry) (codes c : List ℕ) (w : rises es ≡ true)
   }
 
   -- before the code in the middle, so before all behind it
-  lower-half : {n low high : ℕ} (m : ℕ) → Narrowed (suc n) low high → m ≡ (low + high) / 2 → low < high → byteOrder c (codeThere es m) ≡ Before → Narrowed n low m
+  lower-half : {n low high : ℕ} (m : ℕ) → Narrowed (suc n) low high → m ≡ (low + high) / 2 → low < high
+      → byteOrder c (codeThere es m) ≡ Before → Narrowed n low m
   unfolding doubled
   lower-half {n} {low} {high} m v e less o = record {
     ordered = omega arith;
@@ -141,7 +107,8 @@ module _ (es : List Entry) (codes c : List ℕ) (w : rises es ≡ true)
           (rises-between [] es w m i (let l : m < i = omega (arith, q) in l) k)
 
   -- behind the code in the middle, so behind all before it
-  upper-half : {n low high : ℕ} (m : ℕ) → Narrowed (suc n) low high → m ≡ (low + high) / 2 → low < high → byteOrder c (codeThere es m) ≡ After → Narrowed n (m + 1) high
+  upper-half : {n low high : ℕ} (m : ℕ) → Narrowed (suc n) low high → m ≡ (low + high) / 2 → low < high
+      → byteOrder c (codeThere es m) ≡ After → Narrowed n (m + 1) high
   unfolding doubled
   upper-half {n} {low} {high} m v e less o = record {
     ordered = omega arith;
@@ -166,34 +133,35 @@ module _ (es : List Entry) (codes c : List ℕ) (w : rises es ≡ true)
   halved-sought zero low high v = missing low (settled v (let l : high ≤ low = omega (arith, v .few) in l))
   halved-sought (suc n) low high v = go (tested (ltb low high)) (halved-sought n low) (λ l. halved-sought n l high)
     where
-      turn : low < high → ltb low high ≡ true
+      turn : low < high
           → ((h : ℕ) → Narrowed n low h → ComesTo es c (halved n codes c low h))
           → ((l : ℕ) → Narrowed n l high → ComesTo es c (halved n codes c l high))
-          → Three (comparedAt codes c ((low + high) / 2)) → comparedAt codes c ((low + high) / 2) ≡ byteOrder c (codeThere es ((low + high) / 2))
+          → Three (comparedAt codes c ((low + high) / 2))
+          → comparedAt codes c ((low + high) / 2) ≡ byteOrder c (codeThere es ((low + high) / 2))
           → ComesTo es c (halved (suc n) codes c low high)
-      turn less t lower upper (isB h) q =
-          subst⁻¹ (ComesTo es c) (halved-by n codes c low high true Before t h)
+      turn less lower upper (isB h) q =
+          subst⁻¹ (ComesTo es c) (halved-before n codes c low high less h)
           (lower ((low + high) / 2) (lower-half ((low + high) / 2) v refl less (sym q ∙ h)))
-      turn less t lower upper (isS h) q =
-          subst⁻¹ (ComesTo es c) (halved-by n codes c low high true Same t h)
+      turn less lower upper (isS h) q =
+          subst⁻¹ (ComesTo es c) (halved-same n codes c low high less h)
           (found ((low + high) / 2)
           (record {
             inside = omega (arith, v .within);
             code = sym (order-same c (codeThere es ((low + high) / 2)) (sym q ∙ h));
           }))
-      turn less t lower upper (isA h) q =
-          subst⁻¹ (ComesTo es c) (halved-by n codes c low high true After t h)
+      turn less lower upper (isA h) q =
+          subst⁻¹ (ComesTo es c) (halved-after n codes c low high less h)
           (upper ((low + high) / 2 + 1) (upper-half ((low + high) / 2) v refl less (sym q ∙ h)))
 
       go : Tested (ltb low high) → ((h : ℕ) → Narrowed n low h → ComesTo es c (halved n codes c low h))
           → ((l : ℕ) → Narrowed n l high → ComesTo es c (halved n codes c l high)) → ComesTo es c (halved (suc n) codes c low high)
       go (passed t) lower upper =
           let less = ltb-true low high t in
-          turn less t lower upper (three (comparedAt codes c ((low + high) / 2)))
+          turn less lower upper (three (comparedAt codes c ((low + high) / 2)))
           (agree ((low + high) / 2) (let l : (low + high) / 2 < length es = omega (arith, v .within) in l))
       go (failed t) lower upper =
-          subst⁻¹ (ComesTo es c) (halved-by n codes c low high false (comparedAt codes c ((low + high) / 2)) t refl)
-          (missing low (settled v (ltb-false low high t)))
+          let past = ltb-false low high t in
+          subst⁻¹ (ComesTo es c) (halved-none n codes c low high past) (missing low (settled v past))
 
   all-sought : length es ≤ codesMost → ComesTo es c (soughtAmong codes (length es) c)
   unfolding soughtAmong doubled
@@ -331,27 +299,29 @@ module _ (codes counts : List ℕ) (sound : soundIndex codes counts ≡ true) wh
   unfolding soundIndex
   sound-rises = and-second (roomy codes counts) (rises (entriesIn codes counts)) sound
 
+  -- the length at a named place is 1 to 22
+  named-part : PartRises (entryAt codes counts) [] 0 (namedIn counts)
+  unfolding entriesIn
+  named-part = rises-part (entryAt codes counts) [] 0 (namedIn counts) sound-rises
+
+  pub place-filled : (i : ℕ) → i < namedIn counts → 1 ≤ lengthAt codes i
+  place-filled i h = subst (λ (n : ℕ). 1 ≤ n) (length-there codes counts i) (named-part .lengths i (omega arith) (omega (arith, h)) .0)
+
+  pub place-fits : (i : ℕ) → i < namedIn counts → lengthAt codes i ≤ codeMost
+  place-fits i h = subst (λ (n : ℕ). n ≤ codeMost) (length-there codes counts i) (named-part .lengths i (omega arith) (omega (arith, h)) .1)
+
+  -- so the code there is inside of the buffer
+  pub code-inside : (i : ℕ) → i < namedIn counts → lengthAt codes i ≤ length (drop (i * placeSize + 1) codes)
+  code-inside i h =
+      let room = roomy-parts codes counts sound-roomy in
+      omega (arith, length-drop (i * placeSize + 1) codes, place-fits i h, room .codesRoom, room .fewNamed)
+
   -- a code beside the one at a place: as the entry's code stands to it
   pub compared-there : (c : List ℕ) (i : ℕ) → i < namedIn counts → comparedAt codes c i ≡ byteOrder c (codeThere (entriesIn codes counts) i)
   compared-there c i h =
-      let room = roomy-parts codes counts sound-roomy in
-      let place = take placeSize (drop (i * placeSize) codes) in
-      let n = getD codes (i * placeSize) 0 in
-      let there : getD (entriesIn codes counts) i nothing ≡ entryAt codes counts i = entry-there codes counts i h in
-      let long : lengthOf (entryAt codes counts i) ≡ n =
-      getD-take placeSize (drop (i * placeSize) codes) 0 0 (omega arith)
-      ∙ getD-drop (i * placeSize) codes 0 0
-      ∙ ap (λ (k : ℕ). getD codes k 0) (let q : i * placeSize + 0 ≡ i * placeSize = omega arith in q) in
-      let short : n ≤ codeMost =
-      subst (λ (k : ℕ). k ≤ codeMost) (ap (λ (e : Entry). lengthOf e) there ∙ long)
-      (rises-short [] (entriesIn codes counts) sound-rises i (omega (arith, length-entries codes counts))) in
-      let within : n ≤ length (drop (i * placeSize + 1) codes) =
-      omega (arith, length-drop (i * placeSize + 1) codes, room .codesRoom, room .fewNamed) in
-      compared-order c n (drop (i * placeSize + 1) codes) within
-      ∙ ap (λ (s : List ℕ). byteOrder c (take n s)) (sym (drop-drop 1 (i * placeSize) codes))
-      ∙ ap (byteOrder c) (sym (part-taken (drop (i * placeSize) codes) 1 n placeSize (let q : 1 + n ≤ placeSize = omega arith in q)))
-      ∙ ap (λ (k : ℕ). byteOrder c (take k (drop 1 place))) (sym long)
-      ∙ ap (λ (e : Entry). byteOrder c (entryCode e)) (sym there)
+      compared-order c (lengthAt codes i) (drop (i * placeSize + 1) codes) (code-inside i h)
+      ∙ ap (byteOrder c) (sym (code-there codes counts i (place-fits i h)))
+      ∙ ap (λ (e : Entry). byteOrder c (entryCode e)) (sym (entry-there codes counts i h))
 
   pub sought-there : (c : List ℕ) → ComesTo (entriesIn codes counts) c (soughtAmong codes (namedIn counts) c)
   sought-there c =

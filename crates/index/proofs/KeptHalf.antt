@@ -2,10 +2,10 @@
 -- Assumes nothing.
 use mathlib.Core.Bool.{true, false≢true}
 use mathlib.Core.List.{List}
-use mathlib.Core.Path.{_≡_, refl, sym, _∙_}
-use Prim.Native.Nat.{ℕ, zero, suc, _+_, _/_, _<_, _≤_}
+use mathlib.Core.Path.{_≡_, refl, sym, ap, _∙_, subst}
+use Prim.Native.Nat.{ℕ, zero, suc, _+_, _-_, _/_, _<_, _≤_}
 use native.Mathlib.Omega.{arith}
-use borrow.Author.Tests.{lt-ltb, le-ltb, ltb-true}
+use borrow.Author.Tests.{lt-ltb, le-ltb, ltb-true, ltb-false}
 use lib.Dec.{ltb}
 use Rattle.laws.proofs.Tests.{Tested, passed, failed, tested}
 use Rattle.index.specs.declared.code.Compared.{Compared}
@@ -61,48 +61,50 @@ module _ {codes : List ℕ} {named : ℕ} {code : List ℕ} {low high : ℕ} (u 
     pub middle-named : middle < named
     middle-named = omega (arith, u .within)
 
-    keep-before : (n : ℕ) → high < low + doubled n → halved n codes code low high ≡ soughtAmong codes named code
-        → comparedAt codes code middle ≡ Before → Halving codes named code low middle
-    unfolding doubled
-    keep-before zero enough rest e = absurd (omega arith)
-    keep-before (suc n) enough rest e =
-        record {
-          comparisons = n;
-          enough = omega arith;
-          ordered = omega arith;
-          within = omega (arith, u .within);
-          rest = sym (halved-before n codes code low high h e) ∙ rest;
-        }
+    -- a comparison is left
+    abbrev fewer : ℕ
+    fewer = u .comparisons - 1
 
-    keep-after : (n : ℕ) → high < low + doubled n → halved n codes code low high ≡ soughtAmong codes named code
-        → comparedAt codes code middle ≡ After → Halving codes named code (middle + 1) high
+    one-left : u .comparisons ≡ suc fewer
     unfolding doubled
-    keep-after zero enough rest e = absurd (omega arith)
-    keep-after (suc n) enough rest e =
-        record {
-          comparisons = n;
-          enough = omega arith;
-          ordered = omega arith;
-          within = omega (arith, u .within);
-          rest = sym (halved-after n codes code low high h e) ∙ rest;
-        }
+    one-left = go (u .comparisons) (u .enough)
+      where
+        go : (n : ℕ) → high < low + doubled n → n ≡ suc (n - 1)
+        go zero enough = absurd (omega arith)
+        go (suc n) enough = omega arith
 
-    stop : (n : ℕ) → high < low + doubled n → halved n codes code low high ≡ soughtAmong codes named code
-        → comparedAt codes code middle ≡ Same → standsAt middle ≡ soughtAmong codes named code
+    enough-left : high < low + (doubled fewer + doubled fewer)
     unfolding doubled
-    stop zero enough rest e = absurd (omega arith)
-    stop (suc n) enough rest e = sym (halved-same n codes code low high h e) ∙ rest
+    enough-left = subst (λ (n : ℕ). high < low + doubled n) one-left (u .enough)
+
+    rest-left : halved (suc fewer) codes code low high ≡ soughtAmong codes named code
+    rest-left = ap (λ (n : ℕ). halved n codes code low high) (sym one-left) ∙ u .rest
 
     pub keeps-before : comparedAt codes code middle ≡ Before → Halving codes named code low middle
-    keeps-before e = keep-before (u .comparisons) (u .enough) (u .rest) e
+    keeps-before e =
+        record {
+          comparisons = fewer;
+          enough = omega (arith, enough-left);
+          ordered = omega arith;
+          within = omega (arith, u .within);
+          rest = sym (halved-before fewer codes code low high h e) ∙ rest-left;
+        }
 
     pub keeps-after : comparedAt codes code middle ≡ After → Halving codes named code (middle + 1) high
-    keeps-after e = keep-after (u .comparisons) (u .enough) (u .rest) e
+    keeps-after e =
+        record {
+          comparisons = fewer;
+          enough = omega (arith, enough-left);
+          ordered = omega arith;
+          within = omega (arith, u .within);
+          rest = sym (halved-after fewer codes code low high h e) ∙ rest-left;
+        }
 
     pub stops : comparedAt codes code middle ≡ Same → standsAt middle ≡ soughtAmong codes named code
-    stops e = stop (u .comparisons) (u .enough) (u .rest) e
+    stops e = sym (halved-same fewer codes code low high h e) ∙ rest-left
 
-  end-here : (n : ℕ) → halved n codes code low high ≡ soughtAmong codes named code → high ≤ low → missingAt low ≡ soughtAmong codes named code
+  end-here : (n : ℕ) → halved n codes code low high ≡ soughtAmong codes named code → high ≤ low
+      → missingAt low ≡ soughtAmong codes named code
   unfolding halved
   end-here zero rest h = rest
   end-here (suc n) rest h = sym (halved-none n codes code low high h) ∙ rest
@@ -133,10 +135,11 @@ halved-within (suc n) codes code low high h =
         → (low < high → Within ((low + high) / 2) (halved n codes code low ((low + high) / 2)))
         → (low < high → Within high (halved n codes code ((low + high) / 2 + 1) high))
         → Within high (halved (suc n) codes code low high)
-    go (failed t) o e first second = rw (t, halved) (missing-within low high h)
+    go (failed t) o e first second = rw (halved-none n codes code low high (ltb-false low high t)) (missing-within low high h)
     go (passed t) Before e first second =
         let l = ltb-true low high t in
-        rw (halved-before n codes code low high l e) (within-further ((low + high) / 2) high (halved n codes code low ((low + high) / 2)) (omega (arith, l)) (first l))
+        rw (halved-before n codes code low high l e)
+        (within-further ((low + high) / 2) high (halved n codes code low ((low + high) / 2)) (omega (arith, l)) (first l))
     go (passed t) Same e first second =
         let l = ltb-true low high t in
         rw (halved-same n codes code low high l e) (record { place = omega (arith, l); entry = λ q. omega (arith, l) })

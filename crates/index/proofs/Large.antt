@@ -1,4 +1,5 @@
--- Counts that are too large (X3), where one code is added: what was too large stays so, and else the code's own count alone decides.
+-- Counts that are too large (X3): of rising entries where that of some code is; and where one code is added, what was too large stays so, and else
+-- the code's own count alone decides.
 -- Assumes nothing.
 use mathlib.Core.Bool.{true, false}
 use mathlib.Core.List.{List, [], _∷_}
@@ -8,13 +9,15 @@ use Prim.Native.Nat.{ℕ, suc, _<_, _≤_}
 use native.Mathlib.Omega.{arith}
 use borrow.Author.Tests.{leb-true, leb-false, le-leb, lt-leb}
 use lib.Dec.{leb}
+use Rattle.laws.specs.Lists.{same}
+use Rattle.laws.proofs.Lists.{same-self, same-equal}
 use Rattle.laws.proofs.Tests.{Tested, passed, failed, tested, never-both, never-holds, or-first, or-second, or-fails, or-cases}
-use Rattle.index.specs.declared.code.Compared.the-variants.{Before}
 use Rattle.index.specs.Order.{byteOrder}
 use Rattle.index.specs.Index.{Entry, countsPast, entryCode, risesAfter, rises, names, countOf}
 use Rattle.index.specs.Adding.{newEntry, oneMore, codeAdded, tooLarge}
 use Rattle.index.proofs.Orders.{Three, isB, isS, isA, three, order-alike-same, after-differs}
-use Rattle.index.proofs.Steps.{names-hit, names-miss, count-hit, count-miss, added-here, added-sooner, added-later, Rising, rises-rising, rising-rises, rises-unnamed}
+use Rattle.index.proofs.Steps.{names-hit, names-miss, count-hit, count-miss, added-here, added-sooner, added-later}
+use Rattle.index.proofs.Steps.{Rising, rises-rising, rises-unnamed, sooner-unnamed, unnamed-uncounted}
 
 -- the first count is too large, or one of the rest; or none is
 module _ (e : Entry) (es : List Entry) where
@@ -47,6 +50,34 @@ module _ (e : Entry) (es : List Entry) where
 
   small-rest : tooLarge (e ∷ es) ≡ false → tooLarge es ≡ false
   small-rest h = never-holds (tooLarge es) (λ k. never-both (large-rest k) h)
+
+-- of rising entries a count is too large exactly where that of some code is
+pub large-some : (last : List ℕ) (es : List Entry) → risesAfter last es ≡ true → tooLarge es ≡ true → (c : List ℕ) × (countsPast ≤ countOf es c)
+unfolding tooLarge
+large-some last [] w h = absurd (never-both h refl)
+large-some last (e ∷ es) w h = by (large-cases e es h) (large-some (entryCode e) es (rises-rising last e es w .rest))
+  where
+    later : (c : List ℕ) → countsPast ≤ countOf es c → Tested (same c (entryCode e)) → countsPast ≤ countOf (e ∷ es) c
+    later c k (passed s) =
+        let none : countOf es c ≡ 0 =
+        ap (countOf es) (same-equal c (entryCode e) s)
+        ∙ unnamed-uncounted es (entryCode e) (rises-unnamed (entryCode e) es (rises-rising last e es w .rest)) in
+        absurd (omega (arith, k, none))
+    later c k (failed s) = omega (arith, k, count-miss e es c s)
+
+    by : (countsPast ≤ e .count) ⊎ (tooLarge es ≡ true) → (tooLarge es ≡ true → (c : List ℕ) × (countsPast ≤ countOf es c))
+        → (c : List ℕ) × (countsPast ≤ countOf (e ∷ es) c)
+    by (inl k) ih = (entryCode e, omega (arith, k, count-hit e es (entryCode e) (same-self (entryCode e))))
+    by (inr k) ih = let found = ih k in (found .0, later (found .0) (found .1) (tested (same (found .0) (entryCode e))))
+
+pub some-large : (es : List Entry) (c : List ℕ) → countsPast ≤ countOf es c → tooLarge es ≡ true
+unfolding countOf
+some-large [] c h = absurd (omega (arith, h))
+some-large (e ∷ es) c h = by (tested (same c (entryCode e))) (some-large es c)
+  where
+    by : Tested (same c (entryCode e)) → (countsPast ≤ countOf es c → tooLarge es ≡ true) → tooLarge (e ∷ es) ≡ true
+    by (passed s) ih = large-first e es (omega (arith, h, count-hit e es c s))
+    by (failed s) ih = large-rest e es (ih (omega (arith, h, count-miss e es c s)))
 
 -- no count shrinks
 pub large-added : (c : List ℕ) (es : List Entry) → tooLarge es ≡ true → tooLarge (codeAdded c es) ≡ true
@@ -81,11 +112,6 @@ small-new c (e ∷ es) n w = go (three (byteOrder c (entryCode e))) (small-new c
 
 -- of a code that is named, its own count decides
 
--- a code that is before the first one is not named
-sooner-unnamed : (last c : List ℕ) (e : Entry) (es : List Entry) → Rising last e es → byteOrder c (entryCode e) ≡ Before → names (e ∷ es) c ≡ false
-sooner-unnamed last c e es r h =
-    rises-unnamed c (e ∷ es) (rising-rises c e es (record { some = r .some; short = r .short; behind = h; rest = r .rest }))
-
 small-after : (last c : List ℕ) (es : List Entry) → risesAfter last es ≡ true → names es c ≡ true → suc (countOf es c) < countsPast
     → tooLarge es ≡ false → tooLarge (codeAdded c es) ≡ false
 unfolding names
@@ -94,9 +120,10 @@ small-after last c (e ∷ es) v n less w =
     go (three (byteOrder c (entryCode e))) (rises-rising last e es v) (small-after (entryCode e) c es)
   where
     go : Three (byteOrder c (entryCode e)) → Rising last e es
-        → (risesAfter (entryCode e) es ≡ true → names es c ≡ true → suc (countOf es c) < countsPast → tooLarge es ≡ false → tooLarge (codeAdded c es) ≡ false)
+        → (risesAfter (entryCode e) es ≡ true → names es c ≡ true → suc (countOf es c) < countsPast → tooLarge es ≡ false
+        → tooLarge (codeAdded c es) ≡ false)
         → tooLarge (codeAdded c (e ∷ es)) ≡ false
-    go (isB h) r ih = absurd (never-both n (sooner-unnamed last c e es r h))
+    go (isB h) r ih = absurd (never-both n (sooner-unnamed c r h))
     go (isS h) r ih =
         let here = order-alike-same c (entryCode e) h in
         ap tooLarge (added-here c e es here)
@@ -121,7 +148,7 @@ large-after last c (e ∷ es) v n past = go (three (byteOrder c (entryCode e))) 
     go : Three (byteOrder c (entryCode e)) → Rising last e es
         → (risesAfter (entryCode e) es ≡ true → names es c ≡ true → countsPast ≤ suc (countOf es c) → tooLarge (codeAdded c es) ≡ true)
         → tooLarge (codeAdded c (e ∷ es)) ≡ true
-    go (isB h) r ih = absurd (never-both n (sooner-unnamed last c e es r h))
+    go (isB h) r ih = absurd (never-both n (sooner-unnamed c r h))
     go (isS h) r ih =
         let here = order-alike-same c (entryCode e) h in
         ap tooLarge (added-here c e es here)
@@ -132,5 +159,6 @@ large-after last c (e ∷ es) v n past = go (three (byteOrder c (entryCode e))) 
         ∙ large-rest e (codeAdded c es)
         (ih (r .rest) (sym (names-miss e es c other) ∙ n) (let m : countsPast ≤ suc (countOf es c) = omega (arith, count-miss e es c other) in m))
 
-pub large-named : (c : List ℕ) (es : List Entry) → rises es ≡ true → names es c ≡ true → countsPast ≤ suc (countOf es c) → tooLarge (codeAdded c es) ≡ true
+pub large-named : (c : List ℕ) (es : List Entry) → rises es ≡ true → names es c ≡ true → countsPast ≤ suc (countOf es c)
+    → tooLarge (codeAdded c es) ≡ true
 large-named c es v n past = large-after [] c es v n past

@@ -1,10 +1,9 @@
 pub mod Beside
-pub mod Roominess
 pub mod Moving
 pub mod PlacedCode
 pub mod KeptHalf
 pub mod Followed
-pub mod InByteOrder
+pub mod RisingParts
 pub mod RisingEntries
 pub mod Asked
 pub mod Putting

@@ -1,4 +1,5 @@
--- Byte order: it is reflexive, antisymmetric and transitive; and comparing by a length and bytes behind it is comparing in byte order.
+-- Byte order: it is reflexive, antisymmetric and transitive, and turned round it is the other way; and comparing by a length and bytes behind it is
+-- comparing in byte order.
 -- Assumes nothing.
 use mathlib.Core.Bool.{Bool, true, false}
 use mathlib.Core.List.{List, [], _∷_}
@@ -15,6 +16,7 @@ use Rattle.index.specs.declared.code.Compared.{Compared}
 use Rattle.index.specs.declared.code.Compared.the-variants.{Before, Same, After}
 use Rattle.index.specs.Order.{byteOrder, isBefore, comesBefore}
 use Rattle.index.specs.inner.Comparing.{compared}
+use Rattle.index.specs.inner.Rising.{isBehind}
 
 -- the three are different
 pub before-not-same : {x : Compared} → x ≡ Before → x ≡ Same → ⊥
@@ -109,6 +111,22 @@ after-before (a ∷ s) (b ∷ t) h = go (first a b) (after-before s t)
     go (higher l) ih = order-lower b t a s l
     go (alike e) ih = order-alike b t a s (sym e) ∙ ih (sym (order-alike a s b t e) ∙ h)
 
+-- so one is behind the other exactly where the other is before it
+pub behind-before : (c d : List ℕ) → isBehind (byteOrder c d) ≡ isBefore (byteOrder d c)
+unfolding isBehind isBefore
+behind-before c d = go (three (byteOrder c d))
+  where
+    go : Three (byteOrder c d) → isBehind (byteOrder c d) ≡ isBefore (byteOrder d c)
+    go (isB h) = ap isBehind h ∙ sym (ap isBefore (before-after c d h))
+    go (isS h) = ap isBehind h ∙ sym (ap isBefore (ap (λ (e : List ℕ). byteOrder e c) (sym (order-same c d h)) ∙ order-self c))
+    go (isA h) = ap isBehind h ∙ sym (ap isBefore (after-before c d h))
+
+-- what has a byte is behind the empty one
+pub some-behind : (c : List ℕ) → 1 ≤ length c → byteOrder [] c ≡ Before
+unfolding byteOrder
+some-behind [] h = absurd (omega arith)
+some-behind (a ∷ c) h = refl
+
 -- before what is before a third is before the third
 pub before-trans : (s t u : List ℕ) → byteOrder s t ≡ Before → byteOrder t u ≡ Before → byteOrder s u ≡ Before
 unfolding byteOrder
@@ -119,7 +137,8 @@ before-trans (a ∷ s) [] u h k = absurd (before-not-after h refl)
 before-trans (a ∷ s) (b ∷ t) [] h k = absurd (before-not-after k refl)
 before-trans (a ∷ s) (b ∷ t) (c ∷ u) h k = go (first a b) (first b c) (before-trans s t u)
   where
-    go : First a b → First b c → (byteOrder s t ≡ Before → byteOrder t u ≡ Before → byteOrder s u ≡ Before) → byteOrder (a ∷ s) (c ∷ u) ≡ Before
+    go : First a b → First b c → (byteOrder s t ≡ Before → byteOrder t u ≡ Before → byteOrder s u ≡ Before)
+        → byteOrder (a ∷ s) (c ∷ u) ≡ Before
     go (higher l) m ih = absurd (before-not-after h (order-higher a s b t l))
     go (lower l) (higher m) ih = absurd (before-not-after k (order-higher b t c u m))
     go (alike e) (higher m) ih = absurd (before-not-after k (order-higher b t c u m))
@@ -166,4 +185,5 @@ compared-order [] (suc n) (b ∷ s) h = refl
 compared-order (a ∷ c) zero s h = refl
 compared-order (a ∷ c) (suc n) [] h = absurd (omega arith)
 compared-order (a ∷ c) (suc n) (b ∷ s) h =
-    ap (λ (r : Compared). elim (ltb a b) [ true ↦ Before | false ↦ elim (ltb b a) [ true ↦ After | false ↦ r ] ]) (compared-order c n s (omega arith))
+    ap (λ (r : Compared). elim (ltb a b) [ true ↦ Before | false ↦ elim (ltb b a) [ true ↦ After | false ↦ r ] ])
+    (compared-order c n s (omega arith))

@@ -6,7 +6,8 @@ use mathlib.Core.Path.{_≡_, refl, sym, ap, _∙_}
 use Prim.Native.Nat.{ℕ, _+_, _-_, _<_, _≤_}
 use native.Mathlib.Omega.{arith}
 use native.Mathlib.Numerals.{add-one}
-use lib.ListN.{length, getD, set, drop, replicate, length-set, length-append, length-replicate, getD-replicate, drop-of-length-le, List·getD-append, List·getD-eq-default}
+use lib.ListN.{length, getD, set, drop, replicate, length-set, length-append, length-replicate, getD-replicate, drop-of-length-le}
+use lib.ListN.{List·getD-append, List·getD-eq-default}
 use lib.Seq.{sets, getD-append-add}
 use Rattle.laws.proofs.Cases.{less-or-not}
 use Rattle.laws.proofs.Parts.{left-cons}

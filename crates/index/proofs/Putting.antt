@@ -12,12 +12,13 @@ use Rattle.laws.specs.Tables.{values}
 use Rattle.laws.proofs.Lists.{map-append}
 use Rattle.laws.proofs.Stores.{sets-append, sets-in-front}
 use Rattle.laws.proofs.Sums.{concat-append}
-use Rattle.laws.proofs.Tables.{length-values, values-append, getD-values-zero}
+use Rattle.laws.proofs.Tables.{length-values, values-append}
 use Rattle.index.specs.Index.{Entry, placeSize, namedIn, entryAt, entriesIn, roomy, codesPut, countsPut}
 use Rattle.index.specs.Adding.{placeOfCode, nothing, newEntry, oneMore}
 use Rattle.index.specs.inner.Changing.{inserted, Insertable}
 use Rattle.index.proofs.PlacedCode.{length-placed}
-use Rattle.index.proofs.Roominess.{room}
+use Rattle.index.proofs.Sizes.{roomy-parts}
+use Rattle.index.proofs.Entries.{length-entries, entry-there}
 
 -- lists
 
@@ -36,6 +37,11 @@ module _ {ℓ} {A : Type ℓ} where
       sym (sets-append l i (take k (drop i l)) s)
       ∙ ap₂ (λ (t : List A) (n : ℕ). sets t (i + n) s) (sets-own l i k h)
       (length-take-le k (drop i l) (omega (arith, length-drop i l)))
+
+  -- something put between what stands there and what is moved behind it
+  pub put-between : (l : List A) (i k : ℕ) (s behind : List A) → i + k ≤ length l
+      → sets (sets l (i + k + length s) behind) (i + k) s ≡ sets l i (take k (drop i l) ++ (s ++ behind))
+  put-between l i k s behind h = sets-in-front l (i + k) s behind ∙ sym (sets-kept l i k (s ++ behind) h)
 
   -- one element of what it begins with, changed
   pub sets-changed : (l : List A) (k j : ℕ) (v : A) → j < k → k ≤ length l → sets l 0 (set (take k l) j v) ≡ set l j v
@@ -94,10 +100,6 @@ module _ (codes counts : List ℕ) where
       ap (λ (s : List ℕ). getD counts (suc i) 0 ∷ s) (counts-there n (suc i) (omega arith))
       ∙ sym (ap (take (suc n)) (drop-cons counts (suc i) 0 (omega arith)))
 
-  pub length-entries : length (entriesIn codes counts) ≡ namedIn counts
-  unfolding entriesIn
-  length-entries = length-values (entryAt codes counts) 0 (namedIn counts)
-
 -- the first of the counts is the number of codes
 first-count : (counts : List ℕ) (n : ℕ) → 0 < length counts → namedIn counts ∷ take n (drop 1 counts) ≡ take (suc n) counts
 first-count [] n h = absurd (omega arith)
@@ -110,10 +112,10 @@ put-codes codes counts e = places-there codes counts (namedIn counts) 0
 pub put-counts : (codes counts : List ℕ) → roomy codes counts ≡ true → countsPut (entriesIn codes counts) ≡ take (suc (namedIn counts)) counts
 unfolding countsPut entriesIn
 put-counts codes counts e =
-    let r = room codes counts e in
-    ap₂ (λ (n : ℕ) (s : List ℕ). n ∷ s) (length-values (entryAt codes counts) 0 (namedIn counts))
-    (counts-there codes counts (namedIn counts) 0 (omega (arith, r .countsLong, r .fewNamed)))
-    ∙ first-count counts (namedIn counts) (omega (arith, r .countsLong))
+    let r = roomy-parts codes counts e in
+    ap₂ (λ (n : ℕ) (s : List ℕ). n ∷ s) (length-entries codes counts)
+    (counts-there codes counts (namedIn counts) 0 (omega (arith, r .countsRoom, r .fewNamed)))
+    ∙ first-count counts (namedIn counts) (omega (arith, r .countsRoom))
 
 -- a new code at a place
 
@@ -132,7 +134,8 @@ module _ (c : List ℕ) (p n : ℕ) (codes counts : List ℕ) (asked : Insertabl
       ∙ ap₂ (λ (i m : ℕ). values (entryAt codes counts) i (m - p)) (let e : 0 + p ≡ p = omega arith in e) (sym (asked .known))
 
   inserted-codes :
-      codesPut (inserted c p es) ≡ take (p * placeSize) codes ++ (placeOfCode c ++ take (n * placeSize - p * placeSize) (drop (p * placeSize) codes))
+      codesPut (inserted c p es)
+      ≡ take (p * placeSize) codes ++ (placeOfCode c ++ take (n * placeSize - p * placeSize) (drop (p * placeSize) codes))
   unfolding codesPut concat
   inserted-codes =
       ap concat (map-append placeOf (take p es) (newEntry c ∷ drop p es))
@@ -148,18 +151,17 @@ module _ (c : List ℕ) (p n : ℕ) (codes counts : List ℕ) (asked : Insertabl
       ≡ sets codes 0 (codesPut (inserted c p es))
   new-codes =
       let behind = take (n * placeSize - p * placeSize) (drop (p * placeSize) codes) in
-      let long = room codes counts (asked .room) .codesLong in
+      let long = roomy-parts codes counts (asked .room) .codesRoom in
       sym
-      (ap (sets codes 0) inserted-codes
-      ∙ sets-kept codes 0 (p * placeSize) (placeOfCode c ++ behind) (omega (arith, long, asked .within, asked .free))
-      ∙ ap (λ (k : ℕ). sets codes k (placeOfCode c ++ behind)) (let e : 0 + p * placeSize ≡ p * placeSize = omega arith in e)
-      ∙ sym (sets-in-front codes (p * placeSize) (placeOfCode c) behind)
-      ∙ ap (λ (k : ℕ). sets (sets codes (p * placeSize + k) behind) (p * placeSize) (placeOfCode c)) (length-placed c (asked .short)))
+      (ap₂ (λ (i k : ℕ). sets (sets codes (i + k) behind) i (placeOfCode c)) (let e : 0 + p * placeSize ≡ p * placeSize = omega arith in e)
+      (length-placed c (asked .short)))
+      ∙ put-between codes 0 (p * placeSize) (placeOfCode c) behind (omega (arith, long, asked .within, asked .free))
+      ∙ sym (ap (sets codes 0) inserted-codes)
 
   inserted-counts : countsPut (inserted c p es) ≡ suc n ∷ (take p (drop 1 counts) ++ (1 ∷ take (n - p) (drop (suc p) counts)))
   unfolding countsPut
   inserted-counts =
-      let r = room codes counts (asked .room) in
+      let r = roomy-parts codes counts (asked .room) in
       let all : length (inserted c p es) ≡ suc n =
       length-append (take p es) (newEntry c ∷ drop p es)
       ∙ ap₂ (λ (a b : ℕ). a + suc b) (length-take-le p es (omega (arith, length-entries codes counts, asked .known, asked .within)))
@@ -169,27 +171,24 @@ module _ (c : List ℕ) (p n : ℕ) (codes counts : List ℕ) (asked : Insertabl
       (map-append countIn (take p es) (newEntry c ∷ drop p es)
       ∙ ap₂ (λ (s t : List ℕ). s ++ (1 ∷ t))
       (ap (λ (s : List Entry). map countIn s) first-entries
-      ∙ counts-there codes counts p 0 (omega (arith, r .countsLong, asked .within, asked .free)))
+      ∙ counts-there codes counts p 0 (omega (arith, r .countsRoom, asked .within, asked .free)))
       (ap (λ (s : List Entry). map countIn s) last-entries
-      ∙ counts-there codes counts (n - p) p (omega (arith, r .countsLong, asked .within, asked .free))))
+      ∙ counts-there codes counts (n - p) p (omega (arith, r .countsRoom, asked .within, asked .free))))
 
   pub new-counts :
       set (set (sets counts (p + 1 + 1) (take (n + 1 - (p + 1)) (drop (p + 1) counts))) (p + 1) 1) 0 (n + 1)
       ≡ sets counts 0 (countsPut (inserted c p es))
   new-counts =
-      let long = room codes counts (asked .room) .countsLong in
+      let long = roomy-parts codes counts (asked .room) .countsRoom in
       let behind = take (n - p) (drop (suc p) counts) in
       sym
-      (ap (sets counts 0) inserted-counts
-      ∙ sym (sets-in-front counts 0 (suc n ∷ []) (take p (drop 1 counts) ++ (1 ∷ behind)))
-      ∙ ap (λ (s : List ℕ). set s 0 (suc n))
-      (sets-kept counts 1 p (1 ∷ behind) (omega (arith, long, asked .within, asked .free))
-      ∙ ap (λ (k : ℕ). sets counts k (1 ∷ behind)) (let e : 1 + p ≡ suc p = omega arith in e)
-      ∙ sym (sets-in-front counts (suc p) (1 ∷ []) behind))
-      ∙ ap₂ (λ (i m : ℕ). set (set (sets counts (i + 1) (take (n - p) (drop i counts))) i 1) 0 m)
-      (let e : suc p ≡ p + 1 = omega arith in e) (let e : suc n ≡ n + 1 = omega arith in e)
-      ∙ ap (λ (k : ℕ). set (set (sets counts (p + 1 + 1) (take k (drop (p + 1) counts))) (p + 1) 1) 0 (n + 1))
-      (let e : n - p ≡ n + 1 - (p + 1) = omega arith in e))
+      (ap₂ (λ (i m : ℕ). set (set (sets counts (i + 1) behind) i 1) 0 m) (let e : 1 + p ≡ p + 1 = omega arith in e)
+      (let e : suc n ≡ n + 1 = omega arith in e)
+      ∙ ap₂ (λ (k i : ℕ). set (set (sets counts (p + 1 + 1) (take k (drop i counts))) (p + 1) 1) 0 (n + 1))
+      (let e : n - p ≡ n + 1 - (p + 1) = omega arith in e) (let e : suc p ≡ p + 1 = omega arith in e))
+      ∙ ap (λ (s : List ℕ). set s 0 (suc n)) (put-between counts 1 p (1 ∷ []) behind (omega (arith, long, asked .within, asked .free)))
+      ∙ sets-in-front counts 0 (suc n ∷ []) (take p (drop 1 counts) ++ (1 ∷ behind))
+      ∙ sym (ap (sets counts 0) inserted-counts)
 
 -- an entry counted once more
 
@@ -200,28 +199,25 @@ module _ (codes counts : List ℕ) (e : roomy codes counts ≡ true) (i : ℕ) (
   abbrev more : Entry
   more = oneMore (getD all i nothing)
 
-  pub entry-there : getD all i nothing ≡ entryAt codes counts i
-  unfolding entriesIn
-  entry-there = getD-values-zero (entryAt codes counts) (namedIn counts) i nothing h
-
   as-set : take i all ++ (more ∷ drop (suc i) all) ≡ set all i more
   as-set = sym (set-split all i more (omega (arith, length-entries codes counts, h)))
 
   pub kept-codes : sets codes 0 (codesPut (take i all ++ (more ∷ drop (suc i) all))) ≡ codes
   unfolding codesPut
   kept-codes =
-      let r = room codes counts e in
+      let r = roomy-parts codes counts e in
       ap (λ (s : List Entry). sets codes 0 (concat (map placeOf s))) as-set
       ∙ ap (λ (s : List (List ℕ)). sets codes 0 (concat s)) (map-set-same placeOf all i more nothing refl)
       ∙ ap (sets codes 0) (put-codes codes counts e)
-      ∙ sets-own codes 0 (namedIn counts * placeSize) (omega (arith, r .codesLong, r .fewNamed))
+      ∙ sets-own codes 0 (namedIn counts * placeSize) (omega (arith, r .codesRoom, r .fewNamed))
 
   pub once-more-counts :
       sets counts 0 (countsPut (take i all ++ (more ∷ drop (suc i) all))) ≡ set counts (suc i) (suc (getD counts (suc i) 0))
   unfolding countsPut
   once-more-counts =
-      let r = room codes counts e in
+      let r = roomy-parts codes counts e in
       ap (λ (s : List Entry). sets counts 0 (length s ∷ map countIn s)) as-set
       ∙ ap₂ (λ (n : ℕ) (s : List ℕ). sets counts 0 (n ∷ s)) (length-set all i more) (map-set countIn all i more)
-      ∙ ap₂ (λ (s : List ℕ) (n : ℕ). sets counts 0 (set s (suc i) (suc n))) (put-counts codes counts e) (ap countIn entry-there)
-      ∙ sets-changed counts (suc (namedIn counts)) (suc i) (suc (getD counts (suc i) 0)) (omega (arith, h)) (omega (arith, r .countsLong, r .fewNamed))
+      ∙ ap₂ (λ (s : List ℕ) (n : ℕ). sets counts 0 (set s (suc i) (suc n))) (put-counts codes counts e) (ap countIn (entry-there codes counts i h))
+      ∙ sets-changed counts (suc (namedIn counts)) (suc i) (suc (getD counts (suc i) 0)) (omega (arith, h))
+      (omega (arith, r .countsRoom, r .fewNamed))

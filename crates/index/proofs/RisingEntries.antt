@@ -1,24 +1,24 @@
 -- The codes rise place by place exactly where the entries do.
 -- Assumes nothing.
 use mathlib.Core.Bool.{Bool, true, false, _&&_}
-use mathlib.Core.List.{List, [], _∷_}
+use mathlib.Core.List.{List, []}
 use mathlib.Core.Path.{_≡_, refl, sym, ap, ap₂, _∙_}
-use Prim.Native.Nat.{ℕ, zero, suc, _+_, _*_, _<_, _≤_}
+use Prim.Native.Nat.{ℕ, zero, suc, _+_, _*_, _≤_}
 use native.Mathlib.Nat.{add-zero}
 use native.Mathlib.Omega.{arith}
 use borrow.Author.Tests.{leb-true}
 use lib.Dec.{leb}
 use lib.ListN.{length, getD, take, drop, length-drop}
-use lib.Seq.{getD-take, getD-drop, drop-drop}
+use lib.Seq.{getD-take, getD-drop, drop-drop, length-take-le}
 use Rattle.laws.specs.Tables.{values}
 use Rattle.laws.proofs.Parts.{part-taken}
 use Rattle.laws.proofs.Tests.{Tested, passed, failed, tested}
-use Rattle.index.specs.Order.{byteOrder, isBefore, comesBefore}
+use Rattle.index.specs.Order.{comesBefore}
 use Rattle.index.specs.Index.{codeMost, placeSize, lengthOf, entryCode, namedIn, entryAt, entriesIn, roomy, risesAfter, rises, soundIndex}
 use Rattle.index.specs.inner.Comparing.{compared}
 use Rattle.index.specs.inner.Rising.{lengthAt, isLength, isBehind, codeFrom, followsAt, risesFrom, allRise}
-use Rattle.index.proofs.InByteOrder.{compared-taken, behind-before}
-use Rattle.index.proofs.Roominess.{room}
+use Rattle.index.proofs.Sizes.{roomy-parts}
+use Rattle.index.proofs.Orders.{behind-before, some-behind, is-before, compared-order}
 
 and-true : (b : Bool) → b ≡ (b && true)
 and-true true = refl
@@ -39,17 +39,23 @@ module _ (codes counts : List ℕ) where
       ∙ ap (take (lengthAt codes i)) (drop-drop 1 (i * placeSize) codes)
 
   -- a code of 1 byte or more is behind the empty one
-  some-behind : (n : ℕ) (s : List ℕ) → 1 ≤ n → 1 ≤ length s → comesBefore [] (take n s) ≡ true
-  unfolding byteOrder isBefore
-  some-behind zero s h l = absurd (omega arith)
-  some-behind (suc n) [] h l = absurd (omega arith)
-  some-behind (suc n) (a ∷ s) h l = refl
+  filled-behind : (at : ℕ) → 1 ≤ getD codes at 0 → getD codes at 0 + (at + 1) ≤ length codes → comesBefore [] (codeFrom codes at) ≡ true
+  filled-behind at some long =
+      let n : length (codeFrom codes at) ≡ getD codes at 0 =
+      length-take-le (getD codes at 0) (drop (at + 1) codes) (omega (arith, length-drop (at + 1) codes, long)) in
+      is-before [] (codeFrom codes at) (some-behind (codeFrom codes at) (omega (arith, n, some)))
+
+  pub entry-behind : (i : ℕ) → suc i * placeSize ≤ length codes → 1 ≤ lengthOf (entryAt codes counts i) → lengthOf (entryAt codes counts i) ≤ codeMost
+      → comesBefore [] (entryCode (entryAt codes counts i)) ≡ true
+  entry-behind i long some short =
+      let n : lengthAt codes i ≤ codeMost = omega (arith, length-there i, short) in
+      ap (comesBefore []) (code-there i n) ∙ filled-behind (i * placeSize) (omega (arith, length-there i, some)) (omega (arith, n, long))
 
   -- the code at a place behind the one at another: as the codes of their entries stand
   behind-there : (at next : ℕ) → getD codes at 0 + (at + 1) ≤ length codes
       → isBehind (compared (codeFrom codes next) (getD codes at 0) (drop (at + 1) codes)) ≡ comesBefore (codeFrom codes at) (codeFrom codes next)
   behind-there at next long =
-      ap isBehind (compared-taken (codeFrom codes next) (getD codes at 0) (drop (at + 1) codes) (omega (arith, length-drop (at + 1) codes, long)))
+      ap isBehind (compared-order (codeFrom codes next) (getD codes at 0) (drop (at + 1) codes) (omega (arith, length-drop (at + 1) codes, long)))
       ∙ behind-before (codeFrom codes next) (codeFrom codes at)
 
   -- an entry by its two tests: without a code's length it ends the rise, with one the code before it and the entries behind it decide
@@ -72,27 +78,29 @@ module _ (codes counts : List ℕ) where
           ∙ sym
           (ap₂
           (λ (k : ℕ) (d : List ℕ).
-          leb 1 k && leb k codeMost && comesBefore last d && risesAfter d (values (entryAt codes counts) (suc i) n)) (length-there i) (code-there i fits))
+          leb 1 k && leb k codeMost && comesBefore last d && risesAfter d (values (entryAt codes counts) (suc i) n))
+          (length-there i) (code-there i fits))
 
   none-left : (last : List ℕ) (i : ℕ) → true ≡ risesAfter last (values (entryAt codes counts) i 0)
   unfolding risesAfter values
   none-left last i = refl
 
   -- the places behind place i
-  rises-behind : (n i : ℕ) → lengthAt codes i ≤ codeMost → (suc i + n) * placeSize ≤ length codes
+  places-behind : (n i : ℕ) → lengthAt codes i ≤ codeMost → (suc i + n) * placeSize ≤ length codes
       → risesFrom codes (i * placeSize) n ≡ risesAfter (codeFrom codes (i * placeSize)) (values (entryAt codes counts) (suc i) n)
   unfolding risesFrom followsAt
-  rises-behind zero i fits long = none-left (codeFrom codes (i * placeSize)) (suc i)
-  rises-behind (suc n) i fits long =
+  places-behind zero i fits long = none-left (codeFrom codes (i * placeSize)) (suc i)
+  places-behind (suc n) i fits long =
       ap
       (λ (at : ℕ).
-      isLength (getD codes at 0) && isBehind (compared (codeFrom codes at) (lengthAt codes i) (drop (i * placeSize + 1) codes)) && risesFrom codes at n)
+      isLength (getD codes at 0) && isBehind (compared (codeFrom codes at) (lengthAt codes i) (drop (i * placeSize + 1) codes))
+      && risesFrom codes at n)
       (let e : i * placeSize + placeSize ≡ suc i * placeSize = omega arith in e)
       ∙ entry-rises (codeFrom codes (i * placeSize)) (suc i) n
       (isBehind (compared (codeFrom codes (suc i * placeSize)) (lengthAt codes i) (drop (i * placeSize + 1) codes)))
       (risesFrom codes (suc i * placeSize) n)
       (λ short some. behind-there (i * placeSize) (suc i * placeSize) (omega (arith, fits, long)))
-      (λ short. rises-behind n (suc i) short (omega (arith, long)))
+      (λ short. places-behind n (suc i) short (omega (arith, long)))
 
   all-rise : (n : ℕ) → n * placeSize ≤ length codes → allRise codes n ≡ rises (values (entryAt codes counts) 0 n)
   unfolding allRise
@@ -100,15 +108,15 @@ module _ (codes counts : List ℕ) where
   all-rise (suc n) long =
       ap (λ (b : Bool). b && risesFrom codes 0 n) (and-true (isLength (lengthAt codes 0)))
       ∙ entry-rises [] 0 n true (risesFrom codes 0 n)
-      (λ short some. sym (some-behind (lengthAt codes 0) (drop (0 * placeSize + 1) codes) some (omega (arith, length-drop (0 * placeSize + 1) codes, long))))
-      (λ short. rises-behind n 0 short (omega (arith, long)))
+      (λ short some. sym (filled-behind (0 * placeSize) some (omega (arith, short, long))))
+      (λ short. places-behind n 0 short (omega (arith, long)))
 
   -- of roomy buffers
   pub sound-decided : roomy codes counts ≡ true → allRise codes (namedIn counts) ≡ soundIndex codes counts
   unfolding soundIndex entriesIn
   sound-decided e =
-      let r = room codes counts e in
-      rw e (all-rise (namedIn counts) (omega (arith, r .codesLong, r .fewNamed)))
+      let r = roomy-parts codes counts e in
+      rw e (all-rise (namedIn counts) (omega (arith, r .codesRoom, r .fewNamed)))
 
   pub not-roomy-sound : roomy codes counts ≡ false → false ≡ soundIndex codes counts
   unfolding soundIndex

@@ -14,7 +14,7 @@ use Rattle.index.specs.Index.{Entry, codeMost, placeSize, lengthOf, entr
 use Rattle.index.specs.Adding.{newEntry, codeAdded}
 use Rattle.index.proofs.Sizes.{Sized}
 use Rattle.index.proofs.Orders.{Three, isB, isS, isA, three, order-alike-same, after-differs}
-use Rattle.index.proofs.Steps.{names-miss, added-here, added-sooner, added-later, Rising, rises-rising, rising-rises, rises-unnamed}
+use Rattle.index.proofs.Steps.{names-miss, added-here, added-sooner, added-later, Rising, rises-rising, sooner-unnamed}
 
 -- the places of entries
 abbrev pub placeList : List Entry → List (List ℕ)
@@ -96,11 +96,10 @@ unfolding names
 named-after last c [] w n = absurd (never-both n refl)
 named-after last c (e ∷ es) w n = go (three (byteOrder c (entryCode e))) (rises-rising last e es w) (named-after (entryCode e) c es)
   where
-    go : Three (byteOrder c (entryCode e)) → Rising last e es → (risesAfter (entryCode e) es ≡ true → names es c ≡ true → placeList (codeAdded c es) ≡ placeList es)
+    go : Three (byteOrder c (entryCode e)) → Rising last e es
+        → (risesAfter (entryCode e) es ≡ true → names es c ≡ true → placeList (codeAdded c es) ≡ placeList es)
         → placeList (codeAdded c (e ∷ es)) ≡ placeList (e ∷ es)
-    go (isB h) r ih =
-        absurd (never-both n
-        (rises-unnamed c (e ∷ es) (rising-rises c e es (record { some = r .some; short = r .short; behind = h; rest = r .rest }))))
+    go (isB h) r ih = absurd (never-both n (sooner-unnamed c r h))
     go (isS h) r ih = ap placeList (added-here c e es (order-alike-same c (entryCode e) h))
     go (isA h) r ih =
         ap placeList (added-later c e es h)

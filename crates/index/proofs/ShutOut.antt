@@ -23,15 +23,16 @@ use Rattle.index.specs.declared.asking.Code.the-variants as K
 use Rattle.index.specs.declared.tally.Tally.{Tally}
 use Rattle.index.specs.declared.tally.Tallied.{Tallied}
 use Rattle.index.specs.Order.{byteOrder, comesBefore}
-use Rattle.index.specs.Index.{Entry, codesMost, codeMost, placeSize, countsPast, lengthOf, entryCode, namedIn, entryAt, entriesIn, roomy, risesAfter, rises, soundIndex, names, countOf}
+use Rattle.index.specs.Index.{Entry, codesMost, codeMost, placeSize, countsPast, lengthOf, entryCode, namedIn, entryAt, entriesIn}
+use Rattle.index.specs.Index.{roomy, risesAfter, rises, soundIndex, names, countOf}
 use Rattle.index.specs.Finding.{placeFound, codesAsked, countAsked, codeAsked}
 use Rattle.index.specs.Tallying.{withMessage, tallyTooLarge, tallied}
 use Rattle.index.proofs.Orders.{before-not-same, order-self}
 use Rattle.index.proofs.Entries.{length-entries, entry-there}
 use Rattle.index.proofs.RisingEntries.{length-there}
-use Rattle.index.proofs.Halved.{rises-between, sound-rises}
+use Rattle.index.proofs.Halved.{rises-between, sound-rises, place-filled}
 use Rattle.index.proofs.Asked.{some-codes, no-code, code-zero}
-use Rattle.index.proofs.Answered.{place-filled, finds-code, count-answered, code-answered}
+use Rattle.index.proofs.Answered.{finds-code, count-answered, code-answered}
 
 -- what meets the contract of `find`, of a sound index
 module _ (codes counts code : List ℕ) (sound : soundIndex codes counts ≡ true) {r : Found} (meets : r ≡ placeFound codes counts code) where
@@ -52,7 +53,8 @@ module _ (codes counts code : List ℕ) (sound : soundIndex codes counts ≡ tru
 -- what meets the contract of `is_sound`
 module _ (codes counts : List ℕ) {r : Bool} (meets : r ≡ soundIndex codes counts) where
   -- a judge that takes a code twice, at places next to each other or further apart
-  pub takes-a-code-twice : (i j : ℕ) → i < j → j < namedIn counts → entryCode (entryAt codes counts i) ≡ entryCode (entryAt codes counts j) → r ≡ true → ⊥
+  pub takes-a-code-twice : (i j : ℕ) → i < j → j < namedIn counts → entryCode (entryAt codes counts i) ≡ entryCode (entryAt codes counts j)
+      → r ≡ true → ⊥
   takes-a-code-twice i j h k twice e =
       before-not-same
       (rises-between [] (entriesIn codes counts) (sound-rises codes counts (sym meets ∙ e)) i j h (omega (arith, k, length-entries codes counts)))

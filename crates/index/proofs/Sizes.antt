@@ -1,10 +1,10 @@
 -- What fits an index: entries whose places are whole, codes of 1 to 22 bytes, and buffers with room for all of it.
 -- Assumes nothing.
-use mathlib.Core.Bool.{true, _&&_}
+use mathlib.Core.Bool.{true, false, _&&_}
 use mathlib.Core.List.{List}
 use mathlib.Core.Path.{_≡_}
-use Prim.Native.Nat.{ℕ, suc, _*_, _≤_}
-use borrow.Author.Tests.{leb-true, le-leb}
+use Prim.Native.Nat.{ℕ, suc, _*_, _<_, _≤_}
+use borrow.Author.Tests.{leb-true, le-leb, lt-leb}
 use lib.Dec.{leb}
 use lib.ListN.{length}
 use Rattle.laws.specs.Every.{All}
@@ -45,3 +45,17 @@ module _ (codes counts : List ℕ) where
   parts-roomy r =
       and-both (and-both (le-leb (codesMost * placeSize) (length codes) (r .codesRoom)) (le-leb (suc codesMost) (length counts) (r .countsRoom)))
       (le-leb (namedIn counts) codesMost (r .fewNamed))
+
+  -- the first test that fails decides, or the last
+  pub codes-short : length codes < codesMost * placeSize → false ≡ roomy codes counts
+  unfolding roomy
+  codes-short h = rw (lt-leb (codesMost * placeSize) (length codes) h)
+
+  module _ (long : codesMost * placeSize ≤ length codes) where
+    pub counts-short : length counts < suc codesMost → false ≡ roomy codes counts
+    unfolding roomy
+    counts-short h = rw (le-leb (codesMost * placeSize) (length codes) long, lt-leb (suc codesMost) (length counts) h)
+
+    pub named-decides : suc codesMost ≤ length counts → leb (namedIn counts) codesMost ≡ roomy codes counts
+    unfolding roomy
+    named-decides h = rw (le-leb (codesMost * placeSize) (length codes) long, le-leb (suc codesMost) (length counts) h)

@@ -119,6 +119,15 @@ rises-unnamed c (e ∷ es) w =
     names-miss e es c (before-differs c (entryCode e) (r .behind))
     ∙ rises-unnamed c es (rises-lower c (entryCode e) es (r .behind) (r .rest))
 
+-- what rises after a code rises after each one that is before the first entry too, which is not named then
+pub rising-sooner : (c : List ℕ) {last : List ℕ} {e : Entry} {es : List Entry} → Rising last e es → byteOrder c (entryCode e) ≡ Before
+    → risesAfter c (e ∷ es) ≡ true
+rising-sooner c {e = e} {es = es} r h = rising-rises c e es (record { some = r .some; short = r .short; behind = h; rest = r .rest })
+
+pub sooner-unnamed : (c : List ℕ) {last : List ℕ} {e : Entry} {es : List Entry} → Rising last e es → byteOrder c (entryCode e) ≡ Before
+    → names (e ∷ es) c ≡ false
+sooner-unnamed c {e = e} {es = es} r h = rises-unnamed c (e ∷ es) (rising-sooner c r h)
+
 -- what is not named is not counted
 pub unnamed-uncounted : (es : List Entry) (c : List ℕ) → names es c ≡ false → countOf es c ≡ 0
 unfolding countOf

@@ -96,7 +96,8 @@ module _ (c codes counts : List ℕ) (sound : soundIndex codes counts ≡ true) 
   sized : Sized (codeAdded c es)
   sized = added-sized c es fit (entries-sized codes counts (sound-roomy codes counts sound))
 
-  module _ (few : length (codeAdded c es) ≤ codesMost) (codes-put : codes′ ≡ sets codes 0 (codesPut (codeAdded c es))) (counts-put : counts′ ≡ sets counts 0 (countsPut (codeAdded c es))) where
+  module _ (few : length (codeAdded c es) ≤ codesMost) (codes-put : codes′ ≡ sets codes 0 (codesPut (codeAdded c es)))
+      (counts-put : counts′ ≡ sets counts 0 (countsPut (codeAdded c es))) where
     put-entries : entriesIn codes′ counts′ ≡ codeAdded c es
     put-entries = ap₂ entriesIn codes-put counts-put ∙ entries-put (codeAdded c es) codes counts sized few (room .codesRoom) (room .countsRoom)
 

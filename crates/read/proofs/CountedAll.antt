@@ -38,7 +38,8 @@ unfolding codesCounted
 present-append [] c = refl
 present-append (d ∷ cs) c = go (tested (eqb (length d) 0)) (present-append cs c)
   where
-    go : Tested (eqb (length d) 0) → codesCounted (cs ++ (c ∷ [])) ≡ codesCounted cs ++ codesCounted (c ∷ []) → codesCounted (d ∷ (cs ++ (c ∷ []))) ≡ codesCounted (d ∷ cs) ++ codesCounted (c ∷ [])
+    go : Tested (eqb (length d) 0) → codesCounted (cs ++ (c ∷ [])) ≡ codesCounted cs ++ codesCounted (c ∷ [])
+        → codesCounted (d ∷ (cs ++ (c ∷ []))) ≡ codesCounted (d ∷ cs) ++ codesCounted (c ∷ [])
     go (passed e) ih = rw (e, codesCounted) ih
     go (failed e) ih = rw (e, codesCounted) (ap (λ (t : List (List ℕ)). d ∷ t) ih)
 

@@ -12,9 +12,12 @@ use Rattle.abi.proofs.indexing.sargaceu_read_indexed.Tie as tie
 abbrev start-of : tie.Else1 → tie.Start
 start-of c = c .before .before .before .before .before .before .before .before .before
 
--- what reading left, seen from where the tally was put
+-- what reading left, seen from where its tally is taken and from where that was put
+abbrev taken-of : tie.After-put-tally → tie.After-after
+taken-of c = c .before .before .before
+
 abbrev indexed-of : tie.After-put-tally → tie.After-read-indexed
-indexed-of c = c .before .before .before .before .before .before .before .before .before .before .before .before .before .before
+indexed-of c = taken-of c .before .before .before .before .before .before .before .before .before .before .before
 
 abbrev put-of : tie.After-put-filed → tie.After-put-tally
 put-of c = c .before .before .before .before

@@ -11,7 +11,7 @@ use Rattle.index.specs.Index.{codesMost, namedIn, roomy}
 use Rattle.index.specs.inner.Halving.{soughtAmong}
 use Rattle.index.proofs.Additions.{not-roomy-adds, empty-adds, long-adds, place-within, full-adds, inserted-adds, counted-adds}
 use Rattle.index.proofs.KeptHalf.{Within}
-use Rattle.index.proofs.Roominess.{Room, room}
+use Rattle.index.proofs.Sizes.{Roomy, roomy-parts}
 use Rattle.index.proofs.adding.add.Statement.{statement}
 use Rattle.index.proofs.adding.add.Tie as tie
 
@@ -31,8 +31,8 @@ counts-at c = start-of c .args .counts .now
 roomy-here : (c : tie.Else1) → roomy (codes-at c) (counts-at c) ≡ true
 roomy-here c = sym (c .before .is-roomy .ensures) ∙ not-false (c .before .is-roomy .result) (c .if1 .left)
 
-room-here : (c : tie.Else1) → Room (codes-at c) (counts-at c)
-room-here c = room (codes-at c) (counts-at c) (roomy-here c)
+room-here : (c : tie.Else1) → Roomy (codes-at c) (counts-at c)
+room-here c = roomy-parts (codes-at c) (counts-at c) (roomy-here c)
 
 returns : tie.Need-returns
 returns c =
@@ -50,13 +50,13 @@ returns-3 c =
     long-adds (code-at r) (codes-at r) (counts-at r) (roomy-here r) (c .before .if2 .left) (c .if3 .taken)
 
 slice-read-wide : tie.Need-slice-read-wide
-slice-read-wide c = omega (arith, room-here (c .before .before .before) .countsLong)
+slice-read-wide c = omega (arith, room-here (c .before .before .before) .countsRoom)
 
 seek-requires : tie.Need-seek-requires
 seek-requires c κs =
     let fits = c .before .before .before in
     let r = room-here (fits .before .before) in
-    (omega (arith, c .before .wide .ensures .0, r .fewNamed), r .codesLong, fits .if3 .left)
+    (omega (arith, c .before .wide .ensures .0, r .fewNamed), r .codesRoom, fits .if3 .left)
 
 -- where the code was sought: the code fits, the buffers are roomy, and the place is the one that halving comes to
 abbrev fits-at : tie.After-seek → tie.Else3
@@ -86,7 +86,7 @@ entry-here c = omega (arith, within-here (c .before) .entry (c .if4 .taken), roo
 count-once-more-requires : tie.Need-count-once-more-requires
 count-once-more-requires c κs =
     let known = c .before .before in
-    omega (arith, entry-here known, room-here (roomy-at (known .before)) .countsLong)
+    omega (arith, entry-here known, room-here (roomy-at (known .before)) .countsRoom)
 
 returns-4 : tie.Need-returns-4
 returns-4 c =
@@ -137,4 +137,5 @@ add-spec =
     (tie.spec (λ c κs. search needs) (λ c. refl) (λ c. refl) returns (λ c. refl) (λ c. refl) returns-2 (λ c. refl) (λ c. refl) returns-3
     slice-read-wide (λ c. search needs) seek-requires (λ c. omega (arith, entry-here (c .before .before))) count-once-more-requires (λ c. refl)
     (λ c. c .before .before .count-once-more .kept .0) returns-4 (λ c. refl) (λ c. refl) returns-5 insert-requires
-    (λ c. c .before .before .before .before .insert .kept .1 .1 .1 .0) (λ c. c .before .before .before .before .insert .kept .1 .1 .1 .1 .0) returns-6)
+    (λ c. c .before .before .before .before .insert .kept .1 .1 .1 .0) (λ c. c .before .before .before .before .insert .kept .1 .1 .1 .1 .0)
+    returns-6)

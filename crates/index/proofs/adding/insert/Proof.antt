@@ -9,12 +9,12 @@ use lib.Seq.{sets}
 use Rattle.index.specs.Index.{placeSize}
 use Rattle.index.specs.Adding.{placeOfCode}
 use Rattle.index.proofs.Putting.{new-codes, new-counts}
-use Rattle.index.proofs.Roominess.{Room, room}
+use Rattle.index.proofs.Sizes.{Roomy, roomy-parts}
 use Rattle.index.proofs.adding.insert.Statement.{statement}
 use Rattle.index.proofs.adding.insert.Tie as tie
 
-room-at : (s : tie.Start) → Room (s .args .codes .now) (s .args .counts .now)
-room-at s = room (s .args .codes .now) (s .args .counts .now) (s .pre .room)
+room-at : (s : tie.Start) → Roomy (s .args .codes .now) (s .args .counts .now)
+room-at s = roomy-parts (s .args .codes .now) (s .args .counts .now) (s .pre .room)
 
 -- where the codes are moved, the code put, and the counts moved
 abbrev start-0 : tie.After-move-codes → tie.Start
@@ -29,31 +29,31 @@ start-2 c = start-1 (c .before .before .before .before)
 move-codes-requires : tie.Need-move-codes-requires
 move-codes-requires c κs =
     let s = c .before .before .before .before in
-    (omega (arith, s .pre .within), omega (arith, s .pre .free, room-at s .codesLong))
+    (omega (arith, s .pre .within), omega (arith, s .pre .free, room-at s .codesRoom))
 
 put-code-requires : tie.Need-put-code-requires
 put-code-requires c κs =
     let moved = c .before .before .before in
     let s = start-0 moved in
-    (s .pre .short, omega (arith, s .pre .within, s .pre .free, room-at s .codesLong, moved .move-codes .kept .0))
+    (s .pre .short, omega (arith, s .pre .within, s .pre .free, room-at s .codesRoom, moved .move-codes .kept .0))
 
 move-counts-requires : tie.Need-move-counts-requires
 move-counts-requires c κs =
     let s = start-1 (c .before .before .before) in
-    (omega (arith, s .pre .within), omega (arith, s .pre .free, room-at s .countsLong))
+    (omega (arith, s .pre .within), omega (arith, s .pre .free, room-at s .countsRoom))
 
 slice-write-counts : tie.Need-slice-write-counts
 slice-write-counts c =
     let moved = c .before .before in
     let s = start-2 moved in
-    omega (arith, s .pre .within, s .pre .free, room-at s .countsLong, moved .move-counts .kept .0)
+    omega (arith, s .pre .within, s .pre .free, room-at s .countsRoom, moved .move-counts .kept .0)
 
 slice-write-counts-2 : tie.Need-slice-write-counts-2
 slice-write-counts-2 c =
     let moved = c .before .before in
     let s = start-2 moved in
     omega
-    (arith, room-at s .countsLong, moved .move-counts .kept .0, length-set (moved .move-counts .last .0) (s .args .place + 1) 1)
+    (arith, room-at s .countsRoom, moved .move-counts .kept .0, length-set (moved .move-counts .last .0) (s .args .place + 1) 1)
 
 same-length : tie.Need-same-length
 same-length c =

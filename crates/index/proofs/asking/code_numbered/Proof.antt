@@ -10,7 +10,7 @@ use Rattle.index.specs.declared.asking.Code.the-variants.{At}
 use Rattle.index.specs.Index.{placeSize, namedIn, roomy}
 use Rattle.index.specs.inner.Rising.{lengthAt}
 use Rattle.index.proofs.Asked.{no-code, code-zero, code-past, empty-place, long-place, code-asked}
-use Rattle.index.proofs.Roominess.{Room, room}
+use Rattle.index.proofs.Sizes.{Roomy, roomy-parts}
 use Rattle.index.proofs.asking.code_numbered.Statement.{statement}
 use Rattle.index.proofs.asking.code_numbered.Tie as tie
 
@@ -21,8 +21,8 @@ start-of c = c .before .before .before .before
 roomy-here : (c : tie.Else1) → roomy (start-of c .args .codes .now) (start-of c .args .counts .now) ≡ true
 roomy-here c = sym (c .before .is-roomy .ensures) ∙ not-false (c .before .is-roomy .result) (c .if1 .left)
 
-room-here : (c : tie.Else1) → Room (start-of c .args .codes .now) (start-of c .args .counts .now)
-room-here c = room (start-of c .args .codes .now) (start-of c .args .counts .now) (roomy-here c)
+room-here : (c : tie.Else1) → Roomy (start-of c .args .codes .now) (start-of c .args .counts .now)
+room-here c = roomy-parts (start-of c .args .codes .now) (start-of c .args .counts .now) (roomy-here c)
 
 returns : tie.Need-returns
 returns c =
@@ -36,7 +36,7 @@ returns-2 c =
     code-zero (a .codes .now) (a .counts .now) (a .k) (roomy-here (c .before)) (c .if2 .taken)
 
 shared-slice-read-wide : tie.Need-shared-slice-read-wide
-shared-slice-read-wide c = omega (arith, room-here (c .before .before) .countsLong)
+shared-slice-read-wide c = omega (arith, room-here (c .before .before) .countsRoom)
 
 returns-3 : tie.Need-returns-3
 returns-3 c =
@@ -54,7 +54,7 @@ named-here c = omega (arith, c .if3 .left, c .before .wide .ensures .0)
 
 length-at-requires : tie.Need-length-at-requires
 length-at-requires c κs =
-    omega (arith, named-here c, c .before .before .before .if2 .left, room-here (roomy-at c) .codesLong, room-here (roomy-at c) .fewNamed)
+    omega (arith, named-here c, c .before .before .before .if2 .left, room-here (roomy-at c) .codesRoom, room-here (roomy-at c) .fewNamed)
 
 -- the length that stands at its place
 length-here : (c : tie.After-length-at) → c .length-at .result
@@ -79,7 +79,7 @@ returns-5 c =
 shared-slice-read-t10 : tie.Need-shared-slice-read-t10
 shared-slice-read-t10 c =
     let known = c .before .before .before .before in
-    omega (arith, named-here known, room-here (roomy-at known) .countsLong, room-here (roomy-at known) .fewNamed)
+    omega (arith, named-here known, room-here (roomy-at known) .countsRoom, room-here (roomy-at known) .fewNamed)
 
 returns-6 : tie.Need-returns-6
 returns-6 c =

@@ -7,7 +7,7 @@ use borrow.Author.Needs.{needs}
 use borrow.Author.Tests.{not-true, not-false}
 use Rattle.index.specs.Index.{codesMost, roomy}
 use Rattle.index.proofs.Asked.{no-count, count-found, found-within, not-named, times-there}
-use Rattle.index.proofs.Roominess.{room}
+use Rattle.index.proofs.Sizes.{roomy-parts}
 use Rattle.index.proofs.asking.count_of.Statement.{statement}
 use Rattle.index.proofs.asking.count_of.Tie as tie
 
@@ -41,7 +41,7 @@ named-here c =
     omega (
       arith,
       within .entry (not-false (sought .find .result .named) (c .if2 .left)),
-      room (a .codes .now) (a .counts .now) (roomy-here (sought .before)) .fewNamed,
+      roomy-parts (a .codes .now) (a .counts .now) (roomy-here (sought .before)) .fewNamed,
     )
 
 shared-slice-read-t10 : tie.Need-shared-slice-read-t10
@@ -49,7 +49,7 @@ shared-slice-read-t10 c =
     let found = c .before .before in
     let sought = found .before .before in
     let a = start-of (sought .before) .args in
-    omega (arith, named-here found, room (a .codes .now) (a .counts .now) (roomy-here (sought .before)) .countsLong)
+    omega (arith, named-here found, roomy-parts (a .codes .now) (a .counts .now) (roomy-here (sought .before)) .countsRoom)
 
 returns-3 : tie.Need-returns-3
 returns-3 c =

@@ -7,7 +7,7 @@ use borrow.Author.Tests.{not-true, not-false}
 use Rattle.index.specs.declared.asking.Codes.the-variants.{Named}
 use Rattle.index.specs.Index.{roomy}
 use Rattle.index.proofs.Asked.{no-codes, some-codes}
-use Rattle.index.proofs.Roominess.{room}
+use Rattle.index.proofs.Sizes.{roomy-parts}
 use Rattle.index.proofs.asking.named_codes.Statement.{statement}
 use Rattle.index.proofs.asking.named_codes.Tie as tie
 
@@ -27,7 +27,7 @@ returns c =
 shared-slice-read-wide : tie.Need-shared-slice-read-wide
 shared-slice-read-wide c =
     let a = start-of (c .before) .args in
-    omega (arith, room (a .codes .now) (a .counts .now) (roomy-here (c .before)) .countsLong)
+    omega (arith, roomy-parts (a .codes .now) (a .counts .now) (roomy-here (c .before)) .countsRoom)
 
 returns-2 : tie.Need-returns-2
 returns-2 c =

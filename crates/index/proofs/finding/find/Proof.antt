@@ -9,7 +9,7 @@ use borrow.Author.Tests.{not-true, not-false}
 use Rattle.index.specs.Index.{roomy}
 use Rattle.index.specs.inner.Halving.{soughtAmong}
 use Rattle.index.proofs.Asked.{found-nowhere, too-long, found-sought}
-use Rattle.index.proofs.Roominess.{room}
+use Rattle.index.proofs.Sizes.{roomy-parts}
 use Rattle.index.proofs.finding.find.Statement.{statement}
 use Rattle.index.proofs.finding.find.Tie as tie
 
@@ -38,14 +38,14 @@ shared-slice-read-wide : tie.Need-shared-slice-read-wide
 shared-slice-read-wide c =
     let fitting = c .before .before in
     let a = start-of fitting .args in
-    omega (arith, room (a .codes .now) (a .counts .now) (roomy-here fitting) .countsLong)
+    omega (arith, roomy-parts (a .codes .now) (a .counts .now) (roomy-here fitting) .countsRoom)
 
 seek-requires : tie.Need-seek-requires
 seek-requires c κs =
     let fitting = c .before .before .before in
     let a = start-of fitting .args in
-    let r = room (a .codes .now) (a .counts .now) (roomy-here fitting) in
-    (omega (arith, c .wide .ensures .0, r .fewNamed), r .codesLong, c .before .before .if2 .left)
+    let r = roomy-parts (a .codes .now) (a .counts .now) (roomy-here fitting) in
+    (omega (arith, c .wide .ensures .0, r .fewNamed), r .codesRoom, c .before .before .if2 .left)
 
 returns-3 : tie.Need-returns-3
 returns-3 c =

@@ -1,8 +1,8 @@
 -- `index::soundness::follows` meets its contract: without a code's length it may not stand there, with one the code before it decides.
 -- Assumes nothing.
-use mathlib.Core.Bool.{true, false}
+use mathlib.Core.Bool.{true}
 use mathlib.Core.Path.{_≡_, sym, ap, _∙_}
-use Prim.Native.Nat.{ℕ, _+_, _-_, _*_, _≤_}
+use Prim.Native.Nat.{ℕ, _+_, _-_, _≤_}
 use native.Mathlib.Omega.{arith}
 use lib.ListN.{length, take, drop, getD, length-drop}
 use lib.Seq.{length-take-le}
@@ -30,7 +30,8 @@ is-length-here c = sym (not-false (c .before .has-code .result) (c .if1 .left)) 
 
 fits-here : (c : tie.After-length-at) → c .length-at .result ≤ codeMost
 fits-here c =
-    omega (arith, length-here c, length-short (getD (start-of (c .before) .args .codes .now) (next-of (c .before)) 0) (sym (is-length-here (c .before))))
+    let codes = start-of (c .before) .args .codes .now in
+    omega (arith, length-here c, length-short (getD codes (next-of (c .before)) 0) (sym (is-length-here (c .before))))
 
 returns : tie.Need-returns
 returns c =

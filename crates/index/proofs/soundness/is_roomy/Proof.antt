@@ -5,7 +5,7 @@ use native.Mathlib.Omega.{arith}
 use lib.Dec.{leb}
 use borrow.Author.Needs.{needs}
 use Rattle.index.specs.Index.{codesMost}
-use Rattle.index.proofs.Roominess.{codes-short, counts-short, named-decides}
+use Rattle.index.proofs.Sizes.{codes-short, counts-short, named-decides}
 use Rattle.index.proofs.soundness.is_roomy.Statement.{statement}
 use Rattle.index.proofs.soundness.is_roomy.Tie as tie
 

@@ -9,7 +9,7 @@ use Rattle.index.specs.Index.{roomy, soundIndex}
 use Rattle.index.specs.inner.Rising.{allRise}
 use Rattle.index.proofs.Followed.{none-rise, first-fails, first-rises}
 use Rattle.index.proofs.RisingEntries.{sound-decided, not-roomy-sound}
-use Rattle.index.proofs.Roominess.{Room, room}
+use Rattle.index.proofs.Sizes.{Roomy, roomy-parts}
 use Rattle.index.proofs.soundness.is_sound.Statement.{statement}
 use Rattle.index.proofs.soundness.is_sound.Tie as tie
 
@@ -27,11 +27,11 @@ returns c =
     not-roomy-sound (a .codes .now) (a .counts .now) (sym (asked .is-roomy .ensures) ∙ not-true (asked .is-roomy .result) (c .if1 .taken))
 
 -- room for what is named
-room-here : (c : tie.Else1) → Room (start-of c .args .codes .now) (start-of c .args .counts .now)
-room-here c = room (start-of c .args .codes .now) (start-of c .args .counts .now) (roomy-here c)
+room-here : (c : tie.Else1) → Roomy (start-of c .args .codes .now) (start-of c .args .counts .now)
+room-here c = roomy-parts (start-of c .args .codes .now) (start-of c .args .counts .now) (roomy-here c)
 
 shared-slice-read-wide : tie.Need-shared-slice-read-wide
-shared-slice-read-wide c = omega (arith, room-here (c .before) .countsLong)
+shared-slice-read-wide c = omega (arith, room-here (c .before) .countsRoom)
 
 -- whether all that are named rise decides
 decided-here : (c : tie.After-wide)
@@ -45,7 +45,7 @@ returns-2 : tie.Need-returns-2
 returns-2 c = none-rise (start-of (c .before .before .before) .args .codes .now) (c .before .wide .result) (c .if2 .taken) ∙ decided-here (c .before)
 
 has-code-requires : tie.Need-has-code-requires
-has-code-requires c κs = omega (arith, room-here (c .before .before .before) .codesLong)
+has-code-requires c κs = omega (arith, room-here (c .before .before .before) .codesRoom)
 
 returns-3 : tie.Need-returns-3
 returns-3 c =
@@ -58,7 +58,7 @@ rises-requires : tie.Need-rises-requires
 rises-requires c κs =
     let some = c .before .before in
     let r = room-here (some .before .before .before) in
-    (at-least-one (some .before .wide .result) (some .if2 .left), omega (arith, some .before .wide .ensures .0, r .fewNamed), r .codesLong)
+    (at-least-one (some .before .wide .result) (some .if2 .left), omega (arith, some .before .wide .ensures .0, r .fewNamed), r .codesRoom)
 
 returns-4 : tie.Need-returns-4
 returns-4 c =
@@ -72,4 +72,5 @@ returns-4 c =
 pub is-sound-spec : {M : Type 1} → statement M
 is-sound-spec =
     tie.close
-    (tie.spec (λ c κs. search needs) returns shared-slice-read-wide (λ c κs. search needs) returns-2 has-code-requires returns-3 rises-requires returns-4)
+    (tie.spec (λ c κs. search needs) returns shared-slice-read-wide (λ c κs. search needs) returns-2 has-code-requires returns-3
+    rises-requires returns-4)

@@ -5,12 +5,12 @@ use Prim.Native.Nat.{_-_, _*_}
 use native.Mathlib.Omega.{arith}
 use borrow.Author.Tests.{not-true, not-false}
 use Rattle.index.specs.Index.{placeSize}
-use Rattle.index.proofs.Followed.{Rising, rising-begins, rising-room, rising-next, rising-fails, rising-done}
+use Rattle.index.proofs.Followed.{StillRising, rising-begins, rising-room, rising-next, rising-fails, rising-done}
 use Rattle.index.proofs.soundness.rises.Statement.{statement}
 use Rattle.index.proofs.soundness.rises.Tie as tie
 
 abbrev Inv-loop : tie.InvT-loop
-Inv-loop codes named last at₀ at = Rising codes (named - 1) at
+Inv-loop codes named last at₀ at = StillRising codes (named - 1) at
 
 abbrev μ-loop : tie.MeasureT-loop
 μ-loop codes named last at₀ at = (named - 1) * placeSize - at
@@ -47,5 +47,5 @@ returns-2 c = rising-done (c .before .loop .inv) (c .loop-test .left)
 pub rises-spec : {M : Type 1} → statement M
 rises-spec =
     tie.close
-    (tie.spec Inv-loop μ-loop (λ c. omega (arith, c .before .pre .0)) (λ c. omega (arith, c .before .pre .0, c .before .pre .1)) loop-holds follows-requires
-    returns add-at (λ c. omega (arith, c .before .before .loop-test .taken)) loop-again returns-2)
+    (tie.spec Inv-loop μ-loop (λ c. omega (arith, c .before .pre .0)) (λ c. omega (arith, c .before .pre .0, c .before .pre .1)) loop-holds
+    follows-requires returns add-at (λ c. omega (arith, c .before .before .loop-test .taken)) loop-again returns-2)
