@@ -1,21 +1,21 @@
 -- Counting a message that was accepted: the copy of the index is the index, and what counting the codes comes to is what is admitted.
 -- Assumes nothing.
-use mathlib.Core.Bool.{Bool, true, false, _||_}
+use mathlib.Core.Bool.{true, false}
 use mathlib.Core.List.{List}
-use mathlib.Core.Path.{_≡_, refl, sym, ap, ap₂, _∙_, subst}
+use mathlib.Core.Path.{_≡_, refl, sym, ap, ap₂, _∙_}
 use Prim.Native.Nat.{ℕ, suc, _+_, _*_, _≤_, _<_}
 use native.Mathlib.Omega.{arith}
 use lib.Dec.{eqb}
 use lib.ListN.{length, take}
 use lib.Seq.{sets}
-use borrow.Author.Tests.{eqb-true, eqb-false, eq-eqb, ne-eqb}
-use Rattle.laws.proofs.Tests.{Tested, passed, failed, tested, and-both, or-first, or-second, or-fails, never-both}
+use borrow.Author.Tests.{eqb-true}
+use Rattle.laws.proofs.Tests.{Tested, passed, failed, tested, and-both, or-second, or-fails, never-both}
 use Rattle.form.specs.declared.limits.Limits.{Limits}
 use Rattle.table.specs.Rows.{Table}
 use Rattle.index.specs.declared.tally.Tally.{Tally}
 use Rattle.index.specs.declared.tally.Tallied.{Tallied}
 use Rattle.index.specs.Refusals.{longCode, fullIndex, fullCount}
-use Rattle.index.specs.Index.{Entry, codesMost, placeSize, namedIn, entriesIn, roomy, rises, soundIndex, codesPut, countsPut}
+use Rattle.index.specs.Index.{Entry, codesMost, placeSize, namedIn, entriesIn, rises, soundIndex, codesPut, countsPut}
 use Rattle.index.specs.Adding.{addedAll, tooMany, tooLarge}
 use Rattle.index.specs.Tallying.{withMessage, tallyTooLarge, tallied}
 use Rattle.index.proofs.Sizes.{Roomy, roomy-parts}
@@ -26,7 +26,7 @@ use Rattle.read.specs.declared.admit.Admitted.{Admitted}
 use Rattle.read.specs.declared.census.Census.{Census}
 use Rattle.read.specs.declared.decide.Decision.{Decision}
 use Rattle.read.specs.Codes.{codesCounted, firstLong}
-use Rattle.read.specs.Counting.{Counting, turned, counted, countedOr, tallyLeft, frontLeft}
+use Rattle.read.specs.Counting.{turned, counted, countedOr, tallyLeft, frontLeft}
 use Rattle.read.specs.inner.Census.{carriedIn, censusNumber, CensusOf}
 use Rattle.read.specs.inner.Admitting.{admission, turnedNumber, turnedPlace, AdmitsAs}
 

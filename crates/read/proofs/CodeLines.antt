@@ -3,7 +3,7 @@
 use mathlib.Core.List.{List, [], _∷_, _++_, append-nil}
 use mathlib.Core.Logic.{⊎-elim}
 use mathlib.Core.Path.{_≡_, refl, sym, ap, _∙_, subst, subst⁻¹}
-use Prim.Native.Nat.{ℕ, suc, _+_, _≤_, _<_}
+use Prim.Native.Nat.{ℕ, _+_, _≤_, _<_}
 use native.Mathlib.Omega.{arith}
 use lib.ListN.{length, getD, take, drop, length-append}
 use lib.Seq.{getD-at}
@@ -28,7 +28,7 @@ use Rattle.read.specs.inner.Segments.{lineText, lineAfter}
 use Rattle.read.specs.inner.Starting.{textFrom}
 use Rattle.read.specs.inner.Coding.{Gathered, nothingGathered, gatherBytes, HeldCode, TakesLine, LineTaken, CodeAhead, CodeTaken, codeOfRow}
 use Rattle.read.proofs.Coding.{Shown, gathered-ends, gathered-whole, gather-append}
-use Rattle.read.proofs.LeftLaws.{Readable, addendum-within, segment-within, addendum-left, segment-left}
+use Rattle.read.proofs.LeftLaws.{addendum-within, segment-within, addendum-left, segment-left}
 use Rattle.read.proofs.Noting.{nothing-carried}
 use Rattle.read.proofs.PlainLaws.{run-more, run-ended}
 use Rattle.read.proofs.StandLaws.{readable}

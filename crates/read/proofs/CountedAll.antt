@@ -1,7 +1,7 @@
 -- All rows counted, one after the other: what the rows so far come to, and what all of them come to.
 -- Assumes nothing.
 use mathlib.Core.Bool.{Bool, true, false}
-use mathlib.Core.List.{List, [], _∷_, _++_, map, append-nil}
+use mathlib.Core.List.{List, [], _∷_, _++_, append-nil}
 use mathlib.Core.Logic.{⊎-elim}
 use mathlib.Core.Path.{_≡_, refl, sym, ap, _∙_, subst, subst⁻¹}
 use Prim.Native.Nat.{ℕ, zero, suc, _+_, _≤_, _<_}

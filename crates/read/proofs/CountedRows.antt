@@ -1,12 +1,10 @@
 -- One row more to count: what its segment carries, where its code stands, and what comes of it.
 -- Assumes nothing.
-use mathlib.Core.Bool.{Bool, true, false}
-use mathlib.Core.List.{List, [], _∷_, _++_, map}
+use mathlib.Core.List.{List, [], _++_}
 use mathlib.Core.Logic.{⊎-elim}
-use mathlib.Core.Path.{_≡_, refl, sym, ap, _∙_, subst}
-use Prim.Native.Nat.{ℕ, zero, suc, _+_, _≤_, _<_}
+use mathlib.Core.Path.{_≡_, sym, ap, _∙_, subst}
+use Prim.Native.Nat.{ℕ, _+_, _≤_, _<_}
 use native.Mathlib.Omega.{arith}
-use lib.Dec.{eqb}
 use lib.ListN.{length, getD, take, drop, take-append-drop}
 use borrow.Author.Tests.{eq-eqb, ne-eqb}
 use Rattle.laws.specs.Tables.{values}
@@ -24,7 +22,6 @@ use Rattle.index.proofs.Putting.{take-values}
 use Rattle.read.specs.declared.census.Census.{Census}
 use Rattle.read.specs.Codes.{countedKind, leafCode, codeCarried}
 use Rattle.read.specs.Sound.{segmentsIn, SoundLines}
-use Rattle.read.specs.inner.Filling.{Fillable}
 use Rattle.read.specs.inner.Coding.{CodeAhead, CodeTaken, codeOfRow}
 use Rattle.read.specs.inner.Census.{carriedBy, lowerOf, RowAhead, RowCounted, tried}
 use Rattle.read.proofs.CutAnyhow.{first-segment}

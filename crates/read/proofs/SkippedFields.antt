@@ -1,10 +1,10 @@
 -- Going over the fields before a code: text changes nothing, and what is left of the line gives what the whole line gives.
 -- Assumes nothing.
 use mathlib.Core.Bool.{true, false}
-use mathlib.Core.List.{List, [], _∷_, _++_}
+use mathlib.Core.List.{List, [], _∷_}
 use mathlib.Core.Logic.{⊎-elim}
 use mathlib.Core.Path.{_≡_, refl, sym, ap, _∙_, subst, subst⁻¹}
-use Prim.Native.Nat.{ℕ, suc, _+_, _-_, _≤_, _<_}
+use Prim.Native.Nat.{ℕ, _+_, _-_, _≤_, _<_}
 use native.Mathlib.Omega.{arith}
 use lib.Dec.{eqb}
 use lib.ListN.{length, getD, take, drop}
@@ -14,7 +14,7 @@ use borrow.Author.Tests.{ne-eqb}
 use Rattle.read.specs.declared.codes.Taken.{Taken}
 use Rattle.read.specs.inner.Scanning.{run, plainRun}
 use Rattle.read.specs.inner.Segments.{lineText}
-use Rattle.read.specs.inner.Coding.{Gathered, gatherByte, gatherBytes, HeldCode, Skips, FieldsSkipped, TakesLine, LineTaken}
+use Rattle.read.specs.inner.Coding.{Gathered, gatherBytes, HeldCode, Skips, FieldsSkipped, TakesLine, LineTaken}
 use Rattle.read.proofs.Coding.{gather-append, byte-passed}
 use Rattle.read.proofs.PlainLaws.{plain-text, plain-none, plain-turn, plain-stop, run-turn, line-turn, run-split, line-split}
 

@@ -1,7 +1,7 @@
 -- Finding a code's place by halving (X4). Each step compares the code with one that is named; ten steps do for 512 codes.
 -- Assumes nothing.
 use mathlib.Core.Bool.{true, false}
-use mathlib.Core.List.{List, []}
+use mathlib.Core.List.{List}
 use Prim.Native.Nat.{ℕ, zero, suc, _+_, _*_, _/_}
 use lib.Dec.{ltb}
 use lib.ListN.{getD, drop}

@@ -1,9 +1,9 @@
 -- What counting an accepted message asks, and what it gives (X3).
 -- Assumes nothing.
 use mathlib.Core.Bool.{true}
-use mathlib.Core.List.{List, []}
+use mathlib.Core.List.{List}
 use mathlib.Core.Path.{_≡_}
-use Prim.Native.Nat.{ℕ, _+_, _≤_}
+use Prim.Native.Nat.{ℕ, _≤_}
 use lib.ListN.{length}
 use Rattle.form.specs.declared.limits.Limits.{Limits}
 use Rattle.table.specs.Rows.{Table}

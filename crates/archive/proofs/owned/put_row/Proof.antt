@@ -1,12 +1,8 @@
 -- `archive::owned::put_row` meets its contract: four stores in a row.
 -- Assumes nothing.
 use borrow.Author.Needs.{needs}
-use mathlib.Core.Path.{_≡_, sym, ap, _∙_}
-use Prim.Native.Nat.{ℕ, _+_}
-use mathlib.Core.List.{List, [], _∷_}
 use native.Mathlib.Omega.{arith}
-use lib.ListN.{set, length-set}
-use lib.Seq.{sets}
+use lib.ListN.{length-set}
 use Rattle.archive.proofs.FourStores.{four-stores}
 use Rattle.archive.proofs.owned.put_row.Statement.{statement}
 use Rattle.archive.proofs.owned.put_row.Tie as tie

@@ -5,7 +5,6 @@ use mathlib.Core.Path.{_≡_, refl, sym, _∙_, subst}
 use Prim.Native.Nat.{ℕ, _-_, _<_}
 use native.Mathlib.Omega.{arith}
 use lib.ListN.{length}
-use borrow.Author.Needs.{needs}
 use Rattle.index.specs.Index.{codeMost, entriesIn}
 use Rattle.read.specs.Codes.{codeCarried}
 use Rattle.read.specs.Sound.{segmentsIn}
