@@ -1,8 +1,10 @@
--- The order watcher (rules V1 and V2): how it begins, what it is after some kinds, and which of them it said yes to.
+-- The order watcher (rules V1 to V3): how it begins, what it is after some kinds, which of them it said yes to, and which may come next.
 -- Assumes nothing.
 use mathlib.Core.Bool.{true, false}
 use mathlib.Core.List.{List, [], _∷_}
 use Prim.Native.Nat.{ℕ}
+use Rattle.laws.specs.Tables.{values}
+use Rattle.order.specs.inner.Followers.{asEntry}
 use Rattle.order.specs.inner.Telling.{tellOf}
 use Rattle.order.specs.declared.watcher.Watcher.{Watcher}
 
@@ -19,3 +21,7 @@ watched w (k ∷ ks) = watched (tellOf w k .watcher) ks
 unfoldable pub said : Watcher → List ℕ → List ℕ
 said w [] = []
 said w (k ∷ ks) = elim (tellOf w k .yes) [ true ↦ k ∷ said (tellOf w k .watcher) ks | false ↦ said (tellOf w k .watcher) ks ]
+
+-- which kinds may come next (V3), by number from 0 to 12: 1 where the watcher would say yes to the kind, and else 0
+unfoldable pub nextKinds : Watcher → List ℕ
+nextKinds w = values (λ k. asEntry (tellOf w k .yes)) 0 13

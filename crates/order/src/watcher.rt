@@ -4,10 +4,14 @@ use form::context::Context;
 use form::kind::Kind;
 ghost use mathlib.Core.Path.{_≡_};
 ghost use Prim.Native.Nat.{_≤_};
-ghost use Rattle.order.specs.Watcher.{begun};
+ghost use Rattle.order.specs.Watcher.{begun, nextKinds};
+ghost use Rattle.order.specs.inner.Followers.{asEntry};
 ghost use Rattle.order.specs.inner.Telling.{InTable, followsBy, allowsC, allowsNext, allows, tookKind, tellBy, tellOf};
 use crate::followers::PER_CONTEXT;
 use crate::followers::PER_KIND;
+
+// A place for each number up to the last kind, with one for 0, which is no kind.
+pub const KINDS: usize = 13;
 
 pub struct Watcher {
     // the number that it was begun with, be it a context's or not
@@ -54,6 +58,21 @@ impl Watcher {
         }
     }
 
+    // Which kinds may come next (V3): 1 at the number of each kind that the watcher would say yes to, C among them, and 0 at every other.
+    pub fn next_kinds(self) -> [u8; KINDS]
+        ensures { λ r. ⌜ r ≡ nextKinds self ⌝ }
+    {
+        let followers = crate::followers::table();
+        let mut next = [0; KINDS];
+        let mut kind = 0;
+        while kind < KINDS {
+            let told = self.tell_by(&followers, kind as u8);
+            next[kind] = entry_of(told.yes);
+            kind += 1;
+        }
+        next
+    }
+
     // The watcher once it said yes to a kind: C changes nothing in it.
     fn after(self, kind: u8) -> Watcher
         ensures { λ r. ⌜ r ≡ tookKind self kind ⌝ }
@@ -66,6 +85,13 @@ impl Watcher {
             last: kind,
         }
     }
+}
+
+// A test as an entry of a table.
+fn entry_of(yes: bool) -> u8
+    ensures { λ r. ⌜ r ≡ asEntry yes ⌝ }
+{
+    if yes { 1 } else { 0 }
 }
 
 // Whether a kind may come next in a context after the last kind, C aside, or after nothing where that is 0.

@@ -1,0 +1,9 @@
+pub mod Addenda
+pub mod Going
+pub mod Placing
+pub mod Positions
+pub mod BlankLines
+pub mod Rowed
+pub mod RowsStand
+pub mod Accepted
+pub mod ShutOut

@@ -1,0 +1,4 @@
+pub mod Places
+pub mod Positions
+pub mod Promises
+pub mod inner
