@@ -20,7 +20,7 @@ use Rattle.line.proofs.BothForms.{walk-same}
 use Rattle.table.specs.Rows.{Table, tableOf}
 use Rattle.table.specs.Reading.{Room, accepted, reading}
 use Rattle.table.proofs.Accepting.{Accepted, accepting}
-use Rattle.source.specs.Places.{fieldOf, addendaAhead, linesFrom}
+use Rattle.source.specs.Places.{namedField, addendaAhead, linesFrom}
 use Rattle.source.specs.Promises.{RowsStand, RowsShown, allLines, AcceptedRows}
 use Rattle.source.proofs.Addenda.{other-letter}
 use Rattle.source.proofs.Going.{one, textTo, lines-line, ahead-none, Stands, nothing, carrying, beginning, stands}
@@ -45,10 +45,10 @@ module _ (L : Limits) (some : 1 ≤ L .line) (m : List ℕ) (other : getD m 0 0 
           absurd (never-both t (other-letter f (textTo L some m 0 e) (λ q. other (sym (first-byte m (e - 0) (omega (arith, line-within L m 0 e n h))) ∙ q))))
 
   pub stands-unless-A : RowsStand L m
-  stands-unless-A = rows-stand L some m (no-addendum-ahead (fieldOf m))
+  stands-unless-A = rows-stand L some m (no-addendum-ahead (namedField m))
 
   pub shown-unless-A : RowsShown L m
-  shown-unless-A = rows-shown L some m (no-addendum-ahead (fieldOf m))
+  shown-unless-A = rows-shown L some m (no-addendum-ahead (namedField m))
 
 -- lines are of no form
 same-lines : (f : Form) (m : List ℕ) → texts (walk (limitsOf f) m) ≡ allLines smallForm m
@@ -63,11 +63,11 @@ module _ (f : Form) (levels : ℕ → ℕ → ℕ) (room : Room) (m : List ℕ) 
   header : SoundHeader m (w .separators)
   header = sound-header m (w .separators) (w .header)
 
-  field-same : w .separators .field ≡ fieldOf m
+  field-same : w .separators .field ≡ namedField m
   unfolding separatorsOf
   field-same = ap (λ (ps : Separators). ps .field) (header .separators)
 
-  segments-same : joined (w .separators .field) (texts (walk (limitsOf f) m)) ≡ joined (fieldOf m) (allLines smallForm m)
+  segments-same : joined (w .separators .field) (texts (walk (limitsOf f) m)) ≡ joined (namedField m) (allLines smallForm m)
   segments-same = ap₂ {C = List (List ℕ)} joined field-same (same-lines f m)
 
   pub accepted-rows : AcceptedRows m t

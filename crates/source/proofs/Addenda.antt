@@ -9,7 +9,7 @@ use lib.Dec.{eqb}
 use lib.ListN.{length, getD}
 use borrow.Author.Tests.{eq-eqb, ne-eqb}
 use Rattle.line.specs.Joining.{addendum, letterA}
-use Rattle.source.specs.Places.{fieldOf}
+use Rattle.source.specs.Places.{namedField}
 
 module _ (f : ℕ) where
   pub too-short : (l : List ℕ) → length l < 2 → addendum f l ≡ false
@@ -31,7 +31,7 @@ module _ (f : ℕ) where
   told-by-second (a ∷ b ∷ l) h e = ap (λ (t : Bool). t && eqb b f) (eq-eqb a letterA e)
 
 -- a message of under two bytes names no separator
-pub no-separator : (m : List ℕ) → length m < 2 → 0 ≡ fieldOf m
+pub no-separator : (m : List ℕ) → length m < 2 → 0 ≡ namedField m
 no-separator [] h = refl
 no-separator (a ∷ []) h = refl
 no-separator (a ∷ b ∷ m) h = absurd (omega arith)

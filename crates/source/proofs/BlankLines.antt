@@ -21,7 +21,7 @@ use Rattle.line.specs.declared.finder.Found.{Found}
 use Rattle.line.specs.declared.finder.Found.the-variants.{Line, End, Fault}
 use Rattle.line.proofs.Runs.{textRun-nil, textRun-more, textRun-stop, lowRun-nil, lowRun-more, lowRun-stop}
 use Rattle.line.proofs.Finding.{found-cases, textEnded-cases}
-use Rattle.source.specs.Places.{linesFrom, onward}
+use Rattle.source.specs.Places.{linesFrom, placeAhead}
 use Rattle.source.specs.Positions.{lineEnds, blankEnds, blankBefore}
 use Rattle.source.proofs.Positions.{ends-CR, ends-other}
 use Rattle.source.proofs.Going.{lines-line, onward-line, Stands, nothing, carrying, beginning, stands}
@@ -127,14 +127,14 @@ line-ends low s r some =
 
 module _ (L : Limits) (some : 1 ≤ L .line) (m : List ℕ) where
   -- a line that is found at a place: its text, its CR, and what is skipped
-  record Shape (at n : ℕ) : Type 0 where
+  record LineShape (at n : ℕ) : Type 0 where
     rest : List ℕ
     text : 1 ≤ textRun (drop at m)
     ended : drop (textRun (drop at m)) (drop at m) ≡ CR ∷ rest
     next : n ≡ at + (textRun (drop at m) + suc (lowRun rest))
 
   abbrev Shaped : ℕ → Found → Type 0
-  Shaped at (Line e n) = Shape at n
+  Shaped at (Line e n) = LineShape at n
   Shaped at End = Unit
   Shaped at (Fault k p) = Unit
 
@@ -153,7 +153,7 @@ module _ (L : Limits) (some : 1 ≤ L .line) (m : List ℕ) where
   -- from one line to the next there is one CR more than there are blank ones
   line-step : (at e n : ℕ) → foundAt L m at ≡ Line e n → lineEnds (take n m) + blankBefore m at ≡ suc (lineEnds (take at m) + blankBefore m n)
   line-step at e n h =
-      let shape : Shape at n = subst (Shaped at) h (shaped at) in
+      let shape : LineShape at n = subst (Shaped at) h (shaped at) in
       let s = drop at m in
       let part = take (textRun s) s ++ CR ∷ take (lowRun (shape .rest)) (shape .rest) in
       let low = lowAfter false (take at m) in
@@ -169,14 +169,14 @@ module _ (L : Limits) (some : 1 ≤ L .line) (m : List ℕ) where
 
   -- after k lines there are k CRs more
   pub lines-step : (k at : ℕ) → k ≤ length (linesFrom L m at)
-      → lineEnds (take (onward L m at k) m) + blankBefore m at ≡ k + (lineEnds (take at m) + blankBefore m (onward L m at k))
-  unfolding onward
+      → lineEnds (take (placeAhead L m at k) m) + blankBefore m at ≡ k + (lineEnds (take at m) + blankBefore m (placeAhead L m at k))
+  unfolding placeAhead
   lines-step zero at h = omega arith
   lines-step (suc k) at h = by (stands L some m 0 at) (λ n. lines-step k n)
     where
       by-line : (e n : ℕ) → foundAt L m at ≡ Line e n
-          → (k ≤ length (linesFrom L m n) → lineEnds (take (onward L m n k) m) + blankBefore m n ≡ k + (lineEnds (take n m) + blankBefore m (onward L m n k)))
-          → lineEnds (take (onward L m at (suc k)) m) + blankBefore m at ≡ suc k + (lineEnds (take at m) + blankBefore m (onward L m at (suc k)))
+          → (k ≤ length (linesFrom L m n) → lineEnds (take (placeAhead L m n k) m) + blankBefore m n ≡ k + (lineEnds (take n m) + blankBefore m (placeAhead L m n k)))
+          → lineEnds (take (placeAhead L m at (suc k)) m) + blankBefore m at ≡ suc k + (lineEnds (take at m) + blankBefore m (placeAhead L m at (suc k)))
       by-line e n q ih =
           let same = onward-line L some m at e n k q in
           omega (
@@ -189,8 +189,8 @@ module _ (L : Limits) (some : 1 ≤ L .line) (m : List ℕ) where
 
       by : Stands L some m 0 at
           → ((n : ℕ) → k ≤ length (linesFrom L m n)
-          → lineEnds (take (onward L m n k) m) + blankBefore m n ≡ k + (lineEnds (take n m) + blankBefore m (onward L m n k)))
-          → lineEnds (take (onward L m at (suc k)) m) + blankBefore m at ≡ suc k + (lineEnds (take at m) + blankBefore m (onward L m at (suc k)))
+          → lineEnds (take (placeAhead L m n k) m) + blankBefore m n ≡ k + (lineEnds (take n m) + blankBefore m (placeAhead L m n k)))
+          → lineEnds (take (placeAhead L m at (suc k)) m) + blankBefore m at ≡ suc k + (lineEnds (take at m) + blankBefore m (placeAhead L m at (suc k)))
       by (nothing e b) ih = absurd (omega (arith, h, ap length e))
       by (carrying e n q t b) ih = by-line e n q (ih n)
       by (beginning e n q t b) ih = by-line e n q (ih n)

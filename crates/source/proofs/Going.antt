@@ -19,7 +19,7 @@ use Rattle.line.specs.declared.finder.Found.{Found}
 use Rattle.line.specs.declared.finder.Found.the-variants.{Line, End, Fault}
 use Rattle.line.proofs.Handing.{walkFrom-found, line-within}
 use Rattle.line.proofs.Finding.{nextOf-line, found-end}
-use Rattle.source.specs.Places.{addendaAhead, linesFrom, onward}
+use Rattle.source.specs.Places.{addendaAhead, linesFrom, placeAhead}
 use Rattle.source.specs.inner.Going.{behindAddendum, addendaFrom}
 use Rattle.source.specs.declared.row.LineRun.{LineRun}
 
@@ -68,9 +68,9 @@ module _ (L : Limits) (some : 1 ≤ L .line) (m : List ℕ) where
   unfolding handedOut texts
   lines-fault at k p h = lines-handed at (Fault k p) h
 
-  pub onward-line : (at e n k : ℕ) → foundAt L m at ≡ Line e n → onward L m at (suc k) ≡ onward L m n k
-  unfolding onward
-  onward-line at e n k h = ap (λ (p : ℕ). onward L m p k) (nextOf-line at (foundAt L m at) e n h)
+  pub onward-line : (at e n k : ℕ) → foundAt L m at ≡ Line e n → placeAhead L m at (suc k) ≡ placeAhead L m n k
+  unfolding placeAhead
+  onward-line at e n k h = ap (λ (p : ℕ). placeAhead L m p k) (nextOf-line at (foundAt L m at) e n h)
 
   -- What stands at a place: no line, an addendum, or the first line of a row.
   pub data Stands (f : ℕ) (at : ℕ) : Type 0 where
@@ -94,7 +94,7 @@ module _ (L : Limits) (some : 1 ≤ L .line) (m : List ℕ) where
   -- an addendum at `at`, behind which comes n: one addendum more than there are from n on
   pub record AddendumHere (f at n : ℕ) : Type 0 where
     pub ahead : addendaAhead f (linesFrom L m at) ≡ suc (addendaAhead f (linesFrom L m n))
-    pub goes : (k : ℕ) → onward L m at (suc k) ≡ onward L m n k
+    pub goes : (k : ℕ) → placeAhead L m at (suc k) ≡ placeAhead L m n k
     pub later : at < n
     pub within : n ≤ length m
 
@@ -126,7 +126,7 @@ module _ (L : Limits) (some : 1 ≤ L .line) (m : List ℕ) where
   -- the addenda at a place and those from n on, as the loop comes to them
   pub record Ahead (f at lines n : ℕ) : Type 0 where
     pub count : lines + addendaAhead f (linesFrom L m n) ≡ addendaAhead f (linesFrom L m at)
-    pub place : onward L m n (addendaAhead f (linesFrom L m n)) ≡ onward L m at (addendaAhead f (linesFrom L m at))
+    pub place : placeAhead L m n (addendaAhead f (linesFrom L m n)) ≡ placeAhead L m at (addendaAhead f (linesFrom L m at))
     pub few : lines ≤ n
     pub short : lines ≤ length m
 
@@ -137,7 +137,7 @@ module _ (L : Limits) (some : 1 ≤ L .line) (m : List ℕ) where
   ahead-goes f at lines n n′ a h =
       record {
         count = omega (arith, a .count, h .ahead);
-        place = sym (h .goes (addendaAhead f (linesFrom L m n′))) ∙ ap (onward L m n) (sym (h .ahead)) ∙ a .place;
+        place = sym (h .goes (addendaAhead f (linesFrom L m n′))) ∙ ap (placeAhead L m n) (sym (h .ahead)) ∙ a .place;
         few = omega (arith, a .few, h .later);
         short = omega (arith, a .few, h .later, h .within);
       }
@@ -145,10 +145,10 @@ module _ (L : Limits) (some : 1 ≤ L .line) (m : List ℕ) where
   -- behind the last one stands no more, and what has passed is all
   pub ahead-stops : (f at lines n : ℕ) → Ahead f at lines n → addendaAhead f (linesFrom L m n) ≡ 0
       → (record { lines = lines; next = n } ≡ addendaFrom L f m at) × (lines ≤ length m)
-  unfolding addendaFrom onward
+  unfolding addendaFrom placeAhead
   ahead-stops f at lines n a none =
       let all : lines ≡ addendaAhead f (linesFrom L m at) = omega (arith, a .count, none) in
-      let there : n ≡ onward L m at (addendaAhead f (linesFrom L m at)) = sym (ap (onward L m n) none) ∙ a .place in
+      let there : n ≡ placeAhead L m at (addendaAhead f (linesFrom L m at)) = sym (ap (placeAhead L m n) none) ∙ a .place in
       (ap₂ {C = LineRun} (λ (k p : ℕ). record { lines = k; next = p }) all there, a .short)
 
   -- at the message's end there is none

@@ -19,7 +19,7 @@ use Rattle.line.specs.declared.finder.Found.the-variants.{Line, End, Fault}
 use Rattle.line.proofs.Joining.{carried-addendum, carried-segment, joined-addendum, joined-segment}
 use Rattle.line.proofs.Handing.{line-within}
 use Rattle.line.proofs.Finding.{nextOf-line, nextOf-end, nextOf-fault}
-use Rattle.source.specs.Places.{addendaAhead, linesFrom, onward, placesFrom, rowFrom}
+use Rattle.source.specs.Places.{addendaAhead, linesFrom, placeAhead, placesFrom, rowBy}
 use Rattle.source.specs.inner.Going.{addendaFrom}
 use Rattle.source.specs.declared.row.RowPlace.{RowPlace}
 use Rattle.source.specs.declared.row.LineRun.{LineRun}
@@ -96,28 +96,28 @@ module _ (L : Limits) (some : 1 ≤ L .line) (f : ℕ) (m : List ℕ) where
       by End h = omega (arith, nextOf-end at (foundAt L m at) h)
       by (Fault k p) h = omega (arith, nextOf-fault at (foundAt L m at) k p h)
 
-  pub onward-later : (k at : ℕ) → at ≤ onward L m at k
-  unfolding onward
+  pub onward-later : (k at : ℕ) → at ≤ placeAhead L m at k
+  unfolding placeAhead
   onward-later zero at = omega arith
   onward-later (suc k) at = omega (arith, next-later at, onward-later k (nextOf at (foundAt L m at)))
 
   -- the lines left after k of them
-  pub lines-onward : (k at : ℕ) → k ≤ length (linesFrom L m at) → linesFrom L m (onward L m at k) ≡ drop k (linesFrom L m at)
-  unfolding onward
+  pub lines-onward : (k at : ℕ) → k ≤ length (linesFrom L m at) → linesFrom L m (placeAhead L m at k) ≡ drop k (linesFrom L m at)
+  unfolding placeAhead
   lines-onward zero at h = refl
   lines-onward (suc k) at h = by (stands L some m f at) (λ n. lines-onward k n)
     where
       by-line : (e n : ℕ) → foundAt L m at ≡ Line e n
-          → (k ≤ length (linesFrom L m n) → linesFrom L m (onward L m n k) ≡ drop k (linesFrom L m n))
-          → linesFrom L m (onward L m at (suc k)) ≡ drop (suc k) (linesFrom L m at)
+          → (k ≤ length (linesFrom L m n) → linesFrom L m (placeAhead L m n k) ≡ drop k (linesFrom L m n))
+          → linesFrom L m (placeAhead L m at (suc k)) ≡ drop (suc k) (linesFrom L m at)
       by-line e n q ih =
           let lines = lines-line L some m at e n q in
           ap (linesFrom L m) (onward-line L some m at e n k q)
           ∙ ih (omega (arith, h, ap length lines))
           ∙ sym (ap (drop (suc k)) lines)
 
-      by : Stands L some m f at → ((n : ℕ) → k ≤ length (linesFrom L m n) → linesFrom L m (onward L m n k) ≡ drop k (linesFrom L m n))
-          → linesFrom L m (onward L m at (suc k)) ≡ drop (suc k) (linesFrom L m at)
+      by : Stands L some m f at → ((n : ℕ) → k ≤ length (linesFrom L m n) → linesFrom L m (placeAhead L m n k) ≡ drop k (linesFrom L m n))
+          → linesFrom L m (placeAhead L m at (suc k)) ≡ drop (suc k) (linesFrom L m at)
       by (nothing e b) ih = absurd (omega (arith, h, ap length e))
       by (carrying e n q t b) ih = by-line e n q (ih n)
       by (beginning e n q t b) ih = by-line e n q (ih n)
@@ -135,23 +135,23 @@ module _ (L : Limits) (some : 1 ≤ L .line) (f : ℕ) (m : List ℕ) where
     pub own : joined f ls ≡ s ∷ []
     pub shape : OneRow f ls
     pub later : at < next
-    pub goes : onward L m at (length ls) ≡ next
+    pub goes : placeAhead L m at (length ls) ≡ next
 
   -- the rows from a place on, one after the other
   pub data Rowed : ℕ → Type 0 where
     over : {at : ℕ} → NoRow at → Rowed at
     then : {at next : ℕ} {ls : List (List ℕ)} {s : List ℕ} → RowHere at next ls s → Rowed next → Rowed at
 
-  run-lines : (at e n : ℕ) → foundAt L m at ≡ Line e n → rowFrom L f m at .lines ≡ addendaAhead f (linesFrom L m n) + 1
+  run-lines : (at e n : ℕ) → foundAt L m at ≡ Line e n → rowBy L f m at .lines ≡ addendaAhead f (linesFrom L m n) + 1
   unfolding addendaFrom
   run-lines at e n h = ap (λ (r : LineRun). r .lines) (row-line L some f m at e n h)
 
-  run-next : (at e n : ℕ) → foundAt L m at ≡ Line e n → rowFrom L f m at .next ≡ onward L m n (addendaAhead f (linesFrom L m n))
+  run-next : (at e n : ℕ) → foundAt L m at ≡ Line e n → rowBy L f m at .next ≡ placeAhead L m n (addendaAhead f (linesFrom L m n))
   unfolding addendaFrom
   run-next at e n h = ap (λ (r : LineRun). r .next) (row-line L some f m at e n h)
 
   -- where no addendum stands, the rows from a place on are so
-  row-here : (at : ℕ) → (rowFrom L f m at .lines ≡ 0 → ⊥) → addendaAhead f (linesFrom L m at) ≡ 0
+  row-here : (at : ℕ) → (rowBy L f m at .lines ≡ 0 → ⊥) → addendaAhead f (linesFrom L m at) ≡ 0
       → ((n : ℕ) → length (linesFrom L m n) < length (linesFrom L m at) → addendaAhead f (linesFrom L m n) ≡ 0 → Rowed n) → Rowed at
   row-here at lines head later = by (stands L some m f at)
     where
@@ -165,11 +165,11 @@ module _ (L : Limits) (some : 1 ≤ L .line) (f : ℕ) (m : List ℕ) where
           let a = addendaAhead f rest in
           let front = take a rest in
           let begins = row-begins L some f m at head lines in
-          let next = rowFrom L f m at .next in
-          let there : onward L m n a ≡ next = sym (run-next at e n h) in
+          let next = rowBy L f m at .next in
+          let there : placeAhead L m n a ≡ next = sym (run-next at e n h) in
           let left : drop a rest ≡ linesFrom L m next = sym (lines-onward a n (ahead-within f rest)) ∙ ap (linesFrom L m) there in
           let whole = lines-line L some m at e n h in
-          let many : rowFrom L f m at .lines ≡ length (l ∷ front)
+          let many : rowBy L f m at .lines ≡ length (l ∷ front)
           = omega (arith, run-lines at e n h, length-take-le a rest (ahead-within f rest)) in
           then {next = next} {ls = l ∷ front} {s = l ++ carried f rest}
           (record {
@@ -185,7 +185,7 @@ module _ (L : Limits) (some : 1 ≤ L .line) (f : ℕ) (m : List ℕ) where
                 ∙ ap₂ {C = List (List ℕ)} (λ (c : List ℕ) (r : List (List ℕ)). (l ++ c) ∷ r) (ahead-carry f rest) (ahead-joined f rest);
             shape = one-row l front t (ahead-all f rest);
             later = omega (arith, line-within L m at e n h, onward-later a n, there);
-            goes = ap (λ (k : ℕ). onward L m at (suc k)) (length-take-le a rest (ahead-within f rest)) ∙ onward-line L some m at e n a h ∙ there;
+            goes = ap (λ (k : ℕ). placeAhead L m at (suc k)) (length-take-le a rest (ahead-within f rest)) ∙ onward-line L some m at e n a h ∙ there;
           })
           (later next (omega (arith, ap length whole, sym (ap length left), length-drop a rest)) (begins .none))
 
@@ -198,9 +198,9 @@ module _ (L : Limits) (some : 1 ≤ L .line) (f : ℕ) (m : List ℕ) where
 
   pub rowed : (k at : ℕ) → length (linesFrom L m at) ≤ k → addendaAhead f (linesFrom L m at) ≡ 0 → Rowed at
   rowed zero at short head = nothing-left at (no-lines (linesFrom L m at) short)
-  rowed (suc k) at short head = by (equal-or-not (rowFrom L f m at .lines) 0) (λ n. rowed k n)
+  rowed (suc k) at short head = by (equal-or-not (rowBy L f m at .lines) 0) (λ n. rowed k n)
     where
-      by : (rowFrom L f m at .lines ≡ 0) ⊎ (rowFrom L f m at .lines ≡ 0 → ⊥)
+      by : (rowBy L f m at .lines ≡ 0) ⊎ (rowBy L f m at .lines ≡ 0 → ⊥)
           → ((n : ℕ) → length (linesFrom L m n) ≤ k → addendaAhead f (linesFrom L m n) ≡ 0 → Rowed n) → Rowed at
       by (inl z) ih = nothing-left at (row-none-lines L some f m at z)
       by (inr lines) ih = row-here at lines head (λ n less. ih n (omega arith))

@@ -14,9 +14,9 @@ use Rattle.laws.proofs.Cases.{less-or-not}
 use Rattle.laws.proofs.Tests.{never-both}
 use Rattle.form.specs.declared.limits.Limits.{Limits}
 use Rattle.line.specs.Joining.{addendum, joined}
-use Rattle.source.specs.Places.{fieldOf, addendaAhead, linesFrom, placesFrom, rowPlaces, noPlace, placeOfRow}
+use Rattle.source.specs.Places.{namedField, addendaAhead, linesFrom, placesFrom, rowPlaces, noPlace, placeOfRow}
 use Rattle.source.specs.Positions.{lineEnds, positionBehind, positionOf, blankEnds, blankBefore}
-use Rattle.source.specs.Promises.{linesOf, linesBefore, firstLine, AgreeUpTo, NoneCarried, RowsStand, shownLine, blankLines, RowsShown}
+use Rattle.source.specs.Promises.{linesTaken, linesBefore, firstLine, AgreeUpTo, NoneCarried, RowsStand, shownLine, blankLines, RowsShown}
 use Rattle.source.specs.declared.row.RowPlace.{RowPlace}
 use Rattle.source.proofs.BlankLines.{lines-step}
 use Rattle.source.proofs.Rowed.{OneRow, one-row, NoRow, RowHere, Rowed, over, then, rowed}
@@ -47,8 +47,8 @@ module _ (L : Limits) (some : 1 ≤ L .line) (f : ℕ) (m : List ℕ) where
     fewer i less = omega (arith, less, ap length (h .places))
 
     -- the lines of the first row are its own
-    own-lines : linesOf L m (record { start = at; lines = length ls }) ≡ ls
-    unfolding linesOf
+    own-lines : linesTaken L m (record { start = at; lines = length ls }) ≡ ls
+    unfolding linesTaken
     own-lines = ap (take (length ls)) (h .lines) ∙ take-append-seam ls (linesFrom L m next)
 
     lines-length : length (linesFrom L m at) ≡ length ls + length (linesFrom L m next)
@@ -71,24 +71,24 @@ module _ (L : Limits) (some : 1 ≤ L .line) (f : ℕ) (m : List ℕ) where
   places-counted (over n) = ap length (n .places) ∙ sym (ap (λ (ls : List (List ℕ)). length (joined f ls)) (n .lines))
   places-counted (then h r) = ap length (h .places) ∙ ap suc (places-counted r) ∙ sym (ap length (h .segments))
 
-  all-lines : {at : ℕ} → Rowed L some f m at → concat (map (linesOf L m) (placesFrom L f m at)) ≡ linesFrom L m at
+  all-lines : {at : ℕ} → Rowed L some f m at → concat (map (linesTaken L m) (placesFrom L f m at)) ≡ linesFrom L m at
   unfolding concat
-  all-lines (over n) = ap (λ (r : List RowPlace). concat (map (linesOf L m) r)) (n .places) ∙ sym (n .lines)
+  all-lines (over n) = ap (λ (r : List RowPlace). concat (map (linesTaken L m) r)) (n .places) ∙ sym (n .lines)
   all-lines (then h r) =
-      ap (λ (t : List RowPlace). concat (map (linesOf L m) t)) (h .places)
+      ap (λ (t : List RowPlace). concat (map (linesTaken L m) t)) (h .places)
       ∙ ap₂ {C = List (List ℕ)} (λ (a b : List (List ℕ)). a ++ b) (own-lines h) (all-lines r)
       ∙ sym (h .lines)
 
   row-segment : {at : ℕ} → Rowed L some f m at → (i : ℕ) → i < length (placesFrom L f m at)
-      → joined f (linesOf L m (nth at i)) ≡ getD (joined f (linesFrom L m at)) i [] ∷ []
+      → joined f (linesTaken L m (nth at i)) ≡ getD (joined f (linesFrom L m at)) i [] ∷ []
   row-segment (over n) i less = absurd (no-place n i less)
   row-segment (then h r) zero less =
-      ap (λ (t : RowPlace). joined f (linesOf L m t)) (nth-first h)
+      ap (λ (t : RowPlace). joined f (linesTaken L m t)) (nth-first h)
       ∙ ap (joined f) (own-lines h)
       ∙ h .own
       ∙ sym (ap {B = List (List ℕ)} (λ (t : List (List ℕ)). getD t 0 [] ∷ []) (h .segments))
   row-segment (then h r) (suc i) less =
-      ap (λ (t : RowPlace). joined f (linesOf L m t)) (nth-later h i)
+      ap (λ (t : RowPlace). joined f (linesTaken L m t)) (nth-later h i)
       ∙ row-segment r i (fewer h i less)
       ∙ sym (ap {B = List (List ℕ)} (λ (t : List (List ℕ)). getD t (suc i) [] ∷ []) (h .segments))
 
@@ -201,9 +201,9 @@ module _ (L : Limits) (some : 1 ≤ L .line) (f : ℕ) (m : List ℕ) where
       )
 
 -- The rows of a message whose first line is no addendum.
-module _ (L : Limits) (some : 1 ≤ L .line) (m : List ℕ) (head : addendaAhead (fieldOf m) (linesFrom L m 0) ≡ 0) where
-  along : Rowed L some (fieldOf m) m 0
-  along = rowed L some (fieldOf m) m (length (linesFrom L m 0)) 0 (omega arith) head
+module _ (L : Limits) (some : 1 ≤ L .line) (m : List ℕ) (head : addendaAhead (namedField m) (linesFrom L m 0) ≡ 0) where
+  along : Rowed L some (namedField m) m 0
+  along = rowed L some (namedField m) m (length (linesFrom L m 0)) 0 (omega arith) head
 
   -- a row's number and its place in the list
   at-number : (row : ℕ) → 1 ≤ row → placeOfRow L m row ≡ getD (rowPlaces L m) (row - 1) noPlace
@@ -234,14 +234,14 @@ module _ (L : Limits) (some : 1 ≤ L .line) (m : List ℕ) (head : addendaAhead
   first-at-0 = by (less-or-not 0 (length (rowPlaces L m)))
     where
       by : (0 < length (rowPlaces L m)) ⊎ (length (rowPlaces L m) ≤ 0) → placeOfRow L m 1 .start ≡ 0
-      by (inl some-row) = row-first L some (fieldOf m) m along some-row
+      by (inl some-row) = row-first L some (namedField m) m along some-row
       by (inr no-row) = ap (λ (r : RowPlace). r .start) (past-all (rowPlaces L m) 0 no-row)
 
   none-carried : (row : ℕ) → 1 ≤ row → row ≤ length (rowPlaces L m) → firstLine L m row ≡ row → NoneCarried L m row
   unfolding rowPlaces linesBefore
   none-carried row least most same =
-      subst⁻¹ (λ (n : ℕ). All (λ (l : List ℕ). addendum (fieldOf m) l ≡ false) (take n (linesFrom L m 0))) (before-number row least)
-      (agree-forth L some (fieldOf m) m along (row - 1) (omega arith) (omega (arith, same, before-number row least)))
+      subst⁻¹ (λ (n : ℕ). All (λ (l : List ℕ). addendum (namedField m) l ≡ false) (take n (linesFrom L m 0))) (before-number row least)
+      (agree-forth L some (namedField m) m along (row - 1) (omega arith) (omega (arith, same, before-number row least)))
 
   agree-exactly : (row : ℕ) → 1 ≤ row → row ≤ length (rowPlaces L m) → AgreeUpTo L m row ↔ NoneCarried L m row
   unfolding rowPlaces linesBefore
@@ -250,8 +250,8 @@ module _ (L : Limits) (some : 1 ≤ L .line) (m : List ℕ) (head : addendaAhead
       let here : i < length (rowPlaces L m) = omega arith in (
         λ agree. none-carried row least most (agree row least (omega arith)),
         λ none-carried r low up.
-            let same = agree-back L some (fieldOf m) m along i here
-            (subst (λ (n : ℕ). All (λ (l : List ℕ). addendum (fieldOf m) l ≡ false) (take n (linesFrom L m 0))) (before-number row least) none-carried)
+            let same = agree-back L some (namedField m) m along i here
+            (subst (λ (n : ℕ). All (λ (l : List ℕ). addendum (namedField m) l ≡ false) (take n (linesFrom L m 0))) (before-number row least) none-carried)
             (r - 1) (omega arith) in
             omega (arith, same, before-number r low),
       )
@@ -260,23 +260,23 @@ module _ (L : Limits) (some : 1 ≤ L .line) (m : List ℕ) (head : addendaAhead
   unfolding rowPlaces
   rows-stand =
       record {
-        counted = places-counted L some (fieldOf m) m along;
-        some = λ row least most. omega (arith, ap (λ (r : RowPlace). r .lines) (at-number row least), row-some L some (fieldOf m) m along (row - 1) (omega arith));
+        counted = places-counted L some (namedField m) m along;
+        some = λ row least most. omega (arith, ap (λ (r : RowPlace). r .lines) (at-number row least), row-some L some (namedField m) m along (row - 1) (omega arith));
         none = no-number;
         first = first-at-0;
         rises = λ row later least up most.
-            omega (arith, starts-at row least, starts-at later (omega arith), row-rises L some (fieldOf m) m along (row - 1) (later - 1) (omega arith) (omega arith));
+            omega (arith, starts-at row least, starts-at later (omega arith), row-rises L some (namedField m) m along (row - 1) (later - 1) (omega arith) (omega arith));
         segment = λ row least most.
-            ap (λ (r : RowPlace). joined (fieldOf m) (linesOf L m r)) (at-number row least)
-            ∙ row-segment L some (fieldOf m) m along (row - 1) (omega arith);
-        all = all-lines L some (fieldOf m) m along;
+            ap (λ (r : RowPlace). joined (namedField m) (linesTaken L m r)) (at-number row least)
+            ∙ row-segment L some (namedField m) m along (row - 1) (omega arith);
+        all = all-lines L some (namedField m) m along;
         agree = agree-exactly;
       }
 
   shown-line : (row : ℕ) → 1 ≤ row → row ≤ length (rowPlaces L m) → shownLine L m row ≡ firstLine L m row + blankLines L m row
   unfolding rowPlaces linesBefore positionOf positionBehind lineEnds count blankEnds
   shown-line row least most =
-      let e = row-ends L some (fieldOf m) m along (row - 1) (omega arith) in
+      let e = row-ends L some (namedField m) m along (row - 1) (omega arith) in
       let at = starts-at row least in
       omega (arith, e, ap (λ (p : ℕ). lineEnds (take p m)) at, ap (blankBefore m) at, before-number row least)
 
@@ -284,7 +284,7 @@ module _ (L : Limits) (some : 1 ≤ L .line) (m : List ℕ) (head : addendaAhead
   row-at-most : (row : ℕ) → 1 ≤ row → row ≤ length (rowPlaces L m) → row ≤ firstLine L m row
   unfolding rowPlaces linesBefore
   row-at-most row least most =
-      omega (arith, before-least L some (fieldOf m) m along (row - 1) (omega arith), before-number row least)
+      omega (arith, before-least L some (namedField m) m along (row - 1) (omega arith), before-number row least)
 
   pub rows-shown : RowsShown L m
   rows-shown =

@@ -11,7 +11,7 @@ use Rattle.form.specs.Forms.{smallForm}
 use Rattle.line.specs.Lines.{inside, walkFrom, texts}
 use Rattle.line.specs.Joining.{addendum}
 use Rattle.line.specs.Finding.{textRun, lowRun, textEnded, foundFrom, nextOf}
-use Rattle.source.specs.Places.{addendaAhead, rowsOf, linesFrom, onward, placesFrom, rowPlaces, placeOfRow, firstTaken, rowFrom, rowAt}
+use Rattle.source.specs.Places.{addendaAhead, rowsOf, linesFrom, placeAhead, placesFrom, rowPlaces, placeOfRow, firstTaken, rowBy, rowAt}
 use Rattle.source.specs.Positions.{lineEnds, bytesSince, positionBehind, positionOf}
 use Rattle.source.specs.declared.row.RowPlace.{RowPlace}
 use Rattle.source.specs.declared.row.LineRun.{LineRun}
@@ -26,15 +26,15 @@ unfoldable pub covered : List ℕ
 covered = 80 ∷ 124 ∷ 13 ∷ 65 ∷ 80 ∷ 124 ∷ 13 ∷ []
 
 second-row : placeOfRow smallForm carriedOn 2 ≡ record { start = 3; lines = 2 }
-unfolding carriedOn placeOfRow rowPlaces placesFrom rowsOf addendaAhead addendum linesFrom texts walkFrom inside onward nextOf foundFrom textRun lowRun textEnded
+unfolding carriedOn placeOfRow rowPlaces placesFrom rowsOf addendaAhead addendum linesFrom texts walkFrom inside placeAhead nextOf foundFrom textRun lowRun textEnded
 second-row = refl
 
 third-row : placeOfRow smallForm carriedOn 3 ≡ record { start = 11; lines = 1 }
-unfolding carriedOn placeOfRow rowPlaces placesFrom rowsOf addendaAhead addendum linesFrom texts walkFrom inside onward nextOf foundFrom textRun lowRun textEnded
+unfolding carriedOn placeOfRow rowPlaces placesFrom rowsOf addendaAhead addendum linesFrom texts walkFrom inside placeAhead nextOf foundFrom textRun lowRun textEnded
 third-row = refl
 
 no-fourth-row : placeOfRow smallForm carriedOn 4 ≡ record { start = 0; lines = 0 }
-unfolding carriedOn placeOfRow rowPlaces placesFrom rowsOf addendaAhead addendum linesFrom texts walkFrom inside onward nextOf foundFrom textRun lowRun textEnded
+unfolding carriedOn placeOfRow rowPlaces placesFrom rowsOf addendaAhead addendum linesFrom texts walkFrom inside placeAhead nextOf foundFrom textRun lowRun textEnded
 no-fourth-row = refl
 
 -- what meets the contract of `row_place`
@@ -52,11 +52,11 @@ module _ (f : List ℕ → ℕ → RowPlace) (meets : (m : List ℕ) (row : ℕ)
   row-past-the-last e = omega (arith, ap (λ (r : RowPlace). r .start) (sym e ∙ meets carriedOn 4 ∙ no-fourth-row))
 
 first-of-two : rowAt smallForm covered 0 ≡ record { lines = 1; next = 3 }
-unfolding covered rowAt rowFrom firstTaken addendaAhead addendum linesFrom texts walkFrom inside onward nextOf foundFrom textRun lowRun textEnded
+unfolding covered rowAt rowBy firstTaken addendaAhead addendum linesFrom texts walkFrom inside placeAhead nextOf foundFrom textRun lowRun textEnded
 first-of-two = refl
 
 second-with-addendum : rowAt smallForm carriedOn 3 ≡ record { lines = 2; next = 11 }
-unfolding carriedOn rowAt rowFrom firstTaken addendaAhead addendum linesFrom texts walkFrom inside onward nextOf foundFrom textRun lowRun textEnded
+unfolding carriedOn rowAt rowBy firstTaken addendaAhead addendum linesFrom texts walkFrom inside placeAhead nextOf foundFrom textRun lowRun textEnded
 second-with-addendum = refl
 
 -- what meets the contract of `row_at`

@@ -12,8 +12,8 @@ use Rattle.source.specs.declared.row.RowPlace.{RowPlace}
 use Rattle.source.specs.declared.row.LineRun.{LineRun}
 
 -- the field separator that a message names (H1): its byte 1, and 0, which no line has, where there is none
-abbrev pub fieldOf : List ℕ → ℕ
-fieldOf message = getD message 1 0
+abbrev pub namedField : List ℕ → ℕ
+namedField message = getD message 1 0
 
 -- how many addenda some lines begin with (A1)
 unfoldable pub addendaAhead : ℕ → List (List ℕ) → ℕ
@@ -21,13 +21,13 @@ addendaAhead separator [] = 0
 addendaAhead separator (l ∷ ls) = elim (addendum separator l) [ true ↦ suc (addendaAhead separator ls) | false ↦ 0 ]
 
 -- a row among some lines: how many lines stand before its first one, and how many it takes
-pub record RowLines : Type 0 where
+pub record RowSpan : Type 0 where
   pub before : ℕ
   pub taken : ℕ
 
 -- the rows of some lines that have k others before them: each line that is no addendum begins a row (A2), and the addenda behind it belong
 -- to it (A3)
-unfoldable pub rowsOf : ℕ → ℕ → List (List ℕ) → List RowLines
+unfoldable pub rowsOf : ℕ → ℕ → List (List ℕ) → List RowSpan
 rowsOf separator k [] = []
 rowsOf separator k (l ∷ ls) =
     elim (addendum separator l) [
@@ -40,21 +40,21 @@ unfoldable pub linesFrom : Limits → List ℕ → ℕ → List (List ℕ)
 linesFrom L message at = texts (walkFrom L at (drop at message))
 
 -- the place that a walk from the place `at` comes to after k lines; at the end or a fault it stays (P1)
-unfoldable pub onward : Limits → List ℕ → ℕ → ℕ → ℕ
-onward L message at zero = at
-onward L message at (suc k) = onward L message (nextOf at (foundAt L message at)) k
+unfoldable pub placeAhead : Limits → List ℕ → ℕ → ℕ → ℕ
+placeAhead L message at zero = at
+placeAhead L message at (suc k) = placeAhead L message (nextOf at (foundAt L message at)) k
 
 -- where a row stands among the lines from the place `at` on
-abbrev pub placed : Limits → List ℕ → ℕ → RowLines → RowPlace
-placed L message at row = record { start = onward L message at (row .before); lines = row .taken }
+abbrev pub standingAt : Limits → List ℕ → ℕ → RowSpan → RowPlace
+standingAt L message at row = record { start = placeAhead L message at (row .before); lines = row .taken }
 
 -- where all rows stand whose lines come from the place `at` on
 unfoldable pub placesFrom : Limits → ℕ → List ℕ → ℕ → List RowPlace
-placesFrom L separator message at = map (placed L message at) (rowsOf separator 0 (linesFrom L message at))
+placesFrom L separator message at = map (standingAt L message at) (rowsOf separator 0 (linesFrom L message at))
 
 -- where the rows of a message stand, one after the other
 unfoldable pub rowPlaces : Limits → List ℕ → List RowPlace
-rowPlaces L message = placesFrom L (fieldOf message) message 0
+rowPlaces L message = placesFrom L (namedField message) message 0
 
 -- no row
 abbrev pub noPlace : RowPlace
@@ -71,11 +71,11 @@ firstTaken separator (l ∷ ls) = suc (addendaAhead separator ls)
 
 -- n lines from a place on, and the place behind them
 abbrev pub runOf : Limits → List ℕ → ℕ → ℕ → LineRun
-runOf L message at n = record { lines = n; next = onward L message at n }
+runOf L message at n = record { lines = n; next = placeAhead L message at n }
 
 -- the line at a place and the addenda behind it (E2)
-unfoldable pub rowFrom : Limits → ℕ → List ℕ → ℕ → LineRun
-rowFrom L separator message at = runOf L message at (firstTaken separator (linesFrom L message at))
+unfoldable pub rowBy : Limits → ℕ → List ℕ → ℕ → LineRun
+rowBy L separator message at = runOf L message at (firstTaken separator (linesFrom L message at))
 
 unfoldable pub rowAt : Limits → List ℕ → ℕ → LineRun
-rowAt L message at = rowFrom L (fieldOf message) message at
+rowAt L message at = rowBy L (namedField message) message at

@@ -13,7 +13,7 @@ use Rattle.form.specs.declared.limits.Limits.{Limits}
 use Rattle.form.specs.Forms.{smallForm}
 use Rattle.line.specs.Joining.{addendum, joined}
 use Rattle.table.specs.Rows.{Table}
-use Rattle.source.specs.Places.{fieldOf, linesFrom, rowPlaces, noPlace, placeOfRow}
+use Rattle.source.specs.Places.{namedField, linesFrom, rowPlaces, noPlace, placeOfRow}
 use Rattle.source.specs.Positions.{positionOf, blankBefore}
 use Rattle.source.specs.declared.row.RowPlace.{RowPlace}
 
@@ -22,8 +22,8 @@ abbrev pub allLines : Limits → List ℕ → List (List ℕ)
 allLines L message = linesFrom L message 0
 
 -- the lines of a row, by where it stands: so many from its first one on
-unfoldable pub linesOf : Limits → List ℕ → RowPlace → List (List ℕ)
-linesOf L message p = take (p .lines) (linesFrom L message (p .start))
+unfoldable pub linesTaken : Limits → List ℕ → RowPlace → List (List ℕ)
+linesTaken L message p = take (p .lines) (linesFrom L message (p .start))
 
 -- how many lines stand before a place at which one begins, and the number of that line, counted from 1
 unfoldable pub linesBefore : Limits → List ℕ → ℕ → ℕ
@@ -40,12 +40,12 @@ AgreeUpTo L message row = (r : ℕ) → 1 ≤ r → r ≤ row → firstLine L me
 -- no line before this row is an addendum
 abbrev pub NoneCarried : Limits → List ℕ → ℕ → Type 0
 NoneCarried L message row =
-    All (λ (l : List ℕ). addendum (fieldOf message) l ≡ false) (take (linesBefore L message (placeOfRow L message row .start)) (allLines L message))
+    All (λ (l : List ℕ). addendum (namedField message) l ≡ false) (take (linesBefore L message (placeOfRow L message row .start)) (allLines L message))
 
 -- of a message whose first line is no addendum, as that of every accepted one
 pub record RowsStand (L : Limits) (message : List ℕ) : Type 0 where
   -- there is a place for each joined segment, and for no other number
-  pub counted : length (rowPlaces L message) ≡ length (joined (fieldOf message) (allLines L message))
+  pub counted : length (rowPlaces L message) ≡ length (joined (namedField message) (allLines L message))
   pub some : (row : ℕ) → 1 ≤ row → row ≤ length (rowPlaces L message) → 1 ≤ placeOfRow L message row .lines
   pub none : (row : ℕ) → (row ≡ 0) ⊎ (length (rowPlaces L message) < row) → placeOfRow L message row ≡ noPlace
   -- the first line of row 1 begins at 0
@@ -55,9 +55,9 @@ pub record RowsStand (L : Limits) (message : List ℕ) : Type 0 where
       → placeOfRow L message row .start < placeOfRow L message later .start
   -- each row's lines joined are its segment
   pub segment : (row : ℕ) → 1 ≤ row → row ≤ length (rowPlaces L message)
-      → joined (fieldOf message) (linesOf L message (placeOfRow L message row)) ≡ getD (joined (fieldOf message) (allLines L message)) (row - 1) [] ∷ []
+      → joined (namedField message) (linesTaken L message (placeOfRow L message row)) ≡ getD (joined (namedField message) (allLines L message)) (row - 1) [] ∷ []
   -- and together they are all lines
-  pub all : concat (map (linesOf L message) (rowPlaces L message)) ≡ allLines L message
+  pub all : concat (map (linesTaken L message) (rowPlaces L message)) ≡ allLines L message
   -- row number and line number agree up to a row exactly where no line before it is an addendum
   pub agree : (row : ℕ) → 1 ≤ row → row ≤ length (rowPlaces L message) → AgreeUpTo L message row ↔ NoneCarried L message row
 

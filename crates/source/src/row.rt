@@ -7,7 +7,7 @@ ghost use Prim.Native.Nat.{_≤_};
 ghost use lib.ListN.{length};
 ghost use Rattle.line.specs.Joining.{addendum};
 ghost use Rattle.line.specs.Finding.{foundAt};
-ghost use Rattle.source.specs.Places.{fieldOf, rowFrom, rowAt, placeOfRow};
+ghost use Rattle.source.specs.Places.{namedField, rowBy, rowAt, placeOfRow};
 ghost use Rattle.source.specs.inner.Going.{behindAddendum, addendaFrom};
 
 // Where a row stands: the offset at which its first line begins, and how many lines it takes. Both are 0 where there is no such row.
@@ -58,7 +58,7 @@ pub fn row_at(message: &[u8], at: usize) -> LineRun
 
 // The same by a field separator that is known.
 fn row_from(message: &[u8], field: u8, at: usize) -> LineRun
-    ensures { λ r. ⌜ r ≡ rowFrom smallForm field (now (message .entry)) at ⌝ }
+    ensures { λ r. ⌜ r ≡ rowBy smallForm field (now (message .entry)) at ⌝ }
 {
     match line_at(message, at) {
         Found::Line { end: _, next } => {
@@ -127,7 +127,7 @@ pub fn is_addendum(line: &[u8], field: u8) -> bool
 
 // The field separator that a message names (H1): its second byte, and 0, which no line has, where there is none.
 fn field_of(message: &[u8]) -> u8
-    ensures { λ r. ⌜ r ≡ fieldOf (now (message .entry)) ⌝ }
+    ensures { λ r. ⌜ r ≡ namedField (now (message .entry)) ⌝ }
 {
     if message.len() < 2 {
         return 0;

@@ -6,7 +6,7 @@ use mathlib.Core.Path.{_≡_, sym, ap, _∙_, subst}
 use Prim.Native.Nat.{ℕ, _-_}
 use native.Mathlib.Omega.{arith}
 use Rattle.form.specs.Forms.{smallForm}
-use Rattle.source.specs.Places.{fieldOf, rowFrom}
+use Rattle.source.specs.Places.{namedField, rowBy}
 use Rattle.source.specs.inner.Going.{addendaFrom}
 use Rattle.source.specs.declared.row.LineRun.{LineRun}
 use Rattle.source.specs.declared.row.RowPlace.{RowPlace}
@@ -31,7 +31,7 @@ loop-holds : tie.Need-loop-holds Inv-loop μ-loop
 loop-holds c =
     let a = c .before .before .before .args in
     let m = a .message .now in
-    let ahead : c .addenda-at .result ≡ addendaFrom smallForm (fieldOf m) m 0
+    let ahead : c .addenda-at .result ≡ addendaFrom smallForm (namedField m) m 0
     = c .addenda-at .ensures .0 ∙ ap (λ (f : ℕ). addendaFrom smallForm f m 0) (c .before .field-of .ensures) in
     subst (λ (r : LineRun). Seeking smallForm m (a .row) (r .next) (a .row)) (sym ahead) (seeking-begins smallForm one m (a .row))
 
@@ -41,12 +41,12 @@ row-from-requires c κs = search needs
 -- the row that begins here, by the message's own field separator
 row-here : (c : tie.After-row-from Inv-loop μ-loop)
     → c .row-from .result
-    ≡ rowFrom smallForm (fieldOf (c .before .before .before .before .before .before .args .message .now))
+    ≡ rowBy smallForm (namedField (c .before .before .before .before .before .before .args .message .now))
     (c .before .before .before .before .before .before .args .message .now) (c .before .before .loop .at)
 row-here c =
     let a = c .before .before .before .before .before .before .args in
     c .row-from .ensures
-    ∙ ap (λ (f : ℕ). rowFrom smallForm f (a .message .now) (c .before .before .loop .at)) (c .before .before .before .before .field-of .ensures)
+    ∙ ap (λ (f : ℕ). rowBy smallForm f (a .message .now) (c .before .before .loop .at)) (c .before .before .before .before .field-of .ensures)
 
 returns : tie.Need-returns Inv-loop μ-loop
 returns c =
