@@ -14,3 +14,4 @@ pub mod CountsShutOut
 pub mod CountsExample
 pub mod CodeLeaf
 pub mod CodesLookedUp
+pub mod InFile

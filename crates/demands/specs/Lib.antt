@@ -1,3 +1,4 @@
 pub mod Demands
 pub mod Belonging
 pub mod Counts
+pub mod InFile

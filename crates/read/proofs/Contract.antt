@@ -58,12 +58,12 @@ module _ (L : Limits) (levels : ℕ → ℕ → ℕ) (message : List ℕ) {text 
 
 -- a test that refuses with another number was passed
 module _ {n k p : ℕ} {else : Outcome} (other : n ≡ k → ⊥) where
-  past : (test : Bool) → refuseIf test n else ≡ refused k p → (test ≡ false) × (else ≡ refused k p)
+  pub past : (test : Bool) → refuseIf test n else ≡ refused k p → (test ≡ false) × (else ≡ refused k p)
   unfolding refuseIf
   past true e = let z : n ≡ k = cc in absurd (other z)
   past false e = (refl, e)
 
-  past-at : (place : ℕ) → refuseAt place n else ≡ refused k p → else ≡ refused k p
+  pub past-at : (place : ℕ) → refuseAt place n else ≡ refused k p → else ≡ refused k p
   unfolding refuseAt
   past-at place e = by (tested (eqb place 0))
     where

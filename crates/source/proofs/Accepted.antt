@@ -11,7 +11,8 @@ use Rattle.form.specs.declared.forms.Form.{Form}
 use Rattle.form.specs.declared.forms.Form.the-variants.{Small, Large}
 use Rattle.form.specs.declared.separators.Separators.{Separators}
 use Rattle.form.specs.Forms.{smallForm, largeForm, limitsOf}
-use Rattle.form.specs.Header.{separatorsOf}
+use Rattle.form.specs.declared.separators.Header.the-variants.{Sound}
+use Rattle.form.specs.Header.{separatorsOf, headerOf}
 use Rattle.form.proofs.HeaderRule.{SoundHeader, sound-header}
 use Rattle.line.specs.Lines.{walk, texts}
 use Rattle.line.specs.Joining.{letterA, joined}
@@ -20,7 +21,7 @@ use Rattle.line.proofs.BothForms.{walk-same}
 use Rattle.table.specs.Rows.{Table, tableOf}
 use Rattle.table.specs.Reading.{Room, accepted, reading}
 use Rattle.table.proofs.Accepting.{Accepted, accepting}
-use Rattle.source.specs.Places.{namedField, addendaAhead, linesFrom}
+use Rattle.source.specs.Places.{namedField, addendaAhead, linesFrom, rowPlaces}
 use Rattle.source.specs.Promises.{RowsStand, RowsShown, allLines, AcceptedRows}
 use Rattle.source.proofs.Addenda.{other-letter}
 use Rattle.source.proofs.Going.{one, textTo, lines-line, ahead-none, Stands, nothing, carrying, beginning, stands}
@@ -56,26 +57,37 @@ unfolding limitsOf linesFrom walk
 same-lines Small m = refl
 same-lines Large m = ap texts (walk-same largeForm smallForm refl m)
 
-module _ (f : Form) (levels : ℕ → ℕ → ℕ) (room : Room) (m : List ℕ) (t : Table) (e : reading (limitsOf f) levels room m ≡ accepted t) where
-  w : Accepted (limitsOf f) levels room m t
-  w = accepting (limitsOf f) levels room m t .0 e
+-- of a message with a sound header, read in either form
+module _ (f : Form) (m : List ℕ) (ps : Separators) (h : headerOf m ≡ Sound ps) where
+  header : SoundHeader m ps
+  header = sound-header m ps h
 
-  header : SoundHeader m (w .separators)
-  header = sound-header m (w .separators) (w .header)
-
-  field-same : w .separators .field ≡ namedField m
+  field-same : ps .field ≡ namedField m
   unfolding separatorsOf
-  field-same = ap (λ (ps : Separators). ps .field) (header .separators)
+  field-same = ap (λ (qs : Separators). qs .field) (header .separators)
 
-  segments-same : joined (w .separators .field) (texts (walk (limitsOf f) m)) ≡ joined (namedField m) (allLines smallForm m)
+  segments-same : joined (ps .field) (texts (walk (limitsOf f) m)) ≡ joined (namedField m) (allLines smallForm m)
   segments-same = ap₂ {C = List (List ℕ)} joined field-same (same-lines f m)
 
+  begins-with-H : getD m 0 0 ≡ letterA → ⊥
+  begins-with-H q = omega (arith, header .letter, q)
+
+  pub sound-stand : RowsStand smallForm m
+  sound-stand = stands-unless-A smallForm one m begins-with-H
+
+  pub sound-shown : RowsShown smallForm m
+  sound-shown = shown-unless-A smallForm one m begins-with-H
+
+  pub sound-count : length (rowPlaces smallForm m) ≡ length (joined (ps .field) (texts (walk (limitsOf f) m)))
+  sound-count = sound-stand .counted ∙ sym (ap length segments-same)
+
+module _ (f : Form) (levels : ℕ → ℕ → ℕ) (room : Room) (m : List ℕ) (t : Table) (e : reading (limitsOf f) levels room m ≡ accepted t) where
   pub accepted-rows : AcceptedRows m t
   unfolding tableOf
   accepted-rows =
-      let stood = stands-unless-A smallForm one m (λ q. omega (arith, header .letter, q)) in
+      let w : Accepted (limitsOf f) levels room m t = accepting (limitsOf f) levels room m t .0 e in
       record {
-        stand = stood;
-        shown = shown-unless-A smallForm one m (λ q. omega (arith, header .letter, q));
-        counted = stood .counted ∙ sym (ap length segments-same) ∙ sym (ap (λ (x : Table). x .card .segments) (w .segments .table));
+        stand = sound-stand f m (w .separators) (w .header);
+        shown = sound-shown f m (w .separators) (w .header);
+        counted = sound-count f m (w .separators) (w .header) ∙ sym (ap (λ (x : Table). x .card .segments) (w .segments .table));
       }
