@@ -10,6 +10,9 @@ use Rattle.form.specs.declared.limits.Limits.{Limits}
 use Rattle.index.specs.Index.{soundIndex}
 use Rattle.line.specs.declared.finder.Found.{Found}
 use Rattle.order.specs.Owners.{level}
+use Rattle.source.specs.declared.row.RowPlace.{RowPlace}
+use Rattle.source.specs.declared.row.LineRun.{LineRun}
+use Rattle.source.specs.declared.position.Position.{Position}
 use Rattle.table.specs.Lent.{Lent}
 use Rattle.write.specs.inner.ReadsBack.{isTable}
 use Rattle.look.specs.declared.leaf.Place.{Place}
@@ -18,7 +21,8 @@ use Rattle.abi.specs.Reading.{ReadInto}
 use Rattle.abi.specs.Writing.{WroteInto}
 use Rattle.abi.specs.Looking.{FoundLeaf, FoundLeafInSegment}
 use Rattle.abi.specs.Lines.{FoundLine}
-use Rattle.abi.specs.Watching.{Watched}
+use Rattle.abi.specs.Watching.{Watched, ToldNext}
+use Rattle.abi.specs.Places.{ToldPlace, ToldRun, ToldPosition}
 use Rattle.abi.specs.Values.{ReadValueInto, WroteValueInto, ReadValuesInto}
 use Rattle.abi.specs.Screening.{ScreenedInto}
 use Rattle.abi.specs.Widening.{WidenedInto}
@@ -145,3 +149,19 @@ index-count codes counts code answer g h = (only-one (g .told) (h .told), only-o
 pub index-code : (codes counts : List ℕ) (k : ℕ) (answer : List ℕ) {r s : ℕ} {answer₁ answer₂ : List ℕ}
     → AskedCode codes counts k answer r answer₁ → AskedCode codes counts k answer s answer₂ → (r ≡ s) × (answer₁ ≡ answer₂)
 index-code codes counts k answer g h = (only-one (g .told) (h .told), only-one (g .answers) (h .answers))
+
+pub row-place : (place : RowPlace) (answer : List ℕ) {r s : ℕ} {answer₁ answer₂ : List ℕ} → ToldPlace place answer r answer₁ → ToldPlace place answer s answer₂
+    → (r ≡ s) × (answer₁ ≡ answer₂)
+row-place place answer g h = (only-one (g .told) (h .told), only-one (g .answers) (h .answers))
+
+pub row-at : (run : LineRun) (answer : List ℕ) {r s : ℕ} {answer₁ answer₂ : List ℕ} → ToldRun run answer r answer₁ → ToldRun run answer s answer₂
+    → (r ≡ s) × (answer₁ ≡ answer₂)
+row-at run answer g h = (only-one (g .told) (h .told), only-one (g .answers) (h .answers))
+
+pub position : (found : Position) (answer : List ℕ) {r s : ℕ} {answer₁ answer₂ : List ℕ} → ToldPosition found answer r answer₁ → ToldPosition found answer s answer₂
+    → (r ≡ s) × (answer₁ ≡ answer₂)
+position found answer g h = (only-one (g .told) (h .told), only-one (g .answers) (h .answers))
+
+pub next-kinds : (context kind : ℕ) (kinds : List ℕ) {r s : Bool} {kinds₁ kinds₂ : List ℕ} → ToldNext context kind kinds r kinds₁ → ToldNext context kind kinds s kinds₂
+    → (r ≡ s) × (kinds₁ ≡ kinds₂)
+next-kinds context kind kinds g h = (only-one (g .fits) (h .fits), only-one (g .next) (h .next))

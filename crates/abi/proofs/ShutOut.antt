@@ -1,6 +1,7 @@
 -- What the contracts rule out: a reader that fills an answer although it is short, a lookup that leaves an old start and length beside an empty
 -- leaf or tells it as one that has text or is not there, a watcher that goes on after a no, one that takes a single byte for a watcher, a check
--- of reports that looks at the table before the answer, one that puts its number where the place belongs.
+-- of reports that looks at the table before the answer, one that puts its number where the place belongs, a row whose
+-- first line is told by an old number or whose lines and offset are exchanged, kinds that are put in part where they do not fit.
 -- Assumes nothing.
 use mathlib.Core.Bool.{Bool, true, true≢false}
 use mathlib.Core.List.{List, [], _∷_}
@@ -11,15 +12,19 @@ use lib.Dec.{lit≤}
 use lib.ListN.{getD}
 use Rattle.form.specs.declared.limits.Limits.{Limits}
 use Rattle.order.specs.Contexts.{isContext}
+use Rattle.order.specs.Watcher.{nextKinds}
 use Rattle.order.specs.inner.Telling.{allows, allowsNext, tellBy, tellOf}
+use Rattle.order.proofs.NextKinds.{next-length}
 use Rattle.table.specs.Lent.{Lent}
 use Rattle.look.specs.declared.leaf.Sought.the-variants.{Empty}
 use Rattle.look.specs.Looking.{soughtNumber}
 use Rattle.abi.specs.Putting.{putAll}
 use Rattle.abi.specs.Looking.{leafNumbers, TellsSought}
 use Rattle.abi.specs.Reading.{ReadInto}
-use Rattle.abi.specs.Watching.{watcherBytes, watcherOf, Watched}
+use Rattle.abi.specs.Watching.{watcherBytes, watcherOf, Watched, watcherAfter, ToldNext}
+use Rattle.abi.specs.Places.{ToldPlace, ToldRun, ToldPosition}
 use Rattle.abi.specs.Screening.{TellsVerdict, ScreenedInto}
+use Rattle.abi.proofs.Puts.{put-short}
 use Rattle.abi.proofs.Kept.{read-short-kept, watch-short-no, screen-short-kept}
 
 -- what comes back from a reader in five numbers, whatever it was lent: they are as they were
@@ -77,3 +82,41 @@ module _ (L : Limits) (table : Lent) {r : ℕ} {answer′ : List ℕ} (screened 
   looks-at-the-table-first said =
       let z : _≡_ {A = ℕ} 1 13 = sym (screen-short-kept L table [] screened (lit≤ tt) .0) ∙ said in
       omega arith
+
+-- what comes back of a row of two lines that begins at offset 3, from `sargaceu_row_place` into one number
+module _ {r : ℕ} {answer′ : List ℕ} (tells : ToldPlace (record { start = 3; lines = 2 }) (7 ∷ []) r answer′) where
+  pub lines-for-offset : r ≡ 3 → ⊥
+  lines-for-offset said = omega (arith, tells .told, said)
+
+  pub old-offset : answer′ ≡ (7 ∷ []) → ⊥
+  unfolding putAll
+  old-offset kept = let z : _≡_ {A = ℕ} 3 7 = ap (λ (l : List ℕ). getD l 0 0) (sym (tells .answers) ∙ kept) in omega arith
+
+-- what comes back of two lines behind which offset 11 comes, from `sargaceu_row_at` into one number
+module _ {r : ℕ} {answer′ : List ℕ} (tells : ToldRun (record { lines = 2; next = 11 }) (7 ∷ []) r answer′) where
+  pub place-for-lines : r ≡ 11 → ⊥
+  place-for-lines said = omega (arith, tells .told, said)
+
+  pub old-next : answer′ ≡ (7 ∷ []) → ⊥
+  unfolding putAll
+  old-next kept = let z : _≡_ {A = ℕ} 11 7 = ap (λ (l : List ℕ). getD l 0 0) (sym (tells .answers) ∙ kept) in omega arith
+
+-- what comes back of line 4 and column 2, from `sargaceu_position` into one number, and into none
+module _ {r : ℕ} {answer′ : List ℕ} (tells : ToldPosition (record { line = 4; column = 2 }) (7 ∷ []) r answer′) where
+  pub column-for-line : r ≡ 2 → ⊥
+  column-for-line said = omega (arith, tells .told, said)
+
+  pub line-for-column : answer′ ≡ (4 ∷ []) → ⊥
+  unfolding putAll
+  line-for-column put = let z : _≡_ {A = ℕ} 2 4 = ap (λ (l : List ℕ). getD l 0 0) (sym (tells .answers) ∙ put) in omega arith
+
+-- what comes back from `sargaceu_next_kinds` into a single byte: it is as it was, and the answer is no
+module _ {r : Bool} {kinds′ : List ℕ} (tells : ToldNext 6 5 (7 ∷ []) r kinds′) where
+  pub part-of-the-kinds : kinds′ ≡ (0 ∷ []) → ⊥
+  part-of-the-kinds put =
+      let kept = put-short (7 ∷ []) (nextKinds (watcherAfter 6 5)) (omega (arith, next-length (watcherAfter 6 5))) in
+      let z : _≡_ {A = ℕ} 7 0 = ap (λ (l : List ℕ). getD l 0 0) (sym kept ∙ sym (tells .next) ∙ put) in
+      omega arith
+
+  pub yes-to-too-few : r ≡ true → ⊥
+  yes-to-too-few said = true≢false (sym said ∙ tells .fits)

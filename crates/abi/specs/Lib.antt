@@ -6,6 +6,7 @@ pub mod Writing
 pub mod Looking
 pub mod Lines
 pub mod Watching
+pub mod Places
 pub mod Values
 pub mod Screening
 pub mod Widening

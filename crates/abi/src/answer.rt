@@ -18,6 +18,20 @@ pub(crate) fn put_numbers(answer: &mut [usize], numbers: &[usize])
     }
 }
 
+// The same of bytes.
+pub(crate) fn put_bytes(buffer: &mut [u8], bytes: &[u8])
+    ensures { λ _. ⌜ now (buffer .exit) ≡ putAll (now (buffer .entry)) (now (bytes .entry)) ⌝ }
+{
+    if buffer.len() < bytes.len() {
+        return;
+    }
+    let mut at = 0;
+    while at < bytes.len() {
+        buffer[at] = bytes[at];
+        at += 1;
+    }
+}
+
 // What reading or widening came to: place and card go into the answer, and the number comes back.
 pub(crate) fn put_filed(filed: Answer, answer: &mut [usize]) -> u8
     ensures { λ r. ⌜ (r ≡ filed .number) × (now (answer .exit) ≡ putAll (now (answer .entry)) (filedNumbers filed)) ⌝ }

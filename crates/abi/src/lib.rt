@@ -6,6 +6,7 @@ mod forms;
 pub mod indexing;
 pub mod lines;
 pub mod looking;
+pub mod places;
 pub mod reading;
 pub mod screening;
 pub mod showing;
