@@ -75,13 +75,13 @@ answer_has() { # PATTERN
 }
 
 # Programs are for x86-64. Another processor runs them by the toolchain's emulator and libraries, whose folder was noted at building.
-run() { # PROGRAM
+run() { # PROGRAM [ARGUMENT..]
     machine=$(uname -m)
     if [ "$machine" = x86_64 ]; then
-        "$1"
+        "$@"
     else
         tools=$(cat "$keep/toolchain")/on/$machine/toolchain
-        "$tools/bin/qemu-x86_64" "$tools/lib/ld-linux-x86-64.so.2" --library-path "$tools/lib" "$1"
+        "$tools/bin/qemu-x86_64" "$tools/lib/ld-linux-x86-64.so.2" --library-path "$tools/lib" "$@"
     fi
 }
 
