@@ -28,10 +28,10 @@
  *
  * Elements of a buffer past those that a call fills stay as they were.
  *
- * Rows go in as uint32_t, and sargaceu_next_row gives size_t. C cuts a larger number and says nothing: 4294967299 would go in as 3. No row of
- * a table is over 4096, so one that sargaceu_next_row gave goes in as it is.
+ * Rows of a table go in as uint32_t, and sargaceu_next_row gives size_t. C cuts a larger number and says nothing: 4294967299 would go in as 3. No
+ * row of a table is over 4096, so one that sargaceu_next_row gave goes in as it is. A row of a message goes into sargaceu_row_place as size_t.
  *
- * L1, N3, W4, D2, R1, B2, X1 and the like are rules of docs/RULES.md.
+ * L1, N3, W4, E1, V3, D2, R1, B2, X1 and the like are rules of docs/RULES.md.
  */
 #ifndef SARGACEU_INCLUDED
 #define SARGACEU_INCLUDED
@@ -86,7 +86,10 @@ enum {
     SARGACEU_WRITE_ANSWER = 3,
     SARGACEU_LEAF_ANSWER = 2,
     SARGACEU_LINE_ANSWER = 2,
+    SARGACEU_ROW_ANSWER = 1,    /* of sargaceu_row_place and sargaceu_row_at */
+    SARGACEU_POSITION_ANSWER = 1,
     SARGACEU_WATCHER = 2,
+    SARGACEU_NEXT_KINDS = 13,   /* a byte for each number from 0 to the last kind */
     SARGACEU_VALUE_TEXT = 17,   /* the output of sargaceu_write_value */
     SARGACEU_VALUE_ANSWER = 2,  /* of sargaceu_read_value, in int64_t */
     SARGACEU_TEXT_ANSWER = 1,   /* of sargaceu_write_value */
@@ -296,11 +299,53 @@ bool sargaceu_same_order(const size_t *card, size_t card_numbers,
 uint8_t sargaceu_line(const uint8_t *message, size_t message_bytes, size_t at, size_t *answer, size_t answer_numbers);
 
 /*
+ * Where rows and offsets stand in a message's file (E1 to E4), of any length and either form. A row is no line: a segment may go on in addenda, and
+ * blank lines vanish. A line is an addendum where it begins with A and the message's second byte, be the header sound or not (A1). The rows of a
+ * refused message are those of its lines before the first fault. An answer of no number stays as it was, and the return value still tells.
+ */
+
+/*
+ * Where the row with a number stands (E1), counted from 1 as the reader counts: the place of refusals 8 and 10 goes in as it is, and so does each row
+ * of the table that the message reads to. Returns how many lines the row takes, its addenda among them, and answer gets the offset at which the first
+ * of them begins. Returns 0, and answer gets 0, where there is no such row: row 0, and every row past the last one, as the place of 10 is where the L
+ * is missing. Addenda that stand before every other line are of no row.
+ *
+ * Each call goes from the message's start to the row.
+ */
+size_t sargaceu_row_place(const uint8_t *message, size_t message_bytes, size_t row, size_t *answer, size_t answer_numbers);
+
+/*
+ * The line that begins at a place, and the addenda behind it (E2): at the place of a row, that row. Returns how many lines these are, and answer gets
+ * the place behind them, where the next row begins. Returns 0, and answer gets the place itself, at or past the message's end and at a fault;
+ * sargaceu_line tells which. The place may be any: inside a line the rest of it is the line, and at an addendum that is the first of the lines.
+ *
+ * It is for going through all rows, one after the other, with each line looked at twice at most. In every accepted message the first row begins at
+ * 0. Any other may begin with addenda: there it begins where sargaceu_row_place says of row 1, if there is one.
+ */
+size_t sargaceu_row_at(const uint8_t *message, size_t message_bytes, size_t at, size_t *answer, size_t answer_numbers);
+
+/*
+ * Line and column of an offset (E4), both counted from 1. Returns the line, which is one more than there are CRs before the offset, and answer gets
+ * the column, which is one more than there are bytes since the last of them, or since the message's start; an LF behind a CR is such a byte. An
+ * offset past the message's end counts as that end. So the places of refusals 4, 5 and 6 go in as they are, and those that sargaceu_row_place
+ * answers.
+ */
+size_t sargaceu_position(const uint8_t *message, size_t message_bytes, size_t offset, size_t *answer, size_t answer_numbers);
+
+/*
  * Tells an order watcher a kind (V1, V2): yes where the kinds that it said yes to, with this one after them, begin an order that its
  * context allows. A watcher is two bytes, begun as { context, 0 }, and is brought up to date here; a no changes nothing in it. A watcher
  * of under two bytes says no to all, and so does one whose context is not 1 to 7.
  */
 bool sargaceu_watch(uint8_t *watcher, size_t watcher_bytes, uint8_t kind);
+
+/*
+ * Which kinds may come next in a context (V3): `kinds` gets one byte for each number from 0 to 12, which is 1 where the kind may come and else 0, C
+ * (12) among them. `kind` is the last kind, C aside, and 0 at the beginning, where H alone may come; after a C ask with the kind before it. The two
+ * bytes of a watcher are just these two, and 1 stands where it would say yes. All are 0 where the context is not 1 to 7, and where `kind` is L, 12
+ * or over 12; after a kind that the context does not have, C alone is 1. Returns yes; no where `kinds` has under 13 bytes, which stay as they were.
+ */
+bool sargaceu_next_kinds(uint8_t context, uint8_t kind, uint8_t *kinds, size_t kinds_bytes);
 
 /*
  * Reads a message as sargaceu_read does in the small form and puts its listing (G1, G2), as the program `list` prints it, at the front of

@@ -44,7 +44,7 @@ enum buffer {
     MESSAGE, TEXT, SEGMENTS, LEAVES, CARD, ANSWER, OUTPUT, LISTING, WATCHER,
     OTHER_TEXT, OTHER_SEGMENTS, OTHER_LEAVES, OTHER_CARD,
     VALUE_NUMBERS, VALUE_WHOLES, VALUE_DECIMALS, ARCHIVED_SEGMENTS, ARCHIVED_LEAVES,
-    INDEX_CODES, INDEX_COUNTS, TALLY, CODE, BUFFERS
+    INDEX_CODES, INDEX_COUNTS, TALLY, CODE, KINDS, BUFFERS
 };
 
 void prepare_buffers(void);
@@ -65,6 +65,7 @@ struct message {
 
 void draw_sound_message(struct message *m, uint8_t form); /* of the form, but for the limits, which it may pass */
 void draw_message(struct message *m, uint8_t form);       /* sound, damaged, or any bytes */
+size_t draw_offset(const struct message *m);              /* where a line begins, or any byte, or past the end */
 void begin_message(struct message *m);                    /* one of no bytes yet, whose separators are drawn */
 void put_segment(const char *usual); /* goes on with it: written with the usual separators, which become the drawn ones */
 
@@ -157,6 +158,11 @@ bool may_follow(uint8_t context, uint8_t last, uint8_t kind);
 size_t plain_owner(const struct table *t, size_t row);        /* by context and kinds alone, of a table that was read or written */
 size_t plain_former_owner(const struct table *t, size_t row); /* the owner that a row had by the former levels */
 uint8_t plain_line(const uint8_t *message, size_t bytes, size_t at, size_t answer[2]);
+size_t plain_row_place(const uint8_t *message, size_t bytes, size_t row, size_t *start); /* the lines of the row with a number */
+size_t plain_row_at(const uint8_t *message, size_t bytes, size_t at, size_t *next);      /* those of the row at a place */
+size_t plain_rows(const uint8_t *message, size_t bytes);                                 /* how many rows there are */
+size_t plain_position(const uint8_t *message, size_t bytes, size_t offset, size_t *column);
+void plain_next_kinds(uint8_t context, uint8_t kind, uint8_t kinds[SARGACEU_NEXT_KINDS]);
 struct outcome plain_outcome(uint8_t form, const uint8_t *message, size_t bytes); /* what the reader answers where the buffers are enough */
 size_t plain_kinds(uint8_t *kinds, size_t room, uint8_t *context); /* of the message that plain_outcome saw last */
 const uint8_t *plain_joined(size_t *bytes);                        /* its joined segments, a CR behind each */
@@ -191,7 +197,11 @@ enum {
 int try_read(void);
 int try_list(void);
 int try_line(void);
+int try_row_place(void);
+int try_row_at(void);
+int try_position(void);
 int try_watch(void);
+int try_next_kinds(void);
 int try_write(void);
 int try_is_table(void);
 int try_find_leaf(void);

@@ -51,7 +51,8 @@ static struct lent all[BUFFERS] = {
     [INDEX_CODES] = { .name = "codes", .size = 1 },
     [INDEX_COUNTS] = { .name = "counts", .size = sizeof(uint32_t) },
     [TALLY] = { .name = "tally", .size = sizeof(uint32_t) },
-    [CODE] = { .name = "code", .size = 1 }
+    [CODE] = { .name = "code", .size = 1 },
+    [KINDS] = { .name = "kinds", .size = 1 }
 };
 
 static void need(bool done, const char *what)

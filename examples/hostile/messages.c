@@ -371,3 +371,18 @@ void draw_message(struct message *m, uint8_t form)
         for (size_t times = 1 + below(3); times > 0; times--)
             damage(m);
 }
+
+/* A place where a line begins, or any byte, or past the end. */
+size_t draw_offset(const struct message *m)
+{
+    size_t at = below(m->length + 1);
+    switch (below(8)) {
+    case 0: return wild();
+    case 1: return m->length;
+    case 2: case 3: return at;
+    default:
+        while (at > 0 && (m->bytes[at - 1] >= 32 || (at < m->length && m->bytes[at] < 32)))
+            at--;
+        return at;
+    }
+}

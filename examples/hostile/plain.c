@@ -52,6 +52,14 @@ bool may_follow(uint8_t context, uint8_t last, uint8_t kind)
     return kind < SARGACEU_C && (followers(context, last) >> kind & 1) != 0;
 }
 
+/* One byte for each number. C may come after each kind from H to ERR, also after one that the context does not have. */
+void plain_next_kinds(uint8_t context, uint8_t kind, uint8_t kinds[SARGACEU_NEXT_KINDS])
+{
+    for (int next = 0; next < SARGACEU_C; next++)
+        kinds[next] = followers(context, kind) >> next & 1;
+    kinds[SARGACEU_C] = context >= SARGACEU_CONTEXT_ADM && context <= SARGACEU_CONTEXT_FAC && kind >= SARGACEU_H && kind <= SARGACEU_ERR;
+}
+
 /* ---- owners ---- */
 
 /* By context and kind, C aside: the kind whose nearest row owns it; 0 where none does. */
@@ -139,6 +147,60 @@ uint8_t plain_line(const uint8_t *message, size_t bytes, size_t at, size_t answe
     return SARGACEU_OPEN_LINE;
 }
 
+/* Whether the line from one place to another is an addendum. */
+static bool is_addendum(const uint8_t *message, size_t at, size_t end)
+{
+    return end - at >= 2 && message[at] == 'A' && message[at + 1] == message[1];
+}
+
+/* ---- where rows and offsets stand ---- */
+
+/* Goes over all lines: each that is no addendum is one row more. */
+size_t plain_row_place(const uint8_t *message, size_t bytes, size_t row, size_t *start)
+{
+    size_t rows = 0, lines = 0, answer[2];
+    *start = 0;
+    for (size_t at = 0; at < bytes && plain_line(message, bytes, at, answer) == SARGACEU_ACCEPTED; at = answer[1]) {
+        bool begins = !is_addendum(message, at, answer[0]);
+        rows += begins;
+        if (rows == 0 || rows != row)
+            continue;
+        lines++;
+        if (begins)
+            *start = at;
+    }
+    return lines;
+}
+
+size_t plain_rows(const uint8_t *message, size_t bytes)
+{
+    size_t rows = 0, answer[2];
+    for (size_t at = 0; at < bytes && plain_line(message, bytes, at, answer) == SARGACEU_ACCEPTED; at = answer[1])
+        rows += !is_addendum(message, at, answer[0]);
+    return rows;
+}
+
+size_t plain_row_at(const uint8_t *message, size_t bytes, size_t at, size_t *next)
+{
+    size_t lines = 0, answer[2];
+    for (*next = at; *next < bytes && plain_line(message, bytes, *next, answer) == SARGACEU_ACCEPTED; *next = answer[1], lines++)
+        if (lines > 0 && !is_addendum(message, *next, answer[0]))
+            break;
+    return lines;
+}
+
+/* The column from the last CR before the offset, the line from all of them. */
+size_t plain_position(const uint8_t *message, size_t bytes, size_t offset, size_t *column)
+{
+    size_t end = offset < bytes ? offset : bytes, start = end, line = 1;
+    while (start > 0 && message[start - 1] != CR)
+        start--;
+    for (size_t i = 0; i < start; i++)
+        line += message[i] == CR;
+    *column = end - start + 1;
+    return line;
+}
+
 /* ---- reading, up to the number and the place ---- */
 
 static uint8_t joined[SARGACEU_LARGE_MESSAGE];
@@ -167,8 +229,7 @@ static struct outcome join(const uint8_t *message, size_t bytes)
         uint8_t number = plain_line(message, bytes, at, answer);
         if (number != SARGACEU_ACCEPTED)
             return (struct outcome){ number, answer[0] };
-        bool addendum = answer[0] - at >= 2 && message[at] == 'A' && message[at + 1] == message[1];
-        if (addendum) {
+        if (is_addendum(message, at, answer[0])) {
             at += 2;
             length--; /* over the CR of the segment that goes on */
         } else {

@@ -52,17 +52,47 @@ static size_t walk(const uint8_t *message, size_t bytes, struct outcome expected
     return lines;
 }
 
+/* The kinds that may come next are those that a watcher says yes to. */
+static void expect_next(const uint8_t watcher[SARGACEU_WATCHER], uint8_t next[SARGACEU_NEXT_KINDS])
+{
+    if (!sargaceu_next_kinds(watcher[0], watcher[1], next, SARGACEU_NEXT_KINDS))
+        fail("no next kinds for 13 bytes");
+    for (uint8_t kind = 0; kind < SARGACEU_NEXT_KINDS; kind++) {
+        uint8_t asked[SARGACEU_WATCHER] = { watcher[0], watcher[1] };
+        if (sargaceu_watch(asked, SARGACEU_WATCHER, kind) != (next[kind] == 1))
+            fail("the watcher says otherwise than the next kinds of kind %d after %d in context %d", kind, watcher[1], watcher[0]);
+    }
+}
+
+/* Going from row to row comes to as many rows as the reader counts, and the row of a refusal is one of them, or the next where the L is missing. */
+static void go_through(struct outcome expected)
+{
+    size_t at = 0, rows = 0, lines, start[SARGACEU_ROW_ANSWER], behind[SARGACEU_ROW_ANSWER];
+    for (; (lines = sargaceu_row_at(drawn.bytes, drawn.length, at, behind, SARGACEU_ROW_ANSWER)) > 0; at = behind[0]) {
+        rows++;
+        if (rows == expected.place && (sargaceu_row_place(drawn.bytes, drawn.length, rows, start, SARGACEU_ROW_ANSWER) != lines || start[0] != at))
+            fail("row %zu stands elsewhere than going from row to row finds it", rows);
+    }
+    if (expected.number == SARGACEU_ACCEPTED && rows != read.card[CARD_SEGMENTS])
+        fail("%zu rows stand in the message, and the reader counts %zu", rows, read.card[CARD_SEGMENTS]);
+    if (expected.place > rows + (expected.number == SARGACEU_MISPLACED))
+        fail("%zu rows stand in the message, and the reader says %d at %zu", rows, expected.number, expected.place);
+}
+
 /* The watcher says yes up to the row that the reader refuses. */
 static void watch_kinds(struct outcome expected)
 {
     static uint8_t kinds[SARGACEU_LARGE_MESSAGE];
-    uint8_t watcher[SARGACEU_WATCHER] = { 0, 0 };
+    uint8_t watcher[SARGACEU_WATCHER] = { 0, 0 }, next[SARGACEU_NEXT_KINDS];
     size_t segments = plain_kinds(kinds, sizeof kinds, watcher), yes = 0;
     while (yes < segments && sargaceu_watch(watcher, SARGACEU_WATCHER, kinds[yes]))
         yes++;
     size_t told = expected.number == SARGACEU_MISPLACED ? expected.place - 1 : segments;
     if (yes != told)
         fail("the watcher says yes to %zu kinds, the reader %d at %zu", yes, expected.number, expected.place);
+    expect_next(watcher, next);
+    if (yes < segments && next[kinds[yes]] != 0)
+        fail("kind %d may come in row %zu, and the reader says 10 there", kinds[yes], expected.place);
 }
 
 /* What is read is written and read again to the same table, and its joined segments are those of the message. */
@@ -130,6 +160,8 @@ int try_read(void)
         walk(drawn.bytes, drawn.length, expected);
     if (expected.number == SARGACEU_MISPLACED || expected.number == SARGACEU_ACCEPTED)
         watch_kinds(expected);
+    if (expected.number == SARGACEU_UNKNOWN_KIND || expected.number == SARGACEU_MISPLACED || expected.number == SARGACEU_ACCEPTED)
+        go_through(expected);
     if (expected.number == SARGACEU_ACCEPTED) {
         write_back();
         read_large();
@@ -181,25 +213,10 @@ int try_list(void)
     return none ? SARGACEU_SHORT_BUFFER : expected.number;
 }
 
-/* A place where a line begins, or any byte, or past the end. */
-static size_t some_place(void)
-{
-    size_t at = below(drawn.length + 1);
-    switch (below(8)) {
-    case 0: return wild();
-    case 1: return drawn.length;
-    case 2: case 3: return at;
-    default:
-        while (at > 0 && (drawn.bytes[at - 1] >= 32 || (at < drawn.length && drawn.bytes[at] < 32)))
-            at--;
-        return at;
-    }
-}
-
 int try_line(void)
 {
     draw_message(&drawn, draw_form_of_two());
-    size_t at = some_place(), numbers = one_in(16) ? below(SARGACEU_LINE_ANSWER) : enough(SARGACEU_LINE_ANSWER, 5);
+    size_t at = draw_offset(&drawn), numbers = one_in(16) ? below(SARGACEU_LINE_ANSWER) : enough(SARGACEU_LINE_ANSWER, 5);
     size_t answer[SARGACEU_LINE_ANSWER];
     const void *answer_was = former(8 * sizeof(size_t));
     uint8_t expected = plain_line(drawn.bytes, drawn.length, at, answer);
@@ -270,4 +287,22 @@ int try_watch(void)
         expect_front(WATCHER, after, yes ? SARGACEU_WATCHER : 0);
     }
     return yes ? SARGACEU_ACCEPTED : NO;
+}
+
+int try_next_kinds(void)
+{
+    uint8_t context = one_in(6) ? (uint8_t)chance() : (uint8_t)below(9), kind = one_in(6) ? (uint8_t)chance() : (uint8_t)below(14);
+    size_t bytes = one_in(6) ? below(SARGACEU_NEXT_KINDS) : enough(SARGACEU_NEXT_KINDS, SARGACEU_NEXT_KINDS + 4);
+    const void *kinds_were = former(24);
+    uint8_t expected[SARGACEU_NEXT_KINDS];
+    bool fits = bytes >= SARGACEU_NEXT_KINDS;
+    plain_next_kinds(context, kind, expected);
+    for (int side = 0; side < SIDES; side++) {
+        begin_side(side);
+        bool told = sargaceu_next_kinds(context, kind, lend_to_write(KINDS, kinds_were, bytes), bytes);
+        if (told != fits)
+            fail("says %s of %zu bytes", told ? "yes" : "no", bytes);
+        expect_front(KINDS, expected, fits ? SARGACEU_NEXT_KINDS : 0);
+    }
+    return fits ? SARGACEU_ACCEPTED : NO;
 }

@@ -12,8 +12,17 @@ pub const LEAF_ANSWER: usize = 2;
 /// The numbers that the line walk answers: where the line ends, and where the next one begins.
 pub const LINE_ANSWER: usize = 2;
 
+/// The numbers that the place of a row is answered by, where it begins, and the row at a place, where the next one begins.
+pub const ROW_ANSWER: usize = 1;
+
+/// The numbers that a position is answered by: the column.
+pub const POSITION_ANSWER: usize = 1;
+
 /// The bytes of an order watcher.
 pub const WATCHER: usize = 2;
+
+/// The bytes that the kinds which may come next are answered by: one for each number from 0 to the last kind.
+pub const NEXT_KINDS: usize = 13;
 
 /// The numbers that the value of a text is answered by: the whole number and the decimals.
 pub const VALUE_ANSWER: usize = 2;

@@ -116,7 +116,29 @@ extern "C" {
         answer: *mut usize,
         answer_numbers: usize,
     ) -> u8;
+    pub fn sargaceu_row_place(
+        message: *const u8,
+        message_bytes: usize,
+        row: usize,
+        answer: *mut usize,
+        answer_numbers: usize,
+    ) -> usize;
+    pub fn sargaceu_row_at(
+        message: *const u8,
+        message_bytes: usize,
+        at: usize,
+        answer: *mut usize,
+        answer_numbers: usize,
+    ) -> usize;
+    pub fn sargaceu_position(
+        message: *const u8,
+        message_bytes: usize,
+        offset: usize,
+        answer: *mut usize,
+        answer_numbers: usize,
+    ) -> usize;
     pub fn sargaceu_watch(watcher: *mut u8, watcher_bytes: usize, kind: u8) -> bool;
+    pub fn sargaceu_next_kinds(context: u8, kind: u8, kinds: *mut u8, kinds_bytes: usize) -> bool;
     pub fn sargaceu_list(
         message: *const u8,
         message_bytes: usize,

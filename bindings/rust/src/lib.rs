@@ -34,8 +34,8 @@
 //! - [`write`](Table::write) and [`to_message`](Table::to_message) give a message that reads to the same table.
 //! - [`Buffers::widen`] takes a table of the archive, whose rows hold numbers of 16 bits, and gives the one that reading its message gives now.
 //! - [`Buffers::read_indexed`] reads a message and counts the codes of its results in an [`Index`], and the message in a [`Tally`].
-//! - [`lines()`] walks the lines of a file, a [`Watcher`] says which [`Kind`] may come next in a [`Context`], and [`Buffers::list`] lists a
-//!   message.
+//! - [`lines()`] walks the lines of a file, [`row_place()`] and [`rows_in`] say where rows stand in it, and [`position()`] gives line and column of
+//!   an offset; a [`Watcher`] says which [`Kind`] may come next in a [`Context`], and so does [`next_kinds`]; [`Buffers::list`] lists a message.
 //!
 //! No function panics, whatever it is given. Where the crate asserts something, it is what the library promises.
 
@@ -56,9 +56,11 @@ mod listing;
 mod number;
 mod order;
 mod place;
+mod position;
 mod reading;
 mod results;
 mod row;
+mod row_place;
 mod screening;
 mod segment;
 pub mod size;
@@ -83,8 +85,10 @@ pub use leaf::{Leaf, Leaves};
 pub use lines::{lines, Line, Lines};
 pub use number::{Number, Refusal};
 pub use place::Place;
+pub use position::{position, Position};
 pub use reading::{read, Buffers};
 pub use row::{Entry, Row};
+pub use row_place::{row_place, rows_in, RowPlace, RowsIn};
 pub use segment::{Rows, Segment};
 pub use sought::Sought;
 pub use table::Table;
@@ -92,6 +96,6 @@ pub use text::latin1;
 pub use unknown::Unknown;
 pub use value::{read_value, Value};
 pub use version::{version, VERSION};
-pub use watcher::Watcher;
+pub use watcher::{next_kinds, Watcher};
 pub use widening::widen;
 pub use writing::Written;

@@ -249,6 +249,27 @@ fn line(message: &[u8], at: usize, answer: &mut [usize]) -> u8 {
     }
 }
 
+/// What the two questions about rows, and the one about an offset, are to C.
+type Standing = unsafe extern "C" fn(*const u8, usize, usize, *mut usize, usize) -> usize;
+
+fn stands(function: Standing, message: &[u8], which: usize, answer: &mut [usize]) -> usize {
+    // SAFETY: as in `write`.
+    unsafe {
+        function(
+            message.as_ptr(),
+            message.len(),
+            which,
+            answer.as_mut_ptr(),
+            answer.len(),
+        )
+    }
+}
+
+fn next_kinds(context: u8, kind: u8, kinds: &mut [u8]) -> bool {
+    // SAFETY: as in `write`.
+    unsafe { sargaceu_next_kinds(context, kind, kinds.as_mut_ptr(), kinds.len()) }
+}
+
 fn watch(watcher: &mut [u8], kind: u8) -> bool {
     // SAFETY: as in `write`.
     unsafe { sargaceu_watch(watcher.as_mut_ptr(), watcher.len(), kind) }
@@ -901,4 +922,71 @@ fn a_walk_that_goes_on_at_the_end_or_at_a_fault_hears_the_same_again() {
     assert_eq!(answer, [9, 9]);
     assert_eq!(line(b"H\x01\r", 0, &mut answer), 4);
     assert_eq!(answer, [1, 0]);
+}
+
+#[test]
+fn where_a_row_stands_is_told_although_the_answer_is_short() {
+    let message = b"H|\rP|\rA|x\r\nL|\r";
+    for (function, which, told, put) in [
+        (sargaceu_row_place as Standing, 2, 2, 3),
+        (sargaceu_row_place, 4, 0, 0),
+        (sargaceu_row_at, 3, 2, 11),
+        (sargaceu_position, 11, 4, 2),
+    ] {
+        let mut answer = [7; 2];
+        assert_eq!(stands(function, message, which, &mut answer[..0]), told);
+        assert_eq!(answer, [7; 2]);
+        assert_eq!(stands(function, message, which, &mut answer), told);
+        assert_eq!(answer, [put, 7]);
+    }
+}
+
+#[test]
+fn a_row_that_is_asked_for_anywhere_is_the_line_there_and_its_addenda() {
+    let message = b"A|x\rA|y\rP|\rA|z\rL|";
+    let mut answer = [7];
+    for (at, lines, next) in [
+        (0, 2, 8),
+        (4, 1, 8),
+        (5, 1, 8),
+        (7, 0, 7),
+        (8, 2, 15),
+        (15, 0, 15),
+        (17, 0, 17),
+        (99, 0, 99),
+        (usize::MAX, 0, usize::MAX),
+    ] {
+        assert_eq!(stands(sargaceu_row_at, message, at, &mut answer), lines);
+        assert_eq!(answer, [next]);
+    }
+    // the addenda in front are of no row
+    assert_eq!(stands(sargaceu_row_place, message, 1, &mut answer), 2);
+    assert_eq!(answer, [8]);
+}
+
+#[test]
+fn next_kinds_of_under_13_bytes_are_left_as_they_were() {
+    let mut kinds = [7; 14];
+    assert!(!next_kinds(6, 2, &mut kinds[..12]));
+    assert_eq!(kinds, [7; 14]);
+    assert!(next_kinds(6, 2, &mut kinds));
+    assert_eq!(kinds, [0, 0, 0, 0, 0, 1, 0, 0, 0, 0, 0, 0, 1, 7]);
+}
+
+#[test]
+fn no_kind_may_come_in_no_context_or_behind_l_c_and_what_is_no_kind() {
+    for (context, kind) in [
+        (0, 0),
+        (0, 2),
+        (8, 1),
+        (255, 0),
+        (6, 11),
+        (6, 12),
+        (6, 13),
+        (6, 255),
+    ] {
+        let mut kinds = [7; 13];
+        assert!(next_kinds(context, kind, &mut kinds));
+        assert_eq!(kinds, [0; 13]);
+    }
 }

@@ -4,16 +4,30 @@ use crate::{REPORT, SMALL};
 use sargaceu::{lines, Buffers, Card, Form, Number, Table};
 
 /// Numbers that look random and are the same in every run.
-struct Numbers(u64);
+pub struct Numbers(pub u64);
 
 impl Numbers {
-    fn below(&mut self, bound: usize) -> usize {
+    pub fn below(&mut self, bound: usize) -> usize {
         self.0 = self
             .0
             .wrapping_mul(6364136223846793005)
             .wrapping_add(1442695040888963407);
         (self.0 >> 33) as usize % bound
     }
+}
+
+/// A message of which one to three bytes were changed, put in or left out.
+pub fn damaged(message: &[u8], numbers: &mut Numbers) -> Vec<u8> {
+    let mut message = message.to_vec();
+    for _ in 0..=numbers.below(3) {
+        let at = numbers.below(message.len());
+        match numbers.below(3) {
+            0 => message[at] = b"|~^&\r\nAHP1x\xe9"[numbers.below(12)],
+            1 => message.insert(at, b"|~^&\r\nAHP1x\xe9"[numbers.below(12)]),
+            _ => drop(message.remove(at)),
+        }
+    }
+    message
 }
 
 /// All rows and leaves that a table counts are there, its message reads to it in both forms, and it is screened.
@@ -36,15 +50,7 @@ fn any_message_is_read_to_a_whole_table_or_refused() {
     let mut others = Form::ALL.map(Buffers::new);
     let (mut accepted, mut refused) = (0, 0);
     for turn in 0..4000 {
-        let mut message = if turn % 2 == 0 { SMALL } else { REPORT }.to_vec();
-        for _ in 0..=numbers.below(3) {
-            let at = numbers.below(message.len());
-            match numbers.below(3) {
-                0 => message[at] = b"|~^&\r\nAHP1x\xe9"[numbers.below(12)],
-                1 => message.insert(at, b"|~^&\r\nAHP1x\xe9"[numbers.below(12)]),
-                _ => drop(message.remove(at)),
-            }
-        }
+        let message = damaged(if turn % 2 == 0 { SMALL } else { REPORT }, &mut numbers);
         assert!(lines(&message).count() <= message.len());
         match buffers.read(&message) {
             Ok(table) => {

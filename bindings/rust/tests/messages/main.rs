@@ -7,6 +7,7 @@ mod indexing;
 mod leaves;
 mod names;
 mod orders;
+mod places;
 mod reading;
 mod rows;
 mod screening;

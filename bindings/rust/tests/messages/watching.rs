@@ -1,5 +1,5 @@
 use crate::{REPORT, SMALL};
-use sargaceu::{Buffers, Context, Form, Kind, Watcher};
+use sargaceu::{next_kinds, Buffers, Context, Form, Kind, Watcher};
 
 #[test]
 fn a_watcher_says_what_may_come_next() {
@@ -39,4 +39,57 @@ fn a_message_of_every_context_begins_with_its_header() {
             .collect();
         assert_eq!(begins, [Kind::H]);
     }
+}
+
+/// All watchers that a context can have, with the last kind of each, C aside: those that a begun one becomes by what it says yes to.
+fn watchers(context: Context) -> Vec<(Watcher, Option<Kind>)> {
+    let mut all = vec![(Watcher::begin(context), None)];
+    let mut seen = 0;
+    while let Some(&(watcher, last)) = all.get(seen) {
+        for kind in Kind::ALL {
+            let mut after = watcher;
+            let last = if kind == Kind::C { last } else { Some(kind) };
+            if after.tell(kind) && !all.contains(&(after, last)) {
+                all.push((after, last));
+            }
+        }
+        seen += 1;
+    }
+    all
+}
+
+#[test]
+fn the_next_kinds_are_those_that_a_watcher_says_yes_to() {
+    for context in Context::ALL {
+        for (watcher, last) in watchers(context) {
+            let says_yes = |&kind: &Kind| {
+                let mut asked = watcher;
+                asked.tell(kind)
+            };
+            let said: Vec<Kind> = Kind::ALL.into_iter().filter(says_yes).collect();
+            assert!(watcher.next_kinds().eq(said.iter().copied()));
+            assert!(next_kinds(context, last).eq(said));
+        }
+    }
+}
+
+#[test]
+fn the_next_kinds_of_a_context_are_its_order() {
+    use Kind::*;
+    let order: [(Option<Kind>, &[Kind]); 7] = [
+        (None, &[H]),
+        (Some(H), &[P, C]),
+        (Some(P), &[OBR, C]),
+        (Some(OBR), &[OBX, C]),
+        (Some(OBX), &[P, OBR, OBX, L, C]),
+        (Some(L), &[]),
+        (Some(C), &[]),
+    ];
+    for (last, kinds) in order {
+        assert!(next_kinds(Context::ORU, last).eq(kinds.iter().copied()));
+    }
+    assert!(next_kinds(Context::FAC, Some(FAC)).eq([P, FAC, REG, ACT, L, C]));
+    assert!(next_kinds(Context::ERR, Some(ERR)).eq([ERR, L, C]));
+    // a kind that the context does not have
+    assert!(next_kinds(Context::ERR, Some(OBX)).eq([C]));
 }
