@@ -342,8 +342,8 @@ bool sargaceu_watch(uint8_t *watcher, size_t watcher_bytes, uint8_t kind);
 /*
  * Which kinds may come next in a context (V3): `kinds` gets one byte for each number from 0 to 12, which is 1 where the kind may come and else 0, C
  * (12) among them. `kind` is the last kind, C aside, and 0 at the beginning, where H alone may come; after a C ask with the kind before it. The two
- * bytes of a watcher are just these two, and 1 stands where it would say yes. All are 0 where the context is not 1 to 7, and where `kind` is L, 12
- * or over 12; after a kind that the context does not have, C alone is 1. Returns yes; no where `kinds` has under 13 bytes, which stay as they were.
+ * bytes of a watcher are just these two, and of one that was begun and told 1 stands where it would say yes. All are 0 where the context is not 1 to
+ * 7, and where `kind` is L, C or none that the context has. Returns yes; no where `kinds` has under 13 bytes, which stay as they were.
  */
 bool sargaceu_next_kinds(uint8_t context, uint8_t kind, uint8_t *kinds, size_t kinds_bytes);
 

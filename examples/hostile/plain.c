@@ -52,12 +52,11 @@ bool may_follow(uint8_t context, uint8_t last, uint8_t kind)
     return kind < SARGACEU_C && (followers(context, last) >> kind & 1) != 0;
 }
 
-/* One byte for each number. C may come after each kind from H to ERR, also after one that the context does not have. */
+/* One byte for each number. */
 void plain_next_kinds(uint8_t context, uint8_t kind, uint8_t kinds[SARGACEU_NEXT_KINDS])
 {
-    for (int next = 0; next < SARGACEU_C; next++)
-        kinds[next] = followers(context, kind) >> next & 1;
-    kinds[SARGACEU_C] = context >= SARGACEU_CONTEXT_ADM && context <= SARGACEU_CONTEXT_FAC && kind >= SARGACEU_H && kind <= SARGACEU_ERR;
+    for (uint8_t next = 0; next < SARGACEU_NEXT_KINDS; next++)
+        kinds[next] = may_follow(context, kind, next);
 }
 
 /* ---- owners ---- */

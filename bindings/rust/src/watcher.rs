@@ -50,8 +50,8 @@ impl Watcher {
 }
 
 /// The kinds that may come next in a context, in the order of their numbers: after the last kind, C aside, or at the beginning where there is none.
-/// After a C, ask with the kind before it: behind [`Kind::C`] itself there are none, and none behind [`Kind::L`]. Behind a kind that the context
-/// does not have there is C alone.
+/// After a C, ask with the kind before it: behind [`Kind::C`] itself there are none, and none behind [`Kind::L`] and behind a kind that the context
+/// does not have.
 ///
 /// ```
 /// use sargaceu::{next_kinds, Context, Kind};

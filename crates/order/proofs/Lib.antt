@@ -9,6 +9,7 @@ pub mod Follow
 pub mod Allowing
 pub mod Watching
 pub mod Watched
+pub mod HasLast
 pub mod NextKinds
 pub mod Checking
 pub mod LevelTable

@@ -91,7 +91,7 @@ module _ (c : ℕ) (t : isContext c ≡ true) where
     state-yes k e = goes-on (stateOf c a) k e ∙ (λ i. record { context = c; last = (sym (lastOf-append 0 a (k ∷ []))) i })
 
   -- told kinds one after the other, it is where the kinds it has said yes to lead, and they are begun
-  abbrev Led : Watcher → List ℕ → Type 0
+  abbrev pub Led : Watcher → List ℕ → Type 0
   Led w a = (w ≡ stateOf c a) × Begins (grammar c) a
 
   led-by : (a : List ℕ) (w : Watcher) → Led w a → (k : ℕ) (ks : List ℕ)
@@ -132,7 +132,7 @@ module _ (c : ℕ) (t : isContext c ≡ true) where
   unfolding rowsAfter someLeft
   begins-nothing = begins-left (grammar c) [] (grammar-alive c t) .1 refl
 
-  led-none : Led (begun c) []
+  pub led-none : Led (begun c) []
   unfolding stateOf lastOf
   led-none = (refl, begins-nothing)
 

@@ -4,7 +4,7 @@ use mathlib.Core.Bool.{true, false}
 use mathlib.Core.List.{List, [], _∷_}
 use Prim.Native.Nat.{ℕ}
 use Rattle.laws.specs.Tables.{values}
-use Rattle.order.specs.inner.Followers.{asEntry}
+use Rattle.order.specs.inner.Followers.{asEntry, follows}
 use Rattle.order.specs.inner.Telling.{tellOf}
 use Rattle.order.specs.declared.watcher.Watcher.{Watcher}
 
@@ -22,6 +22,7 @@ unfoldable pub said : Watcher → List ℕ → List ℕ
 said w [] = []
 said w (k ∷ ks) = elim (tellOf w k .yes) [ true ↦ k ∷ said (tellOf w k .watcher) ks | false ↦ said (tellOf w k .watcher) ks ]
 
--- which kinds may come next (V3), by number from 0 to 12: 1 where the watcher would say yes to the kind, and else 0
+-- which kinds may come next (V3) in a watcher's context after its last kind, or at the beginning where there is none yet, by number from 0 to 12: 1
+-- where the grammar lets the kind come there, and else 0
 unfoldable pub nextKinds : Watcher → List ℕ
-nextKinds w = values (λ k. asEntry (tellOf w k .yes)) 0 13
+nextKinds w = values (λ k. asEntry (follows (w .context) (w .last) k)) 0 13

@@ -6,7 +6,7 @@ ghost use mathlib.Core.Path.{_≡_};
 ghost use Prim.Native.Nat.{_≤_};
 ghost use Rattle.order.specs.Watcher.{begun, nextKinds};
 ghost use Rattle.order.specs.inner.Followers.{asEntry};
-ghost use Rattle.order.specs.inner.Telling.{InTable, followsBy, allowsC, allowsNext, allows, tookKind, tellBy, tellOf};
+ghost use Rattle.order.specs.inner.Telling.{InTable, followsBy, allowsC, allowsNext, allows, tookKind, tellBy, tellOf, hasLast, kindsTold};
 use crate::followers::PER_CONTEXT;
 use crate::followers::PER_KIND;
 
@@ -58,9 +58,20 @@ impl Watcher {
         }
     }
 
-    // Which kinds may come next (V3): 1 at the number of each kind that the watcher would say yes to, C among them, and 0 at every other.
+    // Which kinds may come next (V3): 1 at the number of each kind that the context lets come there, C among them, and 0 at every other. After a kind
+    // that the context does not have nothing comes, not even a C.
     pub fn next_kinds(self) -> [u8; KINDS]
         ensures { λ r. ⌜ r ≡ nextKinds self ⌝ }
+    {
+        if !has_last(self.context, self.last) {
+            return [0; KINDS];
+        }
+        self.kinds_told()
+    }
+
+    // What the watcher would say to each kind, as entries of a table.
+    fn kinds_told(self) -> [u8; KINDS]
+        ensures { λ r. ⌜ r ≡ kindsTold self ⌝ }
     {
         let followers = crate::followers::table();
         let mut next = [0; KINDS];
@@ -85,6 +96,17 @@ impl Watcher {
             last: kind,
         }
     }
+}
+
+// Whether a context has a kind, that is a level for it; before the first kind, where the number is 0, there is none to have.
+fn has_last(context: u8, last: u8) -> bool
+    ensures { λ r. ⌜ r ≡ hasLast context last ⌝ }
+{
+    if last == 0 {
+        return true;
+    }
+    let levels = crate::levels::table();
+    crate::levels::level_of(&levels, context, last) != 0
 }
 
 // A test as an entry of a table.

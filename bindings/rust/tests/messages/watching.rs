@@ -91,5 +91,5 @@ fn the_next_kinds_of_a_context_are_its_order() {
     assert!(next_kinds(Context::FAC, Some(FAC)).eq([P, FAC, REG, ACT, L, C]));
     assert!(next_kinds(Context::ERR, Some(ERR)).eq([ERR, L, C]));
     // a kind that the context does not have
-    assert!(next_kinds(Context::ERR, Some(OBX)).eq([C]));
+    assert_eq!(next_kinds(Context::ERR, Some(OBX)).count(), 0);
 }

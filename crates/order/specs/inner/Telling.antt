@@ -1,12 +1,14 @@
 -- What an order watcher answers (rules V1 and V2) at every state and every number, by what may follow what.
 -- Assumes nothing.
-use mathlib.Core.Bool.{Bool, true, false, _&&_}
+use mathlib.Core.Bool.{Bool, true, false, _&&_, _||_, not}
 use mathlib.Core.List.{List}
 use Prim.Native.Nat.{ℕ, _+_, _*_, _-_, _≤_}
 use lib.Dec.{leb, ltb, eqb}
 use lib.ListN.{getD}
+use Rattle.laws.specs.Tables.{values}
 use Rattle.order.specs.Contexts.{isContext}
-use Rattle.order.specs.inner.Followers.{follows}
+use Rattle.order.specs.Owners.{level}
+use Rattle.order.specs.inner.Followers.{follows, asEntry}
 use Rattle.order.specs.declared.watcher.Watcher.{Watcher}
 use Rattle.order.specs.declared.watcher.Told.{Told}
 
@@ -51,3 +53,11 @@ tellBy may w k =
 -- by what the grammar says may follow
 unfoldable pub tellOf : Watcher → ℕ → Told
 tellOf w k = tellBy follows w k
+
+-- whether a context has a kind; before the first kind, where the number is 0, there is none to have
+unfoldable pub hasLast : ℕ → ℕ → Bool
+hasLast c x = eqb x 0 || not (eqb (level c x) 0)
+
+-- what a watcher would say to each kind from 0 to 12, as entries of a table
+unfoldable pub kindsTold : Watcher → List ℕ
+kindsTold w = values (λ k. asEntry (tellOf w k .yes)) 0 13
