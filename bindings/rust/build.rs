@@ -1,5 +1,5 @@
 //! Links the proved library, `libsargaceu.a`: from the repository's `target/staticlib`, where `./archive` puts it, or from the folder
-//! that `SARGACEU_LIB` names by its full path. The archive has x86-64 Linux code and needs nothing but memcpy.
+//! that `SARGACEU_LIB` names by its full path. The archive has x86-64 Linux code and needs nothing but memcpy and memset.
 
 use std::env;
 use std::path::{Path, PathBuf};

@@ -14,14 +14,16 @@ static size_t bytes, answer[SARGACEU_READ_ANSWER];
 static const char *const kinds[] = { "", "H", "P", "AP", "AC", "OBR", "OBX", "FAC", "REG", "ACT", "ERR", "L", "C" };
 static const char *const contexts[] = { "", "ADM", "ORM", "ORA", "REG", "ERR", "ORU", "FAC" };
 
+/* The line of each row, counted on from row to row: each byte is looked at a few times, however many rows there are. */
 static void show_rows(void)
 {
-    size_t at = 0, lines, next[SARGACEU_ROW_ANSWER], column[SARGACEU_POSITION_ANSWER];
+    size_t at = 0, line = 1, lines, next[SARGACEU_ROW_ANSWER], column[SARGACEU_POSITION_ANSWER];
     for (size_t row = 1; (lines = sargaceu_row_at(message, bytes, at, next, SARGACEU_ROW_ANSWER)) > 0; row++, at = next[0]) {
-        printf("row %zu: line %zu", row, sargaceu_position(message, bytes, at, column, SARGACEU_POSITION_ANSWER));
+        printf("row %zu: line %zu", row, line);
         if (lines > 1)
             printf(", in %zu lines", lines);
         printf("\n");
+        line += sargaceu_position(message + at, next[0] - at, next[0] - at, column, SARGACEU_POSITION_ANSWER) - 1; /* the row's own line ends */
     }
 }
 

@@ -14,8 +14,13 @@ fn main() -> io::Result<ExitCode> {
         show_refusal(&message, refusal);
         return Ok(ExitCode::FAILURE);
     }
+    // the line is counted on from row to row: each byte is looked at a few times, however many rows there are
+    let (mut line, mut counted) = (1, 0);
     for (row, place) in (1..).zip(rows_in(&message)) {
-        print!("row {row}: line {}", position(&message, place.start).line);
+        let passed = &message[counted..place.start];
+        line += position(passed, passed.len()).line - 1;
+        counted = place.start;
+        print!("row {row}: line {line}");
         match place.lines {
             1 => println!(),
             lines => println!(", in {lines} lines"),
