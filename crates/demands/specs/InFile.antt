@@ -1,6 +1,6 @@
 -- Where rows stand in a message's file (rules E1 to E4), and what may come where a segment may not stand (V3), as statements about `ReadAs` of the
--- reader, `placeOfRow` of `row_place`, `positionOf` of `position_of` and `nextKinds` of the watcher. Source/specs/Promises.antt has the records
--- behind them.
+-- reader, `placeOfRow` of `row_place`, `positionOf` of `position_of` and `nextKinds` of the watcher. The records behind them stand in
+-- source/specs/Promises.antt.
 -- Assumes nothing.
 use mathlib.Core.Bool.{false}
 use mathlib.Core.List.{List, [], _∷_, _++_}
@@ -29,7 +29,7 @@ use Rattle.read.specs.Sound.{segmentsIn, SoundLines}
 abbrev pub rowCount : List ℕ → ℕ
 rowCount message = length (rowPlaces smallForm message)
 
--- the watcher of a message's context that was told the kinds before a row
+-- the kinds of the rows before a row
 abbrev pub toldBefore : Limits → Separators → List ℕ → ℕ → List ℕ
 toldBefore L ps message row = take (row - 1) (kindsOf ps (segmentsIn L ps message))
 
