@@ -1,4 +1,6 @@
 // What is shown of an accepted message: a line a row, with its number, the number of its first line in the file, and what people look for in it.
+use crate::advice::Advice;
+use crate::advised::write_advice;
 use crate::counts::greater;
 use crate::counts::sum;
 use crate::fields::put_fields;
@@ -15,6 +17,7 @@ use crate::output::put_times;
 use crate::output::write_cut;
 use crate::output::write_whole;
 use crate::reason::write_accepted;
+use crate::unicode::characters_of;
 use form::forms::LargeForm;
 use source::row::row_at;
 use table::Card;
@@ -62,6 +65,20 @@ pub fn write_message(
     write_accepted(card, count_lines(message), message.len());
     write_heading(columns);
     write_rows(message, card, segments, leaves, text, columns);
+    write_letters(message);
+}
+
+// Advice on a message whose letters are in UTF-8, though it is accepted: all of it reads as UTF-8, and some letters have several bytes.
+fn write_letters(message: &[u8]) {
+    let characters = characters_of(message);
+    if !characters.sound {
+        return;
+    }
+    if characters.count < message.len() {
+        let mut line = [0; ROOM];
+        write_whole(&mut line, Pen::begin(ROOM));
+        write_advice(Advice::ReadLetters);
+    }
 }
 
 // An empty line, and the columns' headings.

@@ -39,8 +39,9 @@ pub enum Advice {
     // a byte order mark in front of UTF-8, and UTF-16 with or without one
     Mark,
     Wide,
-    // letters of UTF-8, two bytes and more each
+    // letters of UTF-8, two bytes and more each: a line is too long by them, or the message was read all the same
     Letters,
+    ReadLetters,
     // an MLLP frame around the message, inside a line, or between two messages
     Frame,
     FrameInside,

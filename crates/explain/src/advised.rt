@@ -67,6 +67,11 @@ fn put_advice_on_bytes(line: &mut [u8; ROOM], pen: Pen, advice: Advice) -> Pen {
             pen,
             b"the letters are in UTF-8, and the line is short enough with one byte for each: convert them to ISO 8859-1 (iconv -f UTF-8 -t ISO-8859-1 <FILE >NEW)",
         ),
+        Advice::ReadLetters => put(
+            line,
+            pen,
+            b"the letters are in UTF-8, and each of their bytes was read as a letter of its own: convert them to ISO 8859-1 (iconv -f UTF-8 -t ISO-8859-1 <FILE >NEW)",
+        ),
         _ => put_advice_on_frames(line, pen, advice),
     }
 }
