@@ -1,5 +1,7 @@
 // The functions that C and Rust call, each under the name and with the parameters that include/sargaceu.h states. They take any bytes, any
 // numbers and any lengths: nothing is required of a caller, so every contract says what happens for all of them.
+#![tactic(auto)]
+
 mod answer;
 mod card;
 mod forms;

@@ -1,4 +1,6 @@
 // Tables of an archive, whose rows hold numbers of 16 bits, brought over to today's rows and owners (rules B1 to B3).
+#![tactic(auto)]
+
 mod owned;
 mod putting;
 pub mod refusal;

@@ -27,7 +27,7 @@ const ROW: usize = 3;
 const LINE: usize = 4;
 
 // How wide the columns of numbers are, and the whole line.
-#[derive(Drop)]
+#[derive(Clone, Copy)]
 struct Columns {
     row: usize,
     line: usize,
@@ -35,7 +35,7 @@ struct Columns {
 }
 
 // A row as it is shown: its number, the number of its first line, and how many lines it takes.
-#[derive(Drop)]
+#[derive(Clone, Copy)]
 struct Shown {
     row: usize,
     line: usize,

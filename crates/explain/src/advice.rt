@@ -14,7 +14,7 @@ use look::text::same_bytes;
 use source::row::row_at;
 
 // A cause that the bytes show, and with it the advice.
-#[derive(Drop)]
+#[derive(Clone, Copy)]
 pub enum Advice {
     // nothing is certain
     Nothing,

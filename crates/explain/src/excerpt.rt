@@ -9,7 +9,7 @@ use crate::text::{CR, count_columns, put_shown, put_text};
 const BEHIND: usize = 24;
 
 // The columns under which the mark stands.
-#[derive(Drop)]
+#[derive(Clone, Copy)]
 struct Marked {
     from: usize,
     to: usize,

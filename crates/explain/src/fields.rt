@@ -104,7 +104,7 @@ fn place_of(row: Entry, field: Entry, subfield: Entry) -> Place {
 }
 
 // The places of the first two subfields of a field: a code and a name, a name and a first name, an amount and its unit.
-#[derive(Drop)]
+#[derive(Clone, Copy)]
 struct Subfields {
     first: Place,
     second: Place,

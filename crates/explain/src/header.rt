@@ -12,7 +12,7 @@ const LAST: usize = 6;
 pub const TILDE: u8 = 126;
 
 // What is wrong with a byte of a header.
-#[derive(Drop)]
+#[derive(Clone, Copy)]
 pub enum Flaw {
     Nothing,
     // the message ends before it

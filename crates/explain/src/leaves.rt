@@ -9,7 +9,7 @@ use source::row::row_at;
 const HEADER_LEAVES: usize = 3;
 
 // How far a count of leaves has come: a row, the place where it begins, and the leaves up to its end.
-#[derive(Drop)]
+#[derive(Clone, Copy)]
 pub struct Counted {
     pub row: usize,
     pub start: usize,

@@ -1,6 +1,8 @@
 // Explains the answer on the message that comes on standard input: why and where it is refused, what was expected there and what to do about it; or, where
 // it is accepted, what its rows are and on which lines they stand. The first line is the verdict in short. The command is ./explain. Where the input cannot
 // be read nothing is printed: a program has no exit status, and an empty message has a line.
+#![tactic(auto)]
+
 mod accepted;
 mod advice;
 mod advised;

@@ -11,7 +11,7 @@ const CUT: usize = 2;
 const DIGITS: usize = 20;
 
 // Where a line of output has come to.
-#[derive(Drop)]
+#[derive(Clone, Copy)]
 pub struct Pen {
     // the bytes that it has
     pub bytes: usize,

@@ -15,7 +15,7 @@ use source::row::{row_at, row_place};
 pub const CONTEXT: usize = 7;
 
 // A refusal: what the reader answers, what it judged by, and what else is known of the input.
-#[derive(Drop)]
+#[derive(Clone, Copy)]
 pub struct Case {
     pub number: u8,
     pub place: usize,
@@ -31,7 +31,7 @@ pub struct Case {
 }
 
 // An offset, the place behind the bytes to mark, and the row, 0 where none can be told.
-#[derive(Drop)]
+#[derive(Clone, Copy)]
 pub struct Spot {
     pub offset: usize,
     pub end: usize,

@@ -6,7 +6,7 @@ use libc::STDIN_FILENO;
 const READS: usize = 65536;
 
 // The bytes that came, whether the input has ended, and whether every read went well.
-#[derive(Drop)]
+#[derive(Clone, Copy)]
 pub struct Rest {
     pub bytes: usize,
     pub ended: bool,

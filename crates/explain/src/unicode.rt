@@ -15,7 +15,7 @@ const OF_FOUR: u8 = 0xF0;
 const NONE: u8 = 0xF5;
 
 // How many characters a text has, and whether all of them are whole ones of UTF-8.
-#[derive(Drop)]
+#[derive(Clone, Copy)]
 pub struct Characters {
     pub count: usize,
     pub sound: bool,

@@ -7,7 +7,7 @@ ghost use Rattle.form.specs.Forms.{small_form, large_form, limits_of};
 use crate::limits::Limits;
 
 // Which of the two.
-#[derive(Drop)]
+#[derive(Clone, Copy)]
 pub enum Form {
     Small,
     Large,

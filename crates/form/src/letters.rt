@@ -3,7 +3,7 @@ ghost use Rattle.std.specs.Prelude.{◌≡◌, get_or};
 ghost use Rattle.form.specs.inner.Lettering.{letters_of, with_letter};
 
 // A name as far as it has to be known: how many letters it has, and the first three of them. No kind and no context has a fourth.
-#[derive(Drop)]
+#[derive(Clone, Copy)]
 pub struct Letters {
     pub length: usize,
     pub first: u8,
@@ -12,7 +12,7 @@ pub struct Letters {
 }
 
 // A name to be put out: how many letters it has, and three bytes that begin with them, 0 behind the last.
-#[derive(Drop)]
+#[derive(Clone, Copy)]
 pub struct Spelled(pub usize, pub [u8; 3]);
 
 impl Letters {

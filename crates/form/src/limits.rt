@@ -4,7 +4,7 @@ ghost use Rattle.form.specs.Limits.{line_count, lines_under, Lawful};
 
 // A form's limits, by value: inner functions take these, and only the public layer names a form. The reader's `fill` takes them for its
 // contract alone, which says by which limits the table is that of the message.
-#[derive(Drop)]
+#[derive(Clone, Copy)]
 pub struct Limits {
     // bytes of a line before its CR
     pub line: usize,

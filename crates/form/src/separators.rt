@@ -3,7 +3,7 @@ ghost use Rattle.std.specs.Prelude.{◌&&◌, ◌≡◌};
 ghost use Rattle.form.specs.Header.{allowed, all_allowed, different, five, header_of};
 
 // The separators that a message's header names, in the order of its bytes 1 to 5.
-#[derive(Drop)]
+#[derive(Clone, Copy)]
 pub struct Separators {
     pub field: u8,
     pub subfield: u8,
@@ -13,7 +13,7 @@ pub struct Separators {
 }
 
 // What the first seven bytes of a message say.
-#[derive(Drop)]
+#[derive(Clone, Copy)]
 pub enum Header {
     Sound(Separators),
     Broken,

@@ -8,14 +8,14 @@ use crate::soundness::is_roomy;
 use crate::{CODE, PLACE, wide};
 
 // How many codes are named.
-#[derive(Drop)]
+#[derive(Clone, Copy)]
 pub enum Codes {
     Named(usize),
     NoIndex,
 }
 
 // How often a code was counted.
-#[derive(Drop)]
+#[derive(Clone, Copy)]
 pub enum Count {
     Times(u32),
     NotNamed,
@@ -23,7 +23,7 @@ pub enum Count {
 }
 
 // Where among the codes' bytes a code begins, its length, and how often it was counted.
-#[derive(Drop)]
+#[derive(Clone, Copy)]
 pub enum Code {
     At {
         start: usize,

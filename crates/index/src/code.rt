@@ -3,7 +3,7 @@ ghost use Rattle.std.specs.Prelude.{◌≡◌, ◌+◌, ◌<◌, length, get_or,
 ghost use Rattle.index.specs.inner.Comparing.{compared};
 
 // What a code is to another one.
-#[derive(Drop)]
+#[derive(Clone, Copy)]
 pub enum Compared {
     Before,
     Same,

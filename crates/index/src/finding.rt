@@ -9,7 +9,7 @@ use crate::soundness::is_roomy;
 use crate::{CODE, PLACE, wide};
 
 // A place, counted from 0, and whether the code is named there; where it is not, it would be put there.
-#[derive(Drop)]
+#[derive(Clone, Copy)]
 pub struct Found {
     pub at: usize,
     pub named: bool,

@@ -1,6 +1,8 @@
 // The index by analysis code (X1 to X4): up to 512 codes of 1 to 22 bytes in rising byte order, each with a count; and the tally of what was
 // counted. An index is two lent buffers: one has a place of 23 bytes for each code, the other how many codes are named and then their counts.
 // Every buffer gets its answer, whatever it holds.
+#![tactic(auto)]
+
 ghost use Rattle.std.specs.Prelude.{◌≡◌, ◌<◌};
 ghost use Rattle.index.specs.Index.{counts_past};
 

@@ -7,7 +7,7 @@ use crate::wide;
 // The last number that a count has.
 const LAST: usize = 4294967295;
 
-#[derive(Drop)]
+#[derive(Clone, Copy)]
 pub struct Tally {
     pub messages: u32,
     pub segments: u32,
@@ -15,7 +15,7 @@ pub struct Tally {
 }
 
 // A tally brought up to date; or as it was, where a number would pass the last one.
-#[derive(Drop)]
+#[derive(Clone, Copy)]
 pub struct Tallied {
     pub fits: bool,
     pub tally: Tally,

@@ -1,10 +1,12 @@
 // Standard input, read to its end or as far as a buffer reaches, and a fault told apart from the end: what the programs for one message share.
+#![tactic(auto)]
+
 ghost use Rattle.io.specs.Counts.{IsPrefixLen};
 
 use libc::STDIN_FILENO;
 
 // How many bytes came, and whether every read went well.
-#[derive(Drop)]
+#[derive(Clone, Copy)]
 pub struct Input {
     pub bytes: usize,
     pub sound: bool,

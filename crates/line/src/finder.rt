@@ -15,7 +15,7 @@ const CR: u8 = 13;
 const SPACE: u8 = 32;
 
 // What stands at a place where a line may begin.
-#[derive(Drop)]
+#[derive(Clone, Copy)]
 pub enum Found {
     // the place of its CR, and the place behind the control bytes that follow (L2)
     Line { end: usize, next: usize },

@@ -8,7 +8,7 @@ ghost use Rattle.line.specs.Going.{walk_opened, gone_on};
 use crate::finder::{Found, line_at, line_part, next_place};
 
 // The message, and the place in it that the walk has come to.
-#[derive(Drop)]
+#[derive(Clone, Copy)]
 pub struct Walk<'a> {
     pub message: &'a [u8],
     pub at: usize,

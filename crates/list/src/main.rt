@@ -1,5 +1,7 @@
 // Lists the message that comes on standard input: the listing (G1, G2), and nothing else. What matters is in the library; this reads and writes.
 // Where the input cannot be read nothing is printed: a program has no exit status, and an empty message has a listing.
+#![tactic(auto)]
+
 use form::forms::SmallForm;
 use libc::STDOUT_FILENO;
 use listing::list::{SIZE, list};

@@ -1,4 +1,5 @@
 // The listing of a message (G1, G2), into a lent buffer: what the program `list` prints.
+#![tactic(auto)]
 
 mod lines;
 pub mod list;

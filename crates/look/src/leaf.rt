@@ -11,7 +11,7 @@ ghost use Rattle.look.specs.inner.Searching.{found_of, sought_from, sought_in, s
 use table::{Card, rows};
 
 // The place of a leaf (S5): the number of its segment's row, and the four numbers that tell it from the other leaves of the segment.
-#[derive(Drop)]
+#[derive(Clone, Copy)]
 pub struct Place {
     pub segment: rows::Entry,
     pub field: rows::Entry,
@@ -22,7 +22,7 @@ pub struct Place {
 
 // What a lookup of a leaf answers (F1): the start in the text area and the length, 1 or more, of its text; or that it is there with no text; or
 // that it is not there.
-#[derive(Drop)]
+#[derive(Clone, Copy)]
 pub enum Sought {
     At(usize, usize),
     Empty,
@@ -123,7 +123,7 @@ pub fn leaf_text<'a>(
 }
 
 // The number of a place that a row is asked for first, and its column: that which tells most rows apart.
-#[derive(Drop)]
+#[derive(Clone, Copy)]
 struct AskedFirst {
     column: usize,
     number: rows::Entry,

@@ -12,7 +12,7 @@ use form::kind::Kind;
 // A place for each number up to the last kind, with one for 0, which is no kind.
 pub const KINDS: usize = 13;
 
-#[derive(Drop)]
+#[derive(Clone, Copy)]
 pub struct Watcher {
     // the number that it was begun with, be it a context's or not
     pub context: u8,
@@ -21,7 +21,7 @@ pub struct Watcher {
 }
 
 // The watcher after it was told a kind, and whether it said yes.
-#[derive(Drop)]
+#[derive(Clone, Copy)]
 pub struct Told {
     pub watcher: Watcher,
     pub yes: bool,

@@ -13,7 +13,7 @@ use index::tally::Tally;
 use index::{CODES, PLACE, wide};
 
 // Number and place of a refusal, and the tally as it was; or 0 and 0, and the tally with the message.
-#[derive(Drop)]
+#[derive(Clone, Copy)]
 pub struct Admitted {
     pub number: u8,
     pub place: usize,

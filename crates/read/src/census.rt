@@ -12,7 +12,7 @@ use index::adding::add;
 use index::refusal::Refusal;
 
 // What counting comes to: a number of refusal with its place, or 0 and 0; and how many results were counted.
-#[derive(Drop)]
+#[derive(Clone, Copy)]
 pub struct Census {
     pub number: u8,
     pub place: usize,

@@ -13,7 +13,7 @@ use table::class::index;
 
 // How far a segment's code has come: field separators that are to come up to the one that ends field 4, 1 in that field itself, 0 once the code is
 // whole; the bytes of the code; and where the last byte stands that was looked at.
-#[derive(Drop)]
+#[derive(Clone, Copy)]
 pub struct Taken {
     pub left: usize,
     pub length: usize,
@@ -21,7 +21,7 @@ pub struct Taken {
 }
 
 // Where a line's bytes have been gone over up to, and the field separators that are then to come.
-#[derive(Drop)]
+#[derive(Clone, Copy)]
 pub struct Skipped {
     pub left: usize,
     pub at: usize,

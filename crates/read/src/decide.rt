@@ -14,7 +14,7 @@ use table::class::set_classes;
 use table::rows;
 
 // What deciding comes to: the number and the place of a refusal, all else zero; or 0 and 0, and what the message has.
-#[derive(Drop)]
+#[derive(Clone, Copy)]
 pub struct Decision {
     pub number: u8,
     pub place: usize,

@@ -19,14 +19,14 @@ use table::rows;
 use table::rows::Entry;
 
 // How far the second pass has come: its leaves, and the number of the open segment's first leaf.
-#[derive(Drop)]
+#[derive(Clone, Copy)]
 pub struct Filling {
     pub laying: Laying,
     pub first: usize,
 }
 
 // How far it has come with a line, and where the next one begins.
-#[derive(Drop)]
+#[derive(Clone, Copy)]
 pub struct Line {
     pub filling: Filling,
     pub next: usize,

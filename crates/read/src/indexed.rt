@@ -24,7 +24,7 @@ use index::tally::Tally;
 use table::rows::Entry;
 
 // What comes back: what the reader answers, and the tally, which is the one that was given where the message is refused.
-#[derive(Drop)]
+#[derive(Clone, Copy)]
 pub struct Indexed {
     pub answer: Answer,
     pub tally: Tally,

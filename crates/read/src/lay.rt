@@ -10,7 +10,7 @@ use table::rows::Entry;
 
 // How far the pass has come: where in the leaf rows the row of the leaf begun goes, behind a row for each leaf closed, the place of that
 // leaf (S5), and where its text begins in the text area and ends so far.
-#[derive(Drop)]
+#[derive(Clone, Copy)]
 pub struct Laying {
     pub row: usize,
     pub segment: usize,
@@ -23,7 +23,7 @@ pub struct Laying {
 }
 
 // How far it has come, and where the line ends.
-#[derive(Drop)]
+#[derive(Clone, Copy)]
 pub struct Laid {
     pub laying: Laying,
     pub end: usize,

@@ -1,5 +1,7 @@
 // The reader: from the bytes of one message into a lent text area, segment rows and leaf rows. The first pass surveys the message and
 // decides every refusal; only then does the second pass write. Both read the message where it lies.
+#![tactic(auto)]
+
 ghost use Rattle.std.specs.Prelude.{◌≡◌};
 ghost use Rattle.form.specs.Forms.{limits_of};
 ghost use Rattle.order.specs.inner.Levels.{level_in};
@@ -29,7 +31,7 @@ mod start;
 mod survey;
 
 // What comes back (rules N1, N3): a number, its place, and the card, which is all zero on a refusal.
-#[derive(Drop)]
+#[derive(Clone, Copy)]
 pub struct Answer {
     pub number: u8,
     pub place: usize,

@@ -4,7 +4,7 @@ ghost use Rattle.read.specs.inner.Naming.{fresh, with_bytes};
 
 use form::letters::Letters;
 
-#[derive(Drop)]
+#[derive(Clone, Copy)]
 pub struct Name {
     // field separators that are to come up to the one that ends the field: 1 in the field itself, 0 once it has ended
     pub left: usize,

@@ -4,7 +4,7 @@ ghost use Rattle.read.specs.inner.Scanning.{run, marks};
 
 use table::class::index;
 
-#[derive(Drop)]
+#[derive(Clone, Copy)]
 pub struct Scanned {
     pub end: usize,
     pub separators: usize,

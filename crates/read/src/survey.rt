@@ -18,7 +18,7 @@ use line::finder::{Found, ended_line};
 use order::watcher::Watcher;
 
 // What is known once some lines have been seen. The last segment begun is open: lines may still carry it on.
-#[derive(Drop)]
+#[derive(Clone, Copy)]
 pub struct Survey {
     // segments begun
     pub segments: usize,
@@ -36,14 +36,14 @@ pub struct Survey {
 }
 
 // What one line comes to: the survey with its text and where the next line begins, or a fault.
-#[derive(Drop)]
+#[derive(Clone, Copy)]
 pub enum Step {
     On { seen: Survey, at: usize },
     Fault { number: u8, place: usize },
 }
 
 // What all lines come to.
-#[derive(Drop)]
+#[derive(Clone, Copy)]
 pub enum Surveyed {
     Whole(Survey),
     Fault { number: u8, place: usize },

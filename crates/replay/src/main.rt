@@ -1,6 +1,8 @@
 // Runs the public functions on cases that come on standard input, and writes a line for each. The large buffers are made here, once, and lent
 // from here; an operation fills what it writes. `cases` says which operations there are, what their cases are made of, and which module's
 // function `run` runs them.
+#![tactic(auto)]
+
 use buffers::{BYTES, LEAF_ROWS, SEGMENT_ROWS};
 use cases::next_case;
 use input::ROOM;

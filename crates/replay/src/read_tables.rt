@@ -17,7 +17,7 @@ const CHANGES: u8 = 1;
 pub const ASKED: u8 = 2;
 
 // The card of such a table as it was changed, and how much of each buffer is lent with it: what the card counted at reading.
-#[derive(Drop)]
+#[derive(Clone, Copy)]
 pub struct ReadTable {
     pub card: Card,
     pub segments: usize,

@@ -1,5 +1,7 @@
 // The check for screening reports (rules R1 to R6): whether an ORU has the fields, the pseudo-analyses and the values that are asked of it. It
 // stands above the library: of a table it knows only what the crates below promise.
+#![tactic(auto)]
+
 mod codes;
 mod fields;
 mod leaf;
@@ -25,7 +27,7 @@ use form::number::Number;
 use table::{Card, rows};
 
 // What comes back (R4, R5): 0 for yes; else the number of the lowest rule that some row fails, and the first such row; or 13 or 30 with the place 0.
-#[derive(Drop)]
+#[derive(Clone, Copy)]
 pub struct Verdict {
     pub number: u8,
     pub place: usize,

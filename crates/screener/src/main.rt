@@ -1,6 +1,8 @@
 // Says in one line whether the message that comes on standard input is a screening report that keeps all rules (R1 to R6): yes, no or refused, and
 // why. The command is ./screen; crate `screen` is the library that judges, and a crate is either a library or a program, so this one is called
 // otherwise. Where the input cannot be read nothing is printed: a program has no exit status, and an empty message has a line.
+#![tactic(auto)]
+
 mod codes;
 mod fields;
 mod names;

@@ -6,7 +6,7 @@ ghost use Rattle.source.specs.Positions.{position_behind, position_of};
 const CR: u8 = 13;
 
 // Line and column, both counted from 1.
-#[derive(Drop)]
+#[derive(Clone, Copy)]
 pub struct Position {
     pub line: usize,
     pub column: usize,

@@ -9,14 +9,14 @@ ghost use Rattle.source.specs.inner.Going.{behind_addendum, addenda_from};
 use line::finder::{Found, line_at};
 
 // Where a row stands: the offset at which its first line begins, and how many lines it takes. Both are 0 where there is no such row.
-#[derive(Drop)]
+#[derive(Clone, Copy)]
 pub struct RowPlace {
     pub start: usize,
     pub lines: usize,
 }
 
 // Lines that follow one another: how many, and the place behind them, where the next line begins.
-#[derive(Drop)]
+#[derive(Clone, Copy)]
 pub struct LineRun {
     pub lines: usize,
     pub next: usize,

@@ -1,4 +1,6 @@
 // Reading with a lent tally (X5): the tally that a caller keeps is brought up to date where it lies, and is as it was where the message is refused.
+#![tactic(auto)]
+
 ghost use Rattle.form.specs.Forms.{limits_of};
 ghost use Rattle.order.specs.Owners.{level};
 ghost use Rattle.read.specs.Counting.{IndexedAs};

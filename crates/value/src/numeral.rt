@@ -9,7 +9,7 @@ use form::number::Number;
 
 // A number as its text says it: 0, or why the text says none (D3); whether a minus stands in front; the number that all its digits make; how
 // many of them stand behind the point. Beside a refusal the others are false and 0.
-#[derive(Drop)]
+#[derive(Clone, Copy)]
 pub(crate) struct Numeral {
     pub number: u8,
     pub negative: bool,
@@ -18,14 +18,14 @@ pub(crate) struct Numeral {
 }
 
 // The sign of a text: how many bytes it has, 0 or 1, and whether it is a minus.
-#[derive(Drop)]
+#[derive(Clone, Copy)]
 struct Sign {
     length: usize,
     negative: bool,
 }
 
 // The digits that stand from a place on: where they end, and the number that they make behind the digits before.
-#[derive(Drop)]
+#[derive(Clone, Copy)]
 struct Run {
     end: usize,
     magnitude: u64,

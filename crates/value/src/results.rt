@@ -17,7 +17,7 @@ use look::order::is_order;
 use table::{Card, rows};
 
 // What comes back (D6): 0, 13, 24 or 25, the place 0, and how many answers were put, 0 on a refusal.
-#[derive(Drop)]
+#[derive(Clone, Copy)]
 pub struct ValuesRead {
     pub number: u8,
     pub place: usize,

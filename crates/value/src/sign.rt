@@ -4,7 +4,7 @@ ghost use Rattle.value.specs.Values.{signed_of};
 ghost use Rattle.value.specs.inner.Signs.{half_range, apart};
 
 // A whole number without its sign, and whether it is below 0.
-#[derive(Drop)]
+#[derive(Clone, Copy)]
 pub(crate) struct Unsigned {
     pub negative: bool,
     pub magnitude: u64,

@@ -15,7 +15,7 @@ use form::number::Number;
 const TEN_THOUSAND: u64 = 10000;
 
 // What comes back (D5): 0, 22 or 23, and how many bytes were written, 0 on a refusal.
-#[derive(Drop)]
+#[derive(Clone, Copy)]
 pub struct ValueWritten {
     pub number: u8,
     pub bytes: usize,

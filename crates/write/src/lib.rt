@@ -1,4 +1,6 @@
 // The writer (rules W1 to W4): from a table back to the message, and the test whether some message reads to a table.
+#![tactic(auto)]
+
 ghost use Rattle.std.specs.Prelude.{◌≡◌};
 ghost use Rattle.form.specs.Forms.{limits_of};
 ghost use Rattle.order.specs.Owners.{level};
@@ -20,7 +22,7 @@ pub mod size;
 pub mod test;
 
 // What comes back (N1, W3): a number, its place, and the bytes and lines written. On a refusal all but the number are zero (N3).
-#[derive(Drop)]
+#[derive(Clone, Copy)]
 pub struct Written {
     pub number: u8,
     pub place: usize,

@@ -11,7 +11,7 @@ use form::limits::Limits;
 pub(crate) const CR: u8 = 13;
 
 // How far the output is written: its bytes, the bytes that the line begun still holds, the lines closed.
-#[derive(Drop)]
+#[derive(Clone, Copy)]
 pub struct Going {
     pub out: usize,
     pub room: usize,

@@ -71,7 +71,7 @@ fn field_leaf(rows: &[Entry], field: Entry, first: usize, end: usize) -> usize
 }
 
 // Where a text lies: from its start up to its end.
-#[derive(Drop)]
+#[derive(Clone, Copy)]
 struct Lying {
     start: usize,
     end: usize,

@@ -13,7 +13,7 @@ use table::Card;
 use table::rows::Entry;
 
 // By which levels the owners of a table are tested: those in force, or the former ones (O1, O4).
-#[derive(Drop)]
+#[derive(Clone, Copy)]
 pub(crate) enum Owners {
     InForce,
     Former,
