@@ -1,0 +1,9 @@
+-- `letters::letter` meets its contract: past its end a text has 0.
+-- Assumes nothing.
+use mathlib.Core.Path.{sym}
+use borrow.Author.Rules.{rules}
+use lib.ListN.{get_or-eq_default}
+use Rattle.form.proofs.letters.letter.Goals as goal
+
+pub returns-else-at-text : goal.returns-else-at-text
+returns-else-at-text c = sym (get_or-eq_default c.args.text.now 0 c.if-at-text.false)
