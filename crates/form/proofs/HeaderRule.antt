@@ -15,7 +15,6 @@ use Rattle.laws.proofs.Lists.{Absent, Absent.nowhere, Absent.past, absent_among,
 use Rattle.laws.proofs.Tests.{either, never_both, and_first, and_second, and_both, not_holds}
 use Rattle.form.specs.Header.{within, allowed, all_allowed, different, separators_of, five, sound_header, header_of}
 use Rattle.form.specs.declared.separators.Separators.{Separators}
-use Rattle.form.specs.declared.separators.Header.{Header}
 use Rattle.form.specs.declared.separators.Header.TheVariants.{Sound, Broken}
 
 -- what H2 says of a byte that may be a separator

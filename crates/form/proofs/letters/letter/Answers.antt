@@ -1,7 +1,6 @@
 -- `letters::letter` meets its contract: past its end a text has 0.
 -- Assumes nothing.
 use mathlib.Core.Path.{sym}
-use borrow.Author.Rules.{rules}
 use lib.ListN.{get_or-eq_default}
 use Rattle.form.proofs.letters.letter.Goals as goal
 

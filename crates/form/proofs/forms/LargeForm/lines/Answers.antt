@@ -1,6 +1,5 @@
 -- `LargeForm::lines` meets its contract: the large form's limits are lawful.
 -- Assumes nothing.
-use borrow.Author.Rules.{rules}
 use mathlib.Core.Path.{◌∙◌, ap}
 use Rattle.form.specs.Limits.{lines_under}
 use Rattle.form.specs.declared.limits.Limits.{Limits}

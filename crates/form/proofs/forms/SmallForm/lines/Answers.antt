@@ -1,6 +1,5 @@
 -- `SmallForm::lines` meets its contract: the small form's limits are lawful.
 -- Assumes nothing.
-use borrow.Author.Rules.{rules}
 use mathlib.Core.Path.{◌∙◌, ap}
 use Rattle.form.specs.Limits.{lines_under}
 use Rattle.form.specs.declared.limits.Limits.{Limits}

@@ -1,7 +1,6 @@
 -- `Kind::named` meets its contract: its length and its first three letters tell a name.
 -- Assumes nothing.
 use mathlib.Core.Path.{ap, ◌∙◌}
-use borrow.Author.Rules.{rules}
 use Rattle.form.specs.declared.letters.Letters.{Letters}
 use Rattle.form.specs.Names.{kind_names, kind_of}
 use Rattle.form.specs.inner.Lettering.{name_in}

@@ -1,6 +1,5 @@
 -- `Letters::of` meets its contract.
 -- Assumes nothing.
-use borrow.Author.Rules.{rules}
 use Rattle.form.proofs.letters.Letters.of.Goals as goal
 
 pub returns : goal.returns

@@ -1,7 +1,6 @@
 -- `Limits::lines` meets its contract: what is tested first is that the limits are lawful.
 -- Assumes nothing.
 use native.Mathlib.Omega.{arith}
-use borrow.Author.Rules.{rules}
 use mathlib.Core.Path.{◌∙◌, sym}
 use Rattle.form.proofs.LineCount.{lines-short, lines_other, lines-lawful}
 use Rattle.form.proofs.limits.Limits.lines.Goals as goal

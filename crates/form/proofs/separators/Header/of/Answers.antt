@@ -1,8 +1,6 @@
 -- `Header::of` meets its contract: each early return names what breaks the header.
 -- Assumes nothing.
 use mathlib.Core.Path.{sym, ◌∙◌}
-use borrow.Author.Rules.{rules}
-use borrow.Author.Tests.{not-true, not-false}
 use Rattle.form.specs.Header.{separators_of}
 use Rattle.form.proofs.HeaderRule.{short-broken, letter_broken, again_broken, allowed-broken, different-broken, tests_sound}
 use Rattle.form.proofs.separators.Header.of.Goals as goal

@@ -3,8 +3,6 @@
 use mathlib.Core.Bool.{and-true}
 use mathlib.Core.Path.{sym, ◌∙◌}
 use lib.Dec.{lit<}
-use borrow.Author.Rules.{rules}
-use borrow.Author.Tests.{not-true, not-false}
 use Rattle.form.specs.Header.{all_allowed, five}
 use Rattle.form.proofs.HeaderRule.{one_not_allowed}
 use Rattle.form.proofs.separators.Separators.allowed.Goals as goal

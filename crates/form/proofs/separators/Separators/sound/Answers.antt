@@ -1,7 +1,5 @@
 -- `Separators::sound` meets its contract.
 -- Assumes nothing.
-use borrow.Author.Rules.{rules}
-use borrow.Author.Tests.{not-true, not-false}
 use mathlib.Core.Bool.{and-true}
 use mathlib.Core.Path.{◌∙◌, sym}
 use Rattle.form.specs.Header.{all_allowed, five}

@@ -4,12 +4,8 @@ use mathlib.Core.Path.{refl}
 use Rattle.laws.specs.Tables.{values}
 use Rattle.order.specs.Owners.{levels, level}
 use Rattle.order.specs.inner.Levels.{level_table_of, level_table}
-use Rattle.order.proofs.levels.table.Statement.{statement}
-use Rattle.order.proofs.levels.table.Tie as tie
+use Rattle.order.proofs.levels.table.Goals as goal
 
-returns : tie.Need-returns
+pub returns : goal.returns
 unfolding level_table level_table_of level levels values
 returns c = refl
-
-pub table-spec : {M : Type 1} → statement M
-table-spec = tie.close (tie.spec returns)

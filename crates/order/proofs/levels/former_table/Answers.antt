@@ -4,12 +4,8 @@ use mathlib.Core.Path.{refl}
 use Rattle.laws.specs.Tables.{values}
 use Rattle.order.specs.Owners.{former_levels, former_level}
 use Rattle.order.specs.inner.Levels.{level_table_of, former_level_table}
-use Rattle.order.proofs.levels.former_table.Statement.{statement}
-use Rattle.order.proofs.levels.former_table.Tie as tie
+use Rattle.order.proofs.levels.former_table.Goals as goal
 
-returns : tie.Need-returns
+pub returns : goal.returns
 unfolding former_level_table level_table_of former_level former_levels values
 returns c = refl
-
-pub former-table-spec : {M : Type 1} → statement M
-former-table-spec = tie.close (tie.spec returns)
