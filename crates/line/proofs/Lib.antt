@@ -9,7 +9,6 @@ pub mod Finding
 pub mod Handing
 pub mod Going
 pub mod BothForms
-pub mod WalkApart
 pub mod Written
 pub mod FirstLine
 pub mod Standing

@@ -9,38 +9,25 @@ use Rattle.line.proofs.finder.ended_line.Goals as goal
 pub returns-then-message-end : goal.returns-then-message-end
 returns-then-message-end c =
     let at-args = c.args in
-    let at-if1 = c.if-message-end in
-    sym (ended_open at-args.message.now at-args.at at-args.end at-if1.true)
+    sym (ended_open at-args.message.now at-args.at at-args.end c.if-message-end.true)
 
 pub returns-then-b-ge-SPACE : goal.returns-then-b-ge-SPACE
 returns-then-b-ge-SPACE c =
     let at-args = c.args in
-    let at-if1 = c.if-message-end in
-    let at-if2 = c.if-b-ge-SPACE in
-    sym (ended-long at-args.message.now at-args.at at-args.end at-if1.false at-if2.true)
+    sym (ended-long at-args.message.now at-args.at at-args.end c.if-message-end.false c.if-b-ge-SPACE.true)
 
 pub returns-then-at-end : goal.returns-then-at-end
 returns-then-at-end c =
     let at-args = c.args in
-    let at-low-end = c.low_end in
-    let at-if1 = c.if-message-end in
-    let at-if3 = c.if-b-eq-CR in
-    let at-if4 = c.if-at-end in
-    ap (Line at-args.end) at-low-end.ensures
-    ∙ sym (ended-line at-args.message.now at-args.at at-args.end at-if1.false at-if3.true at-if4.true)
+    ap (Line at-args.end) c.low_end.ensures
+    ∙ sym (ended-line at-args.message.now at-args.at at-args.end c.if-message-end.false c.if-b-eq-CR.true c.if-at-end.true)
 
 pub returns-else-at-end : goal.returns-else-at-end
 returns-else-at-end c =
     let at-args = c.args in
-    let at-if1 = c.if-message-end in
-    let at-if2 = c.if-b-ge-SPACE in
-    let at-if4 = c.if-at-end in
-    sym (ended-first at-args.message.now at-args.at at-args.end at-if1.false at-if2.false at-if4.false)
+    sym (ended-first at-args.message.now at-args.at at-args.end c.if-message-end.false c.if-b-ge-SPACE.false c.if-at-end.false)
 
 pub returns-else-b-eq-CR : goal.returns-else-b-eq-CR
 returns-else-b-eq-CR c =
     let at-args = c.args in
-    let at-if1 = c.if-message-end in
-    let at-if2 = c.if-b-ge-SPACE in
-    let at-if3 = c.if-b-eq-CR in
-    sym (ended_control at-args.message.now at-args.at at-args.end at-if1.false at-if2.false at-if3.false)
+    sym (ended_control at-args.message.now at-args.at at-args.end c.if-message-end.false c.if-b-ge-SPACE.false c.if-b-eq-CR.false)

@@ -14,17 +14,13 @@ use Rattle.line.proofs.finder.find_line.Goals as goal
 pub returns-then-message-at : goal.returns-then-message-at
 returns-then-message-at c =
     let at-args = c.args in
-    let at-if1 = c.if-message-at in
-    sym (found-end at-args.line at-args.message.now at-args.at at-if1.true)
+    sym (found-end at-args.line at-args.message.now at-args.at c.if-message-at.true)
 
 -- the message's end bounds a run of text by itself
 pub returns : goal.returns
 returns c =
     let at-args = c.args in
-    let at-text-end = c.text_end in
-    let at-ended-line = c.ended_line in
-    let at-if1 = c.if-message-at in
     let a = at-args in
-    let stopped : at-text-end.result ≡ a.at + min a.line (text_run (drop a.at a.message.now))
+    let stopped : c.text_end.result ≡ a.at + min a.line (text_run (drop a.at a.message.now))
     = omega (arith, text_run-length (drop a.at a.message.now), length-drop a.at a.message.now) in
-    at-ended-line.ensures ∙ sym (found-ended a.line a.message.now a.at at-text-end.result at-if1.false stopped)
+    c.ended_line.ensures ∙ sym (found-ended a.line a.message.now a.at c.text_end.result c.if-message-at.false stopped)

@@ -17,9 +17,7 @@ bounds-message-i c = omega arith
 pub returns-then-message-i-ge-SPACE : goal.returns-then-message-i-ge-SPACE
 returns-then-message-i-ge-SPACE c =
     let at-args = c.args in
-    let at-loop = c.loop-i in
-    let at-if1 = c.if-message-i-ge-SPACE in
-    omega (arith, low_run_turn_stop at-args.message.now at-loop.i (omega arith) at-if1.true)
+    omega (arith, low_run_turn_stop at-args.message.now c.loop-i.i (omega arith) c.if-message-i-ge-SPACE.true)
 
 pub overflow_add-i : goal.overflow_add-i
 overflow_add-i c = omega arith
@@ -30,12 +28,9 @@ loop-i-smaller c = omega arith
 pub loop-i-preserved : goal.loop-i-preserved
 loop-i-preserved c =
     let at-args = c.args in
-    let at-loop = c.loop-i in
-    let at-if1 = c.if-message-i-ge-SPACE in
-    omega (arith, low_run_turn_more at-args.message.now at-loop.i (omega arith) at-if1.false)
+    omega (arith, low_run_turn_more at-args.message.now c.loop-i.i (omega arith) c.if-message-i-ge-SPACE.false)
 
 pub returns : goal.returns
 returns c =
     let at-args = c.args in
-    let at-loop = c.loop-i in
-    omega (arith, low_run_turn_end at-args.message.now at-loop.i (omega arith))
+    omega (arith, low_run_turn_end at-args.message.now c.loop-i.i (omega arith))

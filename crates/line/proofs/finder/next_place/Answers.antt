@@ -10,21 +10,15 @@ use Rattle.line.proofs.finder.next_place.Goals as goal
 pub returns-in-Line : goal.returns-in-Line
 returns-in-Line c =
     let at-args = c.args in
-    let at_next = c.next-1 in
-    let at-line-at = c.line_at_lem in
-    sym (next_of_line at-args.at (found_at small_form at-args.message.now at-args.at) at_next.given.0.0 at_next.given.0.1.0 (sym at-line-at.ensures ∙ at_next.given.1))
+    sym (next_of_line at-args.at (found_at small_form at-args.message.now at-args.at) c.in-Line.end c.in-Line.next (sym c.line_at.ensures ∙ c.in-Line.is))
 
 pub returns-in-End : goal.returns-in-End
 returns-in-End c =
     let at-args = c.args in
-    let at-line-at = c.line_at_lem in
-    let at-enum-told = c.enum_told-1 in
-    sym (next_of_end at-args.at (found_at small_form at-args.message.now at-args.at) (sym at-line-at.ensures ∙ at-enum-told.given.1))
+    sym (next_of_end at-args.at (found_at small_form at-args.message.now at-args.at) (sym c.line_at.ensures ∙ c.in-End.is))
 
 pub returns-in-Fault : goal.returns-in-Fault
 returns-in-Fault c =
     let at-args = c.args in
-    let at-enum-told2 = c.enum_told-in-Fault-1 in
-    let at-line-at = c.line_at_lem in
     sym (next_of_fault at-args.at (found_at small_form at-args.message.now at-args.at)
-    at-enum-told2.given.0.0 at-enum-told2.given.0.1.0 (sym at-line-at.ensures ∙ at-enum-told2.given.1))
+    c.in-Fault.number c.in-Fault.place (sym c.line_at.ensures ∙ c.in-Fault.is))

@@ -17,9 +17,7 @@ bounds-message-i c = omega arith
 pub returns-then-message-i-lt-SPACE : goal.returns-then-message-i-lt-SPACE
 returns-then-message-i-lt-SPACE c =
     let at-args = c.args in
-    let at-loop = c.loop-i in
-    let at-if1 = c.if-message-i-lt-SPACE in
-    omega (arith, text_run_turn_stop at-args.message.now at-loop.i (omega arith) at-if1.true)
+    omega (arith, text_run_turn_stop at-args.message.now c.loop-i.i (omega arith) c.if-message-i-lt-SPACE.true)
 
 pub overflow_add-i : goal.overflow_add-i
 overflow_add-i c = omega arith
@@ -30,9 +28,7 @@ loop-i-smaller c = omega arith
 pub loop-i-preserved : goal.loop-i-preserved
 loop-i-preserved c =
     let at-args = c.args in
-    let at-loop = c.loop-i in
-    let at-if1 = c.if-message-i-lt-SPACE in
-    omega (arith, text_run_turn_more at-args.message.now at-loop.i (omega arith) at-if1.false)
+    omega (arith, text_run_turn_more at-args.message.now c.loop-i.i (omega arith) c.if-message-i-lt-SPACE.false)
 
 pub returns : goal.returns
 returns c = omega arith
