@@ -3,23 +3,19 @@
 use mathlib.Core.Path.{◌∙◌}
 use native.Mathlib.Omega.{arith}
 use Rattle.table.proofs.Lent.{leaves_divided, segments_past, text_past, leaves_decide}
-use Rattle.table.proofs.rows.counts_fit.Statement.{statement}
-use Rattle.table.proofs.rows.counts_fit.Tie as tie
+use Rattle.table.proofs.rows.counts_fit.Goals as goal
 
-returns : tie.Need-returns
-returns c =
-    let a = c.before.before.args in
+pub returns-then-segments-card : goal.returns-then-segments-card
+returns-then-segments-card c =
+    let a = c.args in
     segments_past a.card a.segments a.leaves a.text (omega arith)
 
-returns-2 : tie.Need-returns-2
-returns-2 c =
-    let a = c.before.before.before.before.args in
+pub returns-then-text-card : goal.returns-then-text-card
+returns-then-text-card c =
+    let a = c.args in
     text_past a.card a.segments a.leaves a.text (omega arith) (omega arith)
 
-returns-3 : tie.Need-returns-3
-returns-3 c =
-    let a = c.before.before.before.before.before.args in
+pub returns : goal.returns
+returns c =
+    let a = c.args in
     leaves_divided a.card.leaves a.leaves ∙ leaves_decide a.card a.segments a.leaves a.text (omega arith) (omega arith)
-
-pub counts-fit-spec : {M : Type 1} → statement M
-counts-fit-spec = tie.close (tie.spec returns returns-2 returns-3)
