@@ -31,25 +31,25 @@ roomy_here c = sym c.is_roomy.ensures ∙ c.if-not-is_roomy.false
 room_here : (c : Else-not-is_roomy) → Roomy (codes_at c) (counts_at c)
 room_here c = roomy_parts (codes_at c) (counts_at c) (roomy_here c)
 
-named_here : (c : After-seek-found) → c.wide-named.result ≡ named_in (counts_at c.before.before.before.before.before)
+named_here : (c : After-seek-found) → c.wide-named.result ≡ named_in (counts_at (goal.at.After-seek-found c).Else-not-is_roomy)
 named_here c = c.wide-named.ensures.0
 
 found_here : (c : After-seek-found)
-    → c.seek-found.result ≡ sought_among (codes_at c.before.before.before.before.before) (named_in (counts_at c.before.before.before.before.before)) (code_at c.before.before.before.before.before)
+    → c.seek-found.result ≡ sought_among (codes_at (goal.at.After-seek-found c).Else-not-is_roomy) (named_in (counts_at (goal.at.After-seek-found c).Else-not-is_roomy)) (code_at (goal.at.After-seek-found c).Else-not-is_roomy)
 found_here c =
-    c.seek-found.ensures ∙ ap (λ (n : ℕ). sought_among (codes_at c.before.before.before.before.before) n (code_at c.before.before.before.before.before)) (named_here c)
+    c.seek-found.ensures ∙ ap (λ (n : ℕ). sought_among (codes_at (goal.at.After-seek-found c).Else-not-is_roomy) n (code_at (goal.at.After-seek-found c).Else-not-is_roomy)) (named_here c)
 
-within_here : (c : After-seek-found) → Within (named_in (counts_at c.before.before.before.before.before)) c.seek-found.result
+within_here : (c : After-seek-found) → Within (named_in (counts_at (goal.at.After-seek-found c).Else-not-is_roomy)) c.seek-found.result
 within_here c =
-    place-within (code_at c.before.before.before.before.before) (codes_at c.before.before.before.before.before) (counts_at c.before.before.before.before.before) (roomy_here c.before.before.before.before.before) c.if-code-eq0.false c.if-code-gt-CODE.false (found_here c)
+    place-within (code_at (goal.at.After-seek-found c).Else-not-is_roomy) (codes_at (goal.at.After-seek-found c).Else-not-is_roomy) (counts_at (goal.at.After-seek-found c).Else-not-is_roomy) (roomy_here (goal.at.After-seek-found c).Else-not-is_roomy) c.if-code-eq0.false c.if-code-gt-CODE.false (found_here c)
 
 -- named: its count
 entry_here : (c : Then-found) → c.seek-found.result.at < codes_most
-entry_here c = omega (arith, (within_here c.before).entry c.if-found.true, (room_here c.before.before.before.before.before.before).few_named)
+entry_here c = omega (arith, (within_here (goal.at.Then-found c).After-seek-found).entry c.if-found.true, (room_here (goal.at.Then-found c).Else-not-is_roomy).few_named)
 
-free_here : (c : Else-named-eq-CODES) → named_in (counts_at c.before.before.before.before.before.before.before) < codes_most
+free_here : (c : Else-named-eq-CODES) → named_in (counts_at (goal.at.Else-named-eq-CODES c).Else-not-is_roomy) < codes_most
 free_here c =
-    omega (arith, c.if-named-eq-CODES.false, named_here c.before.before, (room_here c.before.before.before.before.before.before.before).few_named)
+    omega (arith, c.if-named-eq-CODES.false, named_here (goal.at.Else-named-eq-CODES c).After-seek-found, (room_here (goal.at.Else-named-eq-CODES c).Else-not-is_roomy).few_named)
 
 pub shape_of-codes-then-not-is_roomy : goal.shape_of-codes-then-not-is_roomy
 shape_of-codes-then-not-is_roomy c = refl
@@ -70,7 +70,7 @@ pub shape_of-counts-then-code-eq0 : goal.shape_of-counts-then-code-eq0
 shape_of-counts-then-code-eq0 c = refl
 
 pub returns-then-code-eq0 : goal.returns-then-code-eq0
-returns-then-code-eq0 c = empty_adds (code_at c.before) (codes_at c.before) (counts_at c.before) (roomy_here c.before) c.if-code-eq0.true
+returns-then-code-eq0 c = empty_adds (code_at (goal.at.returns-then-code-eq0 c).Else-not-is_roomy) (codes_at (goal.at.returns-then-code-eq0 c).Else-not-is_roomy) (counts_at (goal.at.returns-then-code-eq0 c).Else-not-is_roomy) (roomy_here (goal.at.returns-then-code-eq0 c).Else-not-is_roomy) c.if-code-eq0.true
 
 pub shape_of-codes-then-code-gt-CODE : goal.shape_of-codes-then-code-gt-CODE
 shape_of-codes-then-code-gt-CODE c = refl
@@ -79,21 +79,21 @@ pub shape_of-counts-then-code-gt-CODE : goal.shape_of-counts-then-code-gt-CODE
 shape_of-counts-then-code-gt-CODE c = refl
 
 pub returns-then-code-gt-CODE : goal.returns-then-code-gt-CODE
-returns-then-code-gt-CODE c = long-adds (code_at c.before.before) (codes_at c.before.before) (counts_at c.before.before) (roomy_here c.before.before) c.if-code-eq0.false c.if-code-gt-CODE.true
+returns-then-code-gt-CODE c = long-adds (code_at (goal.at.returns-then-code-gt-CODE c).Else-not-is_roomy) (codes_at (goal.at.returns-then-code-gt-CODE c).Else-not-is_roomy) (counts_at (goal.at.returns-then-code-gt-CODE c).Else-not-is_roomy) (roomy_here (goal.at.returns-then-code-gt-CODE c).Else-not-is_roomy) c.if-code-eq0.false c.if-code-gt-CODE.true
 
 pub bounds-counts-0 : goal.bounds-counts-0
-bounds-counts-0 c = omega (arith, (room_here c.before.before.before).counts_room)
+bounds-counts-0 c = omega (arith, (room_here (goal.at.bounds-counts-0 c).Else-not-is_roomy).counts_room)
 
 pub seek-found-requires : goal.seek-found-requires
 seek-found-requires c =
-    let r = room_here c.before.before.before.before in
+    let r = room_here (goal.at.seek-found-requires c).Else-not-is_roomy in
     (omega (arith, c.wide-named.ensures.0, r.few_named), r.codes_room, c.if-code-gt-CODE.false)
 
 pub overflow_add-found : goal.overflow_add-found
-overflow_add-found c = omega (arith, entry_here c.before.before)
+overflow_add-found c = omega (arith, entry_here (goal.at.overflow_add-found c).Then-found)
 
 pub count_once_more-requires : goal.count_once_more-requires
-count_once_more-requires c = omega (arith, entry_here c.before.before, (room_here c.before.before.before.before.before.before.before.before).counts_room)
+count_once_more-requires c = omega (arith, entry_here (goal.at.count_once_more-requires c).Then-found, (room_here (goal.at.count_once_more-requires c).Else-not-is_roomy).counts_room)
 
 pub shape_of-codes-then-found : goal.shape_of-codes-then-found
 shape_of-codes-then-found c = refl
@@ -103,8 +103,8 @@ shape_of-counts-then-found c = c.count_once_more.auto.counts
 
 pub returns-then-found : goal.returns-then-found
 returns-then-found c =
-    counted-adds (code_at c.before.before.before.before.before.before.before.before.before.before.before) (codes_at c.before.before.before.before.before.before.before.before.before.before.before) (counts_at c.before.before.before.before.before.before.before.before.before.before.before) (roomy_here c.before.before.before.before.before.before.before.before.before.before.before) c.if-code-eq0.false c.if-code-gt-CODE.false
-    (found_here c.before.before.before.before.before.before) c.if-found.true c.count_once_more.ensures
+    counted-adds (code_at (goal.at.returns-then-found c).Else-not-is_roomy) (codes_at (goal.at.returns-then-found c).Else-not-is_roomy) (counts_at (goal.at.returns-then-found c).Else-not-is_roomy) (roomy_here (goal.at.returns-then-found c).Else-not-is_roomy) c.if-code-eq0.false c.if-code-gt-CODE.false
+    (found_here (goal.at.returns-then-found c).After-seek-found) c.if-found.true c.count_once_more.ensures
 
 pub shape_of-codes-then-named-eq-CODES : goal.shape_of-codes-then-named-eq-CODES
 shape_of-codes-then-named-eq-CODES c = refl
@@ -115,17 +115,17 @@ shape_of-counts-then-named-eq-CODES c = refl
 -- not named
 pub returns-then-named-eq-CODES : goal.returns-then-named-eq-CODES
 returns-then-named-eq-CODES c =
-    full_adds (code_at c.before.before.before.before.before.before.before) (codes_at c.before.before.before.before.before.before.before) (counts_at c.before.before.before.before.before.before.before) (roomy_here c.before.before.before.before.before.before.before) c.if-code-eq0.false c.if-code-gt-CODE.false
-    (found_here c.before.before) c.if-found.false (sym (named_here c.before.before) ∙ c.if-named-eq-CODES.true)
+    full_adds (code_at (goal.at.returns-then-named-eq-CODES c).Else-not-is_roomy) (codes_at (goal.at.returns-then-named-eq-CODES c).Else-not-is_roomy) (counts_at (goal.at.returns-then-named-eq-CODES c).Else-not-is_roomy) (roomy_here (goal.at.returns-then-named-eq-CODES c).Else-not-is_roomy) c.if-code-eq0.false c.if-code-gt-CODE.false
+    (found_here (goal.at.returns-then-named-eq-CODES c).After-seek-found) c.if-found.false (sym (named_here (goal.at.returns-then-named-eq-CODES c).After-seek-found) ∙ c.if-named-eq-CODES.true)
 
 pub insert-requires : goal.insert-requires
 insert-requires c =
     record {
       short = c.if-code-gt-CODE.false;
-      within = omega (arith, (within_here c.before.before.before.before).place, named_here c.before.before.before.before);
-      free = omega (arith, free_here c.before.before, named_here c.before.before.before.before);
-      known = named_here c.before.before.before.before;
-      room = roomy_here c.before.before.before.before.before.before.before.before.before;
+      within = omega (arith, (within_here (goal.at.insert-requires c).After-seek-found).place, named_here (goal.at.insert-requires c).After-seek-found);
+      free = omega (arith, free_here (goal.at.insert-requires c).Else-named-eq-CODES, named_here (goal.at.insert-requires c).After-seek-found);
+      known = named_here (goal.at.insert-requires c).After-seek-found;
+      room = roomy_here (goal.at.insert-requires c).Else-not-is_roomy;
     }
 
 pub shape_of-codes : goal.shape_of-codes
@@ -136,5 +136,5 @@ shape_of-counts c = c.insert.auto.counts
 
 pub returns : goal.returns
 returns c =
-    inserted-adds (code_at c.before.before.before.before.before.before.before.before.before.before.before.before.before.before) (codes_at c.before.before.before.before.before.before.before.before.before.before.before.before.before.before) (counts_at c.before.before.before.before.before.before.before.before.before.before.before.before.before.before) (roomy_here c.before.before.before.before.before.before.before.before.before.before.before.before.before.before) c.if-code-eq0.false c.if-code-gt-CODE.false
-    (found_here c.before.before.before.before.before.before.before.before.before) c.if-found.false (free_here c.before.before.before.before.before.before.before) c.insert.ensures
+    inserted-adds (code_at (goal.at.returns c).Else-not-is_roomy) (codes_at (goal.at.returns c).Else-not-is_roomy) (counts_at (goal.at.returns c).Else-not-is_roomy) (roomy_here (goal.at.returns c).Else-not-is_roomy) c.if-code-eq0.false c.if-code-gt-CODE.false
+    (found_here (goal.at.returns c).After-seek-found) c.if-found.false (free_here (goal.at.returns c).Else-named-eq-CODES) c.insert.ensures

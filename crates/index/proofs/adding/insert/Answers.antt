@@ -23,10 +23,10 @@ pub overflow_mul-named : goal.overflow_mul-named
 overflow_mul-named c = omega (arith, c.requires.free)
 
 pub move_codes-requires : goal.move_codes-requires
-move_codes-requires c = (omega (arith, c.requires.within), omega (arith, c.requires.free, (room_at c.before.before.before.before).codes_room))
+move_codes-requires c = (omega (arith, c.requires.within), omega (arith, c.requires.free, (room_at (goal.at.move_codes-requires c).Start).codes_room))
 
 pub put_code-requires : goal.put_code-requires
-put_code-requires c = (c.requires.short, omega (arith, c.requires.within, c.requires.free, (room_at c.before.before.before.before.before.before.before.before).codes_room, c.move_codes.auto.codes))
+put_code-requires c = (c.requires.short, omega (arith, c.requires.within, c.requires.free, (room_at (goal.at.put_code-requires c).Start).codes_room, c.move_codes.auto.codes))
 
 pub overflow_add-place : goal.overflow_add-place
 overflow_add-place c = omega (arith, c.requires.within, c.requires.free)
@@ -35,7 +35,7 @@ pub overflow_add-named : goal.overflow_add-named
 overflow_add-named c = omega (arith, c.requires.free)
 
 pub move_counts-requires : goal.move_counts-requires
-move_counts-requires c = (omega (arith, c.requires.within), omega (arith, c.requires.free, (room_at c.before.before.before.before.before.before.before.before.before.before.before.before).counts_room))
+move_counts-requires c = (omega (arith, c.requires.within), omega (arith, c.requires.free, (room_at (goal.at.move_counts-requires c).Start).counts_room))
 
 pub overflow_add-counts : goal.overflow_add-counts
 overflow_add-counts c = omega (arith, c.requires.within, c.requires.free)
@@ -44,7 +44,7 @@ pub offset_bounds-counts-place : goal.offset_bounds-counts-place
 offset_bounds-counts-place c = omega (arith, c.requires.within, c.requires.free)
 
 pub bounds-counts-place : goal.bounds-counts-place
-bounds-counts-place c = omega (arith, c.requires.within, c.requires.free, (room_at c.before.before.before.before.before.before.before.before.before.before.before.before.before.before.before).counts_room, c.move_counts.auto.counts)
+bounds-counts-place c = omega (arith, c.requires.within, c.requires.free, (room_at (goal.at.bounds-counts-place c).Start).counts_room, c.move_counts.auto.counts)
 
 pub overflow_add-counts-2 : goal.overflow_add-counts-2
 overflow_add-counts-2 c = omega (arith, c.requires.free)
@@ -55,7 +55,7 @@ overflow_cast-counts c = record { fits = omega (arith, c.requires.free) }
 pub bounds-counts-0 : goal.bounds-counts-0
 bounds-counts-0 c =
     omega
-    (arith, (room_at c.before.before.before.before.before.before.before.before.before.before.before.before.before.before.before).counts_room, c.move_counts.auto.counts, length-set c.move_counts.new.counts (c.args.place + 1) 1)
+    (arith, (room_at (goal.at.bounds-counts-0 c).Start).counts_room, c.move_counts.auto.counts, length-set c.move_counts.new.counts (c.args.place + 1) 1)
 
 pub shape_of-codes : goal.shape_of-codes
 shape_of-codes c = c.put_code.auto.codes ∙ c.move_codes.auto.codes

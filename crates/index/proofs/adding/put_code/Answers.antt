@@ -28,10 +28,10 @@ pub overflow_add-k : goal.overflow_add-k
 overflow_add-k c = omega arith
 
 pub overflow_add-codes : goal.overflow_add-codes
-overflow_add-codes c = omega (arith, long_here c.before.before, c.requires.1)
+overflow_add-codes c = omega (arith, long_here (goal.at.overflow_add-codes c).At-loop-k, c.requires.1)
 
 pub bounds-codes-at-in-loop-k : goal.bounds-codes-at-in-loop-k
-bounds-codes-at-in-loop-k c = omega (arith, long_here c.before.before, c.requires.1)
+bounds-codes-at-in-loop-k c = omega (arith, long_here (goal.at.bounds-codes-at-in-loop-k c).At-loop-k, c.requires.1)
 
 pub loop-k-smaller : goal.loop-k-smaller
 loop-k-smaller c = omega arith
@@ -40,7 +40,7 @@ pub loop-k-preserved : goal.loop-k-preserved
 loop-k-preserved c = placing_next c.loop-k.invariant c.requires.0 c.loop-k-test.true c.byte_or_zero-b.ensures
 
 pub shape_of-codes : goal.shape_of-codes
-shape_of-codes c = long_here c.before
+shape_of-codes c = long_here (goal.at.shape_of-codes c).At-loop-k
 
 pub returns : goal.returns
 returns c = placing_done c.args.codes.now c.loop-k.invariant c.requires.0 c.loop-k-test.false

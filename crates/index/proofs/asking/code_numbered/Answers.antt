@@ -31,7 +31,7 @@ length_here c = c.length_at-length.ensures.0
 
 -- numbers are small
 small_here : (c : Else-wide-k) → c.args.k ≤ 512
-small_here c = omega (arith, named_here c, (room_here c.before.before.before.before).few_named)
+small_here c = omega (arith, named_here c, (room_here (goal.at.Else-wide-k c).Else-not-is_roomy).few_named)
 
 pub returns-then-not-is_roomy : goal.returns-then-not-is_roomy
 returns-then-not-is_roomy c =
@@ -41,15 +41,15 @@ returns-then-not-is_roomy c =
 pub returns-then-k-eq0 : goal.returns-then-k-eq0
 returns-then-k-eq0 c =
     let a = c.args in
-    code_zero a.codes.now a.counts.now a.k (roomy_here c.before) c.if-k-eq0.true
+    code_zero a.codes.now a.counts.now a.k (roomy_here (goal.at.returns-then-k-eq0 c).Else-not-is_roomy) c.if-k-eq0.true
 
 pub bounds-counts-0 : goal.bounds-counts-0
-bounds-counts-0 c = omega (arith, (room_here c.before.before).counts_room)
+bounds-counts-0 c = omega (arith, (room_here (goal.at.bounds-counts-0 c).Else-not-is_roomy).counts_room)
 
 pub returns-then-wide-k : goal.returns-then-wide-k
 returns-then-wide-k c =
     let a = c.args in
-    code_past a.codes.now a.counts.now a.k (roomy_here c.before.before.before.before) c.if-k-eq0.false
+    code_past a.codes.now a.counts.now a.k (roomy_here (goal.at.returns-then-wide-k c).Else-not-is_roomy) c.if-k-eq0.false
     (omega (arith, c.if-wide-k.true, c.wide.ensures.0))
 
 pub overflow_sub-at : goal.overflow_sub-at
@@ -59,32 +59,32 @@ pub overflow_mul-at : goal.overflow_mul-at
 overflow_mul-at c = omega (arith, small_here c)
 
 pub length_at-length-requires : goal.length_at-length-requires
-length_at-length-requires c = omega (arith, named_here c, c.if-k-eq0.false, (room_here c.before.before.before.before).codes_room, (room_here c.before.before.before.before).few_named)
+length_at-length-requires c = omega (arith, named_here c, c.if-k-eq0.false, (room_here (goal.at.length_at-length-requires c).Else-not-is_roomy).codes_room, (room_here (goal.at.length_at-length-requires c).Else-not-is_roomy).few_named)
 
 pub returns-then-length-eq0 : goal.returns-then-length-eq0
 returns-then-length-eq0 c =
     let a = c.args in
-    empty_place a.codes.now a.counts.now a.k (roomy_here c.before.before.before.before.before.before) c.if-k-eq0.false
-    (named_here c.before.before) (sym (length_here c.before) ∙ c.if-length-eq0.true)
+    empty_place a.codes.now a.counts.now a.k (roomy_here (goal.at.returns-then-length-eq0 c).Else-not-is_roomy) c.if-k-eq0.false
+    (named_here (goal.at.returns-then-length-eq0 c).Else-wide-k) (sym (length_here (goal.at.returns-then-length-eq0 c).After-length_at-length) ∙ c.if-length-eq0.true)
 
 pub returns-then-length-gt-CODE : goal.returns-then-length-gt-CODE
 returns-then-length-gt-CODE c =
     let a = c.args in
-    long-place a.codes.now a.counts.now a.k (roomy_here c.before.before.before.before.before.before.before) c.if-k-eq0.false
-    (named_here c.before.before.before) (λ e. c.if-length-eq0.false (length_here c.before.before ∙ e)) (omega (arith, c.if-length-gt-CODE.true, length_here c.before.before))
+    long-place a.codes.now a.counts.now a.k (roomy_here (goal.at.returns-then-length-gt-CODE c).Else-not-is_roomy) c.if-k-eq0.false
+    (named_here (goal.at.returns-then-length-gt-CODE c).Else-wide-k) (λ e. c.if-length-eq0.false (length_here (goal.at.returns-then-length-gt-CODE c).After-length_at-length ∙ e)) (omega (arith, c.if-length-gt-CODE.true, length_here (goal.at.returns-then-length-gt-CODE c).After-length_at-length))
 
 pub overflow_add-result : goal.overflow_add-result
-overflow_add-result c = omega (arith, small_here c.before.before.before)
+overflow_add-result c = omega (arith, small_here (goal.at.overflow_add-result c).Else-wide-k)
 
 pub offset_bounds-counts-k : goal.offset_bounds-counts-k
-offset_bounds-counts-k c = omega (arith, small_here c.before.before.before)
+offset_bounds-counts-k c = omega (arith, small_here (goal.at.offset_bounds-counts-k c).Else-wide-k)
 
 pub bounds-counts-k : goal.bounds-counts-k
-bounds-counts-k c = omega (arith, named_here c.before.before.before.before, (room_here c.before.before.before.before.before.before.before.before).counts_room, (room_here c.before.before.before.before.before.before.before.before).few_named)
+bounds-counts-k c = omega (arith, named_here (goal.at.bounds-counts-k c).Else-wide-k, (room_here (goal.at.bounds-counts-k c).Else-not-is_roomy).counts_room, (room_here (goal.at.bounds-counts-k c).Else-not-is_roomy).few_named)
 
 pub returns : goal.returns
 returns c =
     let a = c.args in
-    ap (λ (n : ℕ). At ((a.k - 1) * place_size + 1) n (get_or a.counts.now a.k 0)) (length_here c.before.before.before)
-    ∙ code-asked a.codes.now a.counts.now a.k (roomy_here c.before.before.before.before.before.before.before.before) c.if-k-eq0.false
-    (named_here c.before.before.before.before) (λ e. c.if-length-eq0.false (length_here c.before.before.before ∙ e)) (omega (arith, c.if-length-gt-CODE.false, length_here c.before.before.before))
+    ap (λ (n : ℕ). At ((a.k - 1) * place_size + 1) n (get_or a.counts.now a.k 0)) (length_here (goal.at.returns c).After-length_at-length)
+    ∙ code-asked a.codes.now a.counts.now a.k (roomy_here (goal.at.returns c).Else-not-is_roomy) c.if-k-eq0.false
+    (named_here (goal.at.returns c).Else-wide-k) (λ e. c.if-length-eq0.false (length_here (goal.at.returns c).After-length_at-length ∙ e)) (omega (arith, c.if-length-gt-CODE.false, length_here (goal.at.returns c).After-length_at-length))

@@ -19,11 +19,11 @@ roomy_here c = sym c.is_roomy.ensures ∙ c.if-not-is_roomy.false
 named_here : (c : Else-not-found) → c.find-found.result.at < codes_most
 named_here c =
     let a = c.args in
-    let within = found_within a.codes.now a.counts.now a.code.now (roomy_here c.before.before.before) c.find-found.ensures in
+    let within = found_within a.codes.now a.counts.now a.code.now (roomy_here (goal.at.Else-not-found c).Else-not-is_roomy) c.find-found.ensures in
     omega (
       arith,
-      within.entry (c.if-not-found.false),
-      (roomy_parts a.codes.now a.counts.now (roomy_here c.before.before.before)).few_named,
+      within.entry (not-false c.find-found.result.named c.if-not-found.false),
+      (roomy_parts a.codes.now a.counts.now (roomy_here (goal.at.Else-not-found c).Else-not-is_roomy)).few_named,
     )
 
 pub returns-then-not-is_roomy : goal.returns-then-not-is_roomy
@@ -35,22 +35,22 @@ returns-then-not-is_roomy c =
 pub returns-then-not-found : goal.returns-then-not-found
 returns-then-not-found c =
     let a = c.args in
-    not_named a.counts.now c.find-found.result (c.if-not-found.true)
-    ∙ count-found a.codes.now a.counts.now a.code.now (roomy_here c.before.before.before) c.find-found.ensures
+    not_named a.counts.now c.find-found.result (not-true c.find-found.result.named c.if-not-found.true)
+    ∙ count-found a.codes.now a.counts.now a.code.now (roomy_here (goal.at.returns-then-not-found c).Else-not-is_roomy) c.find-found.ensures
 
 pub overflow_add-result : goal.overflow_add-result
-overflow_add-result c = omega (arith, named_here c.before)
+overflow_add-result c = omega (arith, named_here (goal.at.overflow_add-result c).Else-not-found)
 
 pub offset_bounds-counts-found : goal.offset_bounds-counts-found
-offset_bounds-counts-found c = omega (arith, named_here c.before)
+offset_bounds-counts-found c = omega (arith, named_here (goal.at.offset_bounds-counts-found c).Else-not-found)
 
 pub bounds-counts-found : goal.bounds-counts-found
 bounds-counts-found c =
     let a = c.args in
-    omega (arith, named_here c.before.before, (roomy_parts a.codes.now a.counts.now (roomy_here c.before.before.before.before.before)).counts_room)
+    omega (arith, named_here (goal.at.bounds-counts-found c).Else-not-found, (roomy_parts a.codes.now a.counts.now (roomy_here (goal.at.bounds-counts-found c).Else-not-is_roomy)).counts_room)
 
 pub returns : goal.returns
 returns c =
     let a = c.args in
-    times_there a.counts.now c.find-found.result (c.if-not-found.false)
-    ∙ count-found a.codes.now a.counts.now a.code.now (roomy_here c.before.before.before.before.before) c.find-found.ensures
+    times_there a.counts.now c.find-found.result (not-false c.find-found.result.named c.if-not-found.false)
+    ∙ count-found a.codes.now a.counts.now a.code.now (roomy_here (goal.at.returns c).Else-not-is_roomy) c.find-found.ensures

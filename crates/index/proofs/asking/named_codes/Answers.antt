@@ -23,9 +23,9 @@ returns-then-not-is_roomy c =
 pub bounds-counts-0 : goal.bounds-counts-0
 bounds-counts-0 c =
     let a = c.args in
-    omega (arith, (roomy_parts a.codes.now a.counts.now (roomy_here c.before)).counts_room)
+    omega (arith, (roomy_parts a.codes.now a.counts.now (roomy_here (goal.at.bounds-counts-0 c).Else-not-is_roomy)).counts_room)
 
 pub returns : goal.returns
 returns c =
     let a = c.args in
-    ap Named c.wide.ensures.0 ∙ some-codes a.codes.now a.counts.now (roomy_here c.before.before)
+    ap Named c.wide.ensures.0 ∙ some-codes a.codes.now a.counts.now (roomy_here (goal.at.returns c).Else-not-is_roomy)

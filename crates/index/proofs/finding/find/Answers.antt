@@ -27,17 +27,17 @@ returns-then-not-is_roomy c =
 pub returns-then-code-gt-CODE : goal.returns-then-code-gt-CODE
 returns-then-code-gt-CODE c =
     let a = c.args in
-    c.missing-then-code-gt-CODE.ensures ∙ too_long a.codes.now a.counts.now a.code.now (roomy_here c.before.before) c.if-code-gt-CODE.true
+    c.missing-then-code-gt-CODE.ensures ∙ too_long a.codes.now a.counts.now a.code.now (roomy_here (goal.at.returns-then-code-gt-CODE c).Else-not-is_roomy) c.if-code-gt-CODE.true
 
 pub bounds-counts-0 : goal.bounds-counts-0
 bounds-counts-0 c =
     let a = c.args in
-    omega (arith, (roomy_parts a.codes.now a.counts.now (roomy_here c.before.before)).counts_room)
+    omega (arith, (roomy_parts a.codes.now a.counts.now (roomy_here (goal.at.bounds-counts-0 c).Else-not-is_roomy)).counts_room)
 
 pub seek-requires : goal.seek-requires
 seek-requires c =
     let a = c.args in
-    let r = roomy_parts a.codes.now a.counts.now (roomy_here c.before.before.before) in
+    let r = roomy_parts a.codes.now a.counts.now (roomy_here (goal.at.seek-requires c).Else-not-is_roomy) in
     (omega (arith, c.wide.ensures.0, r.few_named), r.codes_room, c.if-code-gt-CODE.false)
 
 pub returns : goal.returns
@@ -45,4 +45,4 @@ returns c =
     let a = c.args in
     c.seek.ensures
     ∙ ap (λ (n : ℕ). sought_among a.codes.now n a.code.now) c.wide.ensures.0
-    ∙ found_sought a.codes.now a.counts.now a.code.now (roomy_here c.before.before.before.before) c.if-code-gt-CODE.false
+    ∙ found_sought a.codes.now a.counts.now a.code.now (roomy_here (goal.at.returns c).Else-not-is_roomy) c.if-code-gt-CODE.false

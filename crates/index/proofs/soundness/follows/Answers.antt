@@ -19,7 +19,7 @@ use Rattle.index.proofs.soundness.follows.Goals.{After-compare, After-length_at-
 abbrev next_of : Else-not-has_code → ℕ
 next_of c = c.args.at + place_size
 
-length_here : (c : After-length_at-n) → c.length_at-n.result ≡ get_or c.args.codes.now (next_of c.before) 0
+length_here : (c : After-length_at-n) → c.length_at-n.result ≡ get_or c.args.codes.now (next_of (goal.at.After-length_at-n c).Else-not-has_code) 0
 length_here c = c.length_at-n.ensures.0
 
 is_length_here : (c : Else-not-has_code) → true ≡ is_length (get_or c.args.codes.now (next_of c) 0)
@@ -28,28 +28,28 @@ is_length_here c = sym (c.if-not-has_code.false) ∙ c.has_code.ensures
 fits_here : (c : After-length_at-n) → c.length_at-n.result ≤ code_most
 fits_here c =
     let codes = c.args.codes.now in
-    omega (arith, length_here c, length-short (get_or codes (next_of c.before) 0) (sym (is_length_here c.before)))
+    omega (arith, length_here c, length-short (get_or codes (next_of (goal.at.After-length_at-n c).Else-not-has_code) 0) (sym (is_length_here (goal.at.After-length_at-n c).Else-not-has_code)))
 
 -- the code at the next place, beside the one at this
 compared_here : (c : After-compare)
     → c.compare.result
-    ≡ compared (code_from c.args.codes.now (next_of c.before.before.before))
+    ≡ compared (code_from c.args.codes.now (next_of (goal.at.After-compare c).Else-not-has_code))
     (get_or c.args.codes.now c.args.at 0)
     (drop (c.args.at + 1) c.args.codes.now)
 compared_here c =
     let a = c.args in
-    let next = next_of c.before.before.before in
+    let next = next_of (goal.at.After-compare c).Else-not-has_code in
     c.compare.ensures
     ∙ ap
     (λ (n : ℕ). compared (take n (drop (next + 1) a.codes.now)) (get_or a.codes.now a.at 0) (drop (a.at + 1) a.codes.now))
-    (let e : next + 1 + c.length_at-n.result - (next + 1) ≡ get_or a.codes.now next 0 = omega (arith, length_here c.before.before) in e)
+    (let e : next + 1 + c.length_at-n.result - (next + 1) ≡ get_or a.codes.now next 0 = omega (arith, length_here (goal.at.After-compare c).After-length_at-n) in e)
 
 behind_here : (c : After-compare)
     → is_behind c.compare.result
     ≡ follows_at c.args.codes.now c.args.at
 behind_here c =
     let a = c.args in
-    code-there_decides a.codes.now a.at (is_length_here c.before.before.before) (compared_here c)
+    code-there_decides a.codes.now a.at (is_length_here (goal.at.After-compare c).Else-not-has_code) (compared_here c)
 
 pub overflow_add-next : goal.overflow_add-next
 overflow_add-next c = omega (arith, c.requires.0)
@@ -85,22 +85,22 @@ slice_bounds-compare-end c = omega (arith, c.requires.0, c.requires.1, fits_here
 
 pub compare-requires : goal.compare-requires
 compare-requires c =
-    let next = next_of c.before.before in
+    let next = next_of (goal.at.compare-requires c).Else-not-has_code in
     let n = next + 1 + c.length_at-n.result - (next + 1) in
     let codes = c.args.codes.now in
-    let fits : n ≤ code_most = omega (arith, fits_here c.before) in
+    let fits : n ≤ code_most = omega (arith, fits_here (goal.at.compare-requires c).After-length_at-n) in
     let part : length (take n (drop (next + 1) codes)) ≡ n =
     length-take-le n (drop (next + 1) codes) (omega (arith, fits, c.requires.0, c.requires.1, length-drop (next + 1) codes)) in
     omega (arith, part, fits, c.requires.0, c.requires.1)
 
 pub returns-in-Before : goal.returns-in-Before
 unfolding is_behind
-returns-in-Before c = ap is_behind (sym c.in-Before.is) ∙ behind_here c.before.before
+returns-in-Before c = ap is_behind (sym c.in-Before.is) ∙ behind_here (goal.at.returns-in-Before c).After-compare
 
 pub returns-in-Same : goal.returns-in-Same
 unfolding is_behind
-returns-in-Same c = ap is_behind (sym c.in-Same.is) ∙ behind_here c.before.before
+returns-in-Same c = ap is_behind (sym c.in-Same.is) ∙ behind_here (goal.at.returns-in-Same c).After-compare
 
 pub returns-in-After : goal.returns-in-After
 unfolding is_behind
-returns-in-After c = ap is_behind (sym c.in-After.is) ∙ behind_here c.before.before
+returns-in-After c = ap is_behind (sym c.in-After.is) ∙ behind_here (goal.at.returns-in-After c).After-compare

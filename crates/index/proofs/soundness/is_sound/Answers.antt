@@ -27,7 +27,7 @@ decided_here : (c : After-wide-named)
     ≡ sound_index c.args.codes.now c.args.counts.now
 decided_here c =
     let a = c.args in
-    ap (all_rise a.codes.now) c.wide-named.ensures.0 ∙ sound-decided a.codes.now a.counts.now (roomy_here c.before.before)
+    ap (all_rise a.codes.now) c.wide-named.ensures.0 ∙ sound-decided a.codes.now a.counts.now (roomy_here (goal.at.After-wide-named c).Else-not-is_roomy)
 
 pub returns-then-not-is_roomy : goal.returns-then-not-is_roomy
 returns-then-not-is_roomy c =
@@ -35,23 +35,23 @@ returns-then-not-is_roomy c =
     not_roomy_sound a.codes.now a.counts.now (sym c.is_roomy.ensures ∙ c.if-not-is_roomy.true)
 
 pub bounds-counts-0 : goal.bounds-counts-0
-bounds-counts-0 c = omega (arith, (room_here c.before).counts_room)
+bounds-counts-0 c = omega (arith, (room_here (goal.at.bounds-counts-0 c).Else-not-is_roomy).counts_room)
 
 pub returns-then-named-eq0 : goal.returns-then-named-eq0
-returns-then-named-eq0 c = none_rise c.args.codes.now c.wide-named.result c.if-named-eq0.true ∙ decided_here c.before
+returns-then-named-eq0 c = none_rise c.args.codes.now c.wide-named.result c.if-named-eq0.true ∙ decided_here (goal.at.returns-then-named-eq0 c).After-wide-named
 
 pub has_code-requires : goal.has_code-requires
-has_code-requires c = omega (arith, (room_here c.before.before.before).codes_room)
+has_code-requires c = omega (arith, (room_here (goal.at.has_code-requires c).Else-not-is_roomy).codes_room)
 
 pub returns-then-not-has_code : goal.returns-then-not-has_code
 returns-then-not-has_code c =
     first-fails c.args.codes.now c.wide-named.result c.if-named-eq0.false
     (sym (c.if-not-has_code.true) ∙ c.has_code.ensures)
-    ∙ decided_here c.before.before.before
+    ∙ decided_here (goal.at.returns-then-not-has_code c).After-wide-named
 
 pub rises-requires : goal.rises-requires
 rises-requires c =
-    let r = room_here c.before.before.before.before.before in
+    let r = room_here (goal.at.rises-requires c).Else-not-is_roomy in
     (at_least_one c.wide-named.result c.if-named-eq0.false, omega (arith, c.wide-named.ensures.0, r.few_named), r.codes_room)
 
 pub returns : goal.returns
@@ -59,4 +59,4 @@ returns c =
     c.rises.ensures
     ∙ first-rises c.args.codes.now c.wide-named.result c.if-named-eq0.false
     (sym (c.if-not-has_code.false) ∙ c.has_code.ensures)
-    ∙ decided_here c.before.before.before.before
+    ∙ decided_here (goal.at.returns c).After-wide-named
