@@ -3,6 +3,6 @@
 #![tactic(auto)]
 
 pub mod leaf;
-pub mod order;
+pub mod orders;
 pub mod row;
 pub mod text;
