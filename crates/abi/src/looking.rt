@@ -124,7 +124,7 @@ pub extern "C" fn sargaceu_same_order(
         ≡ same_order (lent (card_of card.now) segments.now leaves.now text.now) row
         (lent (card_of other_card.now) other_segments.now other_leaves.now other_text.now) other_row }
 {
-    look::orders::same_order(
+    look::order_rows::same_order(
         card::card_of(card),
         segments,
         leaves,

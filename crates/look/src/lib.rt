@@ -3,6 +3,6 @@
 #![tactic(auto)]
 
 pub mod leaf;
-pub mod orders;
+pub mod order_rows;
 pub mod row;
 pub mod text;

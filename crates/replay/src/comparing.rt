@@ -3,7 +3,7 @@ use crate::input::ROOM;
 use crate::output::{begin, end, put_yes_or_no};
 use crate::pieces::{bytes_at, number_at, row_at};
 use crate::tables::{AREA, ASKED, LEAVES, SEGMENTS, card_at};
-use look::orders::same_order;
+use look::order_rows::same_order;
 use table::rows::Entry;
 
 // Which piece the second table begins with.

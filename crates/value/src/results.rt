@@ -13,7 +13,7 @@ use crate::result::{is_numeric, result_of};
 use crate::sign::signed;
 use form::forms::Form;
 use form::number::Number;
-use look::orders::is_order;
+use look::order_rows::is_order;
 use table::{Card, rows};
 
 // What comes back (D6): 0, 13, 24 or 25, the place 0, and how many answers were put, 0 on a refusal.

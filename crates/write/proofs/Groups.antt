@@ -165,10 +165,10 @@ module _ {segments : List ℕ} {many : ℕ} {rows text : List ℕ} {count i firs
     said_so =
         said ∙ ap₂ (λ (k n : ℕ). row_states segments i k (first + 1) n) is (let e : leaves ≡ first + leaves - first = omega arith in e)
 
-    pub stated_wrong : not r ≡ true → false ≡ Whole
+    pub stated_wrong : r ≡ false → false ≡ Whole
     stated_wrong e = grouping_fails h v (answered_no said_so e)
 
-    pub stated_right : not r ≡ false → Grouping segments many rows text count (i + 1) (first + leaves)
+    pub stated_right : r ≡ true → Grouping segments many rows text count (i + 1) (first + leaves)
     stated_right e = grouping_on h v (answered_yes said_so e)
 
   grouping_over : (first < count) ⊎ (count ≤ first) → eqb first count ≡ groups_stated segments i 0 (first + 1) (by_segment (leaves_between rows text first count))

@@ -1,12 +1,12 @@
--- `look::orders::order_text` meets its contract: an order's text is what `find_leaf` finds.
+-- `look::order_rows::order_text` meets its contract: an order's text is what `find_leaf` finds.
 -- Assumes nothing.
 use mathlib.Core.Path.{sym, ◌∙◌}
 use Rattle.table.specs.Lent.{Lent, lent}
 use Rattle.look.specs.Looking.{order_place}
 use Rattle.look.proofs.Orders.{order-text, no_order}
 use borrow.Author.Rules.{rules}
-use Rattle.look.proofs.orders.order_text.Statement.{statement}
-use Rattle.look.proofs.orders.order_text.Tie as tie
+use Rattle.look.proofs.order_rows.order_text.Statement.{statement}
+use Rattle.look.proofs.order_rows.order_text.Tie as tie
 
 abbrev start_of : tie.After-is-order → tie.Start
 start_of c = c.before.before.before.before

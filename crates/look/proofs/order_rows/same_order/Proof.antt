@@ -1,4 +1,4 @@
--- `look::orders::same_order` meets its contract: by where the texts of the two orders lie.
+-- `look::order_rows::same_order` meets its contract: by where the texts of the two orders lie.
 -- Assumes nothing.
 use mathlib.Core.Path.{◌≡◌, sym, ◌∙◌}
 use Prim.Native.Nat.{◌+◌, ◌≤◌}
@@ -9,8 +9,8 @@ use Rattle.look.specs.declared.leaf.Sought.TheVariants.{At}
 use Rattle.look.specs.inner.Ordering.{order_text}
 use Rattle.look.proofs.Orders.{order-within, both_with_text, first_empty, first_not_there, second_empty, second_not_there}
 use borrow.Author.Rules.{rules}
-use Rattle.look.proofs.orders.same_order.Statement.{statement}
-use Rattle.look.proofs.orders.same_order.Tie as tie
+use Rattle.look.proofs.order_rows.same_order.Statement.{statement}
+use Rattle.look.proofs.order_rows.same_order.Tie as tie
 
 abbrev start_of : tie.After-order-text → tie.Start
 start_of c = c.before.before.before.before.before.before.before

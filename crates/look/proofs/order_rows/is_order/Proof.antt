@@ -1,4 +1,4 @@
--- `look::orders::is_order` meets its contract: the first test that fails, or the kind, decides.
+-- `look::order_rows::is_order` meets its contract: the first test that fails, or the kind, decides.
 -- Assumes nothing.
 use mathlib.Core.Bool.{true}
 use mathlib.Core.Path.{◌≡◌, sym, ◌∙◌}
@@ -10,8 +10,8 @@ use borrow.Author.Tests.{not-true, not-false, leb-true}
 use Rattle.table.specs.Rows.{segment_row_size}
 use Rattle.look.specs.Looking.{segments_fit}
 use Rattle.look.proofs.Orders.{count_past, row_zero, row_past, kind_decides}
-use Rattle.look.proofs.orders.is_order.Statement.{statement}
-use Rattle.look.proofs.orders.is_order.Tie as tie
+use Rattle.look.proofs.order_rows.is_order.Statement.{statement}
+use Rattle.look.proofs.order_rows.is_order.Tie as tie
 
 abbrev start_of : tie.Else1 → tie.Start
 start_of c = c.before.before.before
