@@ -1,0 +1,13 @@
+-- `look::text::same_bytes` meets its contract. The loop's invariant: what is left of both is the same exactly where they are.
+-- The measure is the bytes that are left. Assumes nothing.
+use Prim.Native.Nat.{◌-◌}
+use native.Mathlib.Omega.{arith}
+use lib.ListN.{length}
+use Rattle.laws.proofs.Comparing.{Comparing, compare_begins, lengths_differ, compare_equal, compare_differ, compare_done}
+use Rattle.look.proofs.text.same_bytes.Given as goal
+
+abbrev pub invariant-loop-at : goal.invariant-loop-at
+invariant-loop-at l = Comparing l.text l.other l.at
+
+abbrev pub decreases-loop-at : goal.decreases-loop-at
+decreases-loop-at l = length l.text - l.at
