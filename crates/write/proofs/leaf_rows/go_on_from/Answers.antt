@@ -1,0 +1,37 @@
+-- `write::leaf_rows::go_on_from` meets its contract: the third row's field, and then the bytes from its start on.
+-- Assumes nothing.
+use borrow.Author.Rules.{rules}
+use native.Mathlib.Omega.{arith}
+use mathlib.Core.Path.{refl, ◌∙◌}
+use Prim.Native.Nat.{◌≤◌, ◌*◌}
+use lib.ListN.{length}
+use Rattle.form.specs.Header.{splitting}
+use Rattle.table.proofs.Classes.{classes-set}
+use Rattle.write.proofs.LaidRows.{in_text_fits}
+use Rattle.write.proofs.GoingOn.{third_elsewhere, third_decides}
+use Rattle.table.specs.Rows.{leaf_row_size}
+use Rattle.write.proofs.leaf_rows.go_on_from.Goals as goal
+use Rattle.write.proofs.leaf_rows.go_on_from.Goals.{Start}
+
+-- three rows at least
+rows-there : (s : Start) → 3 * leaf_row_size ≤ length s.args.rows.now
+rows-there s = let laid = s.requires.laid in omega (arith, laid.in_text.sized, laid.three)
+
+pub bounds-rows : goal.bounds-rows
+bounds-rows c = omega (arith, rows-there (goal.at.bounds-rows c).Start)
+
+pub returns-then-rows-ne3 : goal.returns-then-rows-ne3
+returns-then-rows-ne3 c = third_elsewhere (splitting c.args.separators) c.args.rows.now c.args.text.now c.args.count c.requires.laid.three c.if-rows-ne3.true
+
+pub bounds-rows-2 : goal.bounds-rows-2
+bounds-rows-2 c = omega (arith, rows-there (goal.at.bounds-rows-2 c).Start)
+
+pub leaf_text-requires : goal.leaf_text-requires
+leaf_text-requires c =
+    let laid = c.requires.laid in
+    (omega (arith, c.wide.ensures.0, in_text_fits laid.in_text 2 laid.three), omega arith)
+
+pub returns : goal.returns
+returns c =
+    c.leaf_text.ensures c.args.separators (classes-set c.args.separators refl c.set_classes.ensures)
+    ∙ third_decides (splitting c.args.separators) c.args.rows.now c.args.text.now c.args.count c.requires c.if-rows-ne3.false c.wide.ensures.0

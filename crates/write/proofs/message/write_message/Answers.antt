@@ -1,0 +1,18 @@
+-- `write::message::write_message` meets its contract: a table that passed the test is one that the pass may go over.
+-- Assumes nothing.
+use borrow.Author.Rules.{rules}
+use Rattle.write.proofs.Answers.{tested-four, tested_writable, tested-answer}
+use Rattle.write.proofs.message.write_message.Goals as goal
+
+pub separators_at-separators-requires : goal.separators_at-separators-requires
+separators_at-separators-requires c = let pre = c.requires in tested-four pre.lawful pre.tested
+
+pub put_leaves-going-requires : goal.put_leaves-going-requires
+put_leaves-going-requires c =
+    let pre = c.requires in
+    tested_writable pre.lawful pre.tested c.separators_at-separators.ensures pre.roomy
+
+pub returns : goal.returns
+returns c =
+    let pre = c.requires in
+    tested-answer pre.lawful pre.tested c.separators_at-separators.ensures c.put_leaves-going.ensures

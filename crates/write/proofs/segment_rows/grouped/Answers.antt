@@ -1,0 +1,78 @@
+-- `write::segment_rows::grouped` meets its contract. The loop's invariant: the rows that are left give the whole, and the next segment begins in
+-- field 1.
+-- Assumes nothing.
+use borrow.Author.Rules.{rules}
+use native.Mathlib.Omega.{arith}
+use Prim.Native.Nat.{◌+◌, ◌-◌}
+use borrow.Author.Tests.{not-true, not-false}
+use Rattle.write.specs.inner.Tests.{SegmentEnd}
+use Rattle.write.proofs.Rising.{segment-head}
+use Rattle.write.proofs.Groups.{Grouping, FieldOne, grouping_begins, grouping_otherwise, stated_wrong, stated_right, grouping_done}
+use Rattle.write.proofs.segment_rows.grouped.Goals as goal
+use Rattle.write.proofs.segment_rows.grouped.Goals.{Else-not-has_leaves}
+
+-- the segment that begins here has as many leaves as its row says
+ended : (c : Else-not-has_leaves) → SegmentEnd c.args.rows.now c.args.count c.loop-i.first (c.loop-i.first + c.wide-leaves.result)
+ended c = c.has_leaves.ensures.0 (c.if-not-has_leaves.false)
+
+pub loop-i-init : goal.loop-i-init
+loop-i-init c = (grouping_begins, record { head = λ l. c.requires.head })
+
+pub overflow_mul-i : goal.overflow_mul-i
+overflow_mul-i c = omega arith
+
+pub overflow_add-i : goal.overflow_add-i
+overflow_add-i c = omega arith
+
+pub offset_bounds-segments-i : goal.offset_bounds-segments-i
+offset_bounds-segments-i c = omega arith
+
+pub bounds-segments-i : goal.bounds-segments-i
+bounds-segments-i c = omega arith
+
+pub has_leaves-requires : goal.has_leaves-requires
+has_leaves-requires c =
+    let pre = c.requires in
+    record { sized = pre.in_text.sized; to = c.loop-i.invariant.0.to; next = pre.next }
+
+pub returns-then-not-has_leaves : goal.returns-then-not-has_leaves
+returns-then-not-has_leaves c =
+    grouping_otherwise c.loop-i.invariant.0 (omega arith) c.wide-leaves.ensures.0
+    (c.has_leaves.ensures.1 (c.if-not-has_leaves.true))
+
+pub overflow_add-end : goal.overflow_add-end
+overflow_add-end c = omega (arith, (ended c).to, c.requires.in_text.few)
+
+pub kind_of-kind-requires : goal.kind_of-kind-requires
+kind_of-kind-requires c =
+    let v = ended c in
+    record {
+      leaves = record { in_text = c.requires.in_text; from = v.from; to = v.to };
+      head = c.loop-i.invariant.1.head (omega (arith, v.from, v.to));
+    }
+
+pub overflow_add-first : goal.overflow_add-first
+overflow_add-first c = omega (arith, c.loop-i.invariant.0.to, c.requires.in_text.few)
+
+pub row_states-requires : goal.row_states-requires
+row_states-requires c = omega (arith, c.requires.sized)
+
+pub returns-then-not-row_states : goal.returns-then-not-row_states
+returns-then-not-row_states c =
+    stated_wrong c.loop-i.invariant.0 (omega arith) c.wide-leaves.result (ended (goal.at.returns-then-not-row_states c).Else-not-has_leaves) c.kind_of-kind.ensures
+    c.row_states.ensures c.if-not-row_states.true
+
+pub overflow_add-i-in-loop-i : goal.overflow_add-i-in-loop-i
+overflow_add-i-in-loop-i c = omega arith
+
+pub loop-i-smaller : goal.loop-i-smaller
+loop-i-smaller c = omega arith
+
+pub loop-i-preserved : goal.loop-i-preserved
+loop-i-preserved c = (
+  stated_right c.loop-i.invariant.0 (omega arith) c.wide-leaves.result (ended (goal.at.loop-i-preserved c).Else-not-has_leaves) c.kind_of-kind.ensures c.row_states.ensures c.if-not-row_states.false,
+  record { head = segment-head c.args.rows.now c.args.count c.requires.in_text.sized c.requires.next (ended (goal.at.loop-i-preserved c).Else-not-has_leaves) },
+)
+
+pub returns : goal.returns
+returns c = grouping_done c.loop-i.invariant.0 (omega arith)
