@@ -1,0 +1,66 @@
+-- `read::census::count_row` meets its contract: a row that carries no code is passed over, a code that is too long is refused, any other is added.
+-- Assumes nothing.
+use mathlib.Core.List.{List}
+use mathlib.Core.Path.{◌≡◌, refl, sym, ap, ◌∙◌}
+use Prim.Native.Nat.{ℕ, ◌+◌, ◌≤◌, ◌<◌}
+use native.Mathlib.Omega.{arith}
+use lib.ListN.{length}
+use lib.Seq.{length-take-le}
+use borrow.Author.Rules.{rules}
+use Rattle.table.specs.Rows.{width}
+use Rattle.index.specs.Index.{code_most}
+use Rattle.read.specs.inner.Census.{carried_by, passed_over, long}
+use Rattle.read.proofs.CountedRows.{row-noted, row_started, no_result, result_code, code-ahead, code-held, code-tried}
+use Rattle.read.proofs.census.count_row.Goals as goal
+use Rattle.read.proofs.census.count_row.Goals.{After-take_code-length}
+
+-- what the row carries
+abbrev code_here : After-take_code-length → List ℕ
+code_here c = carried_by c.args.limits c.args.separators c.args.message.now c.args.row
+
+-- the code of the row, as it was taken
+code-size : (c : After-take_code-length) → c.take_code-length.result ≡ length (code_here c)
+code-size c = c.take_code-length.ensures.size_is ∙ ap length (sym (result_code c.requires c.if-kinds-row-ne-OBX.false))
+
+code-room : (c : After-take_code-length) → code_most ≤ length c.take_code-length.new.code
+code-room c = omega (arith, c.take_code-length.auto.code, c.requires.code_room)
+
+row_fits : (c : After-take_code-length) → c.args.row + 1 < width
+row_fits c = let pre = c.requires in omega (arith, pre.within, pre.given.few, pre.given.fits.segments)
+
+pub bounds-kinds-row : goal.bounds-kinds-row
+bounds-kinds-row c = row-noted c.requires
+
+pub returns-then-kinds-row-ne-OBX : goal.returns-then-kinds-row-ne-OBX
+returns-then-kinds-row-ne-OBX c = passed_over (no_result c.requires c.if-kinds-row-ne-OBX.true) refl refl refl
+
+pub bounds-starts-row : goal.bounds-starts-row
+bounds-starts-row c = row_started c.requires
+
+pub take_code-length-requires : goal.take_code-length-requires
+take_code-length-requires c = code-ahead c.requires c.if-kinds-row-ne-OBX.false
+
+pub returns-then-length-eq0 : goal.returns-then-length-eq0
+returns-then-length-eq0 c = passed_over (sym (code-size (goal.at.returns-then-length-eq0 c).After-take_code-length) ∙ c.if-length-eq0.true) refl refl refl
+
+pub overflow_add-result : goal.overflow_add-result
+overflow_add-result c = omega (arith, row_fits (goal.at.overflow_add-result c).After-take_code-length)
+
+pub returns-then-length-gt-CODE : goal.returns-then-length-gt-CODE
+returns-then-length-gt-CODE c = long (omega (arith, code-size (goal.at.returns-then-length-gt-CODE c).After-take_code-length, c.if-length-gt-CODE.true)) refl
+
+pub slice_bounds-add-end : goal.slice_bounds-add-end
+slice_bounds-add-end c = omega (arith, code-room (goal.at.slice_bounds-add-end c).After-take_code-length, c.if-length-gt-CODE.false)
+
+pub slice_bounds-add-end-2 : goal.slice_bounds-add-end-2
+slice_bounds-add-end-2 c = sym (length-take-le _ _ (omega (arith, code-room (goal.at.slice_bounds-add-end-2 c).After-take_code-length, c.if-length-gt-CODE.false)))
+
+pub overflow_add-result-2 : goal.overflow_add-result-2
+overflow_add-result-2 c = omega (arith, row_fits (goal.at.overflow_add-result-2 c).After-take_code-length, c.requires.few)
+
+pub returns : goal.returns
+returns c =
+    let pre = c.requires in
+    code-tried (code-held c.take_code-length.ensures (code-room (goal.at.returns c).After-take_code-length) c.if-length-gt-CODE.false ∙ sym (result_code pre c.if-kinds-row-ne-OBX.false))
+    (omega (arith, code-size (goal.at.returns c).After-take_code-length, c.if-length-eq0.false)) (omega (arith, code-size (goal.at.returns c).After-take_code-length, c.if-length-gt-CODE.false)) c.add.ensures
+    c.lower.ensures

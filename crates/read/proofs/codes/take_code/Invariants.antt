@@ -1,0 +1,19 @@
+-- `read::codes::take_code` meets its contract: each turn looks at one line of the segment, up to the code's end or the segment's.
+-- Assumes nothing.
+use mathlib.Core.Path.{◌∙◌}
+use Prim.Native.Nat.{◌-◌}
+use native.Mathlib.Omega.{arith}
+use lib.ListN.{length}
+use borrow.Author.Rules.{rules}
+use Rattle.laws.proofs.Bytes.{bytes-known}
+use Rattle.form.specs.declared.limits.Limits.{Limits}
+use Rattle.read.proofs.CodeLines.{AtCode, code-begins, line-takes, code-whole, code-ends, code_on, further}
+use Rattle.read.proofs.codes.take_code.Given as goal
+
+-- whatever the limits: from the first line's place the lines lead to this one's
+abbrev pub invariant-loop-taken : goal.invariant-loop-taken
+invariant-loop-taken l = (L : Limits) → AtCode L l.class l.kinds l.separators l.context l.message l.row (length l.initial.code) l.initial.from l.initial.taken.left l.initial.taken.length l.initial.code
+    → AtCode L l.class l.kinds l.separators l.context l.message l.row (length l.initial.code) l.from l.taken.left l.taken.length l.code
+
+abbrev pub decreases-loop-taken : goal.decreases-loop-taken
+decreases-loop-taken l = length l.message - l.from

@@ -1,0 +1,71 @@
+-- `read::codes::take_line` meets its contract: each turn gathers one byte, up to the line's end or the code's.
+-- Assumes nothing.
+use mathlib.Core.Bool.{true, false}
+use mathlib.Core.Path.{◌≡◌, refl, sym, ap, ◌∙◌, subst⁻¹}
+use Prim.Native.Nat.{ℕ, ◌-◌}
+use native.Mathlib.Omega.{arith}
+use lib.Dec.{eqb}
+use lib.ListN.{length, get_or}
+use borrow.Author.Rules.{rules}
+use Rattle.read.proofs.TakenLines.{Taking, taking_begins, taking_ends, taking_whole, taking_kept, taking_on}
+use Rattle.read.proofs.codes.take_line.Goals as goal
+use Rattle.read.proofs.codes.take_line.Goals.{After-index, At-loop-from}
+
+-- the class of the byte that a turn looks at
+abbrev sort_here : At-loop-from → ℕ
+sort_here c = get_or c.args.class.now (get_or c.args.message.now c.loop-from.at 0) 0
+
+class_here : (c : After-index) → {n : ℕ} → get_or c.args.class.now c.index.result 0 ≡ n → sort_here (goal.at.After-index c).At-loop-from ≡ n
+class_here c e = ap (λ (k : ℕ). get_or c.args.class.now k 0) (sym c.index.ensures.0) ∙ e
+
+class_back : (c : After-index) → {n : ℕ} → sort_here (goal.at.After-index c).At-loop-from ≡ n → get_or c.args.class.now c.index.result 0 ≡ n
+class_back c e = ap (λ (k : ℕ). get_or c.args.class.now k 0) c.index.ensures.0 ∙ e
+
+pub loop-from-init : goal.loop-from-init
+loop-from-init c = taking_begins c.requires
+
+pub bounds-message-at : goal.bounds-message-at
+bounds-message-at c = omega (arith, c.loop-from.invariant.inside)
+
+pub bounds-class-index : goal.bounds-class-index
+bounds-class-index c = omega (arith, c.index.ensures.1)
+
+pub shape_of-code-then-sort-eq5 : goal.shape_of-code-then-sort-eq5
+shape_of-code-then-sort-eq5 c = c.loop-from.invariant.same
+
+pub returns-then-sort-eq5 : goal.returns-then-sort-eq5
+returns-then-sort-eq5 c = taking_ends c.loop-from.invariant (class_here (goal.at.returns-then-sort-eq5 c).After-index c.if-sort-eq5.true)
+
+pub overflow_add-at : goal.overflow_add-at
+overflow_add-at c = omega (arith, c.loop-from.invariant.inside, c.well_formed)
+
+pub shape_of-code-then-sort-ne0 : goal.shape_of-code-then-sort-ne0
+shape_of-code-then-sort-ne0 c = c.loop-from.invariant.same
+
+pub returns-then-sort-ne0 : goal.returns-then-sort-ne0
+returns-then-sort-ne0 c = taking_whole c.loop-from.invariant (λ e. c.if-sort-eq5.false (class_back (goal.at.returns-then-sort-ne0 c).After-index e)) c.if-left-eq1.true (λ e. c.if-sort-ne0.true (class_back (goal.at.returns-then-sort-ne0 c).After-index e)) _
+
+pub keep-requires : goal.keep-requires
+keep-requires c = c.loop-from.invariant.room
+
+pub overflow_add-length : goal.overflow_add-length
+overflow_add-length c = omega (arith, c.loop-from.invariant.short, c.loop-from.invariant.inside, c.well_formed)
+
+pub loop-from-smaller-then-left-eq1 : goal.loop-from-smaller-then-left-eq1
+loop-from-smaller-then-left-eq1 c = omega (arith, c.loop-from.invariant.inside)
+
+pub loop-from-preserved-then-left-eq1 : goal.loop-from-preserved-then-left-eq1
+loop-from-preserved-then-left-eq1 c =
+    subst⁻¹ (Taking _ _ _ _ _ _ _ _ _) c.keep.ensures
+    (taking_kept c.loop-from.invariant (λ e. c.if-sort-eq5.false (class_back (goal.at.loop-from-preserved-then-left-eq1 c).After-index e)) c.if-left-eq1.true (class_here (goal.at.loop-from-preserved-then-left-eq1 c).After-index c.if-sort-ne0.false))
+
+pub fields_left-left-requires : goal.fields_left-left-requires
+fields_left-left-requires c = c.loop-from.invariant.begun
+
+pub loop-from-smaller : goal.loop-from-smaller
+loop-from-smaller c = omega (arith, c.loop-from.invariant.inside)
+
+pub loop-from-preserved : goal.loop-from-preserved
+loop-from-preserved c =
+    taking_on c.loop-from.invariant (λ e. c.if-sort-eq5.false (class_back (goal.at.loop-from-preserved c).After-index e)) c.if-left-eq1.false
+    (c.fields_left-left.ensures ∙ ap (λ (k : ℕ). elim (eqb k 1) [ true ↦ c.loop-from.left - 1 | false ↦ c.loop-from.left ]) (class_back (goal.at.loop-from-preserved c).After-index refl))

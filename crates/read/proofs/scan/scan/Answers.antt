@@ -1,0 +1,47 @@
+-- `read::scan::scan` meets its contract. The loop's invariant: what is left from `i` on gives the whole (`Scanning`).
+-- Assumes nothing.
+use mathlib.Core.Logic.{⊎_elim}
+use mathlib.Core.Path.{subst⁻¹}
+use Prim.Native.Nat.{◌+◌, ◌-◌}
+use native.Mathlib.Omega.{arith}
+use borrow.Author.Rules.{rules}
+use Rattle.read.proofs.Scanning.{Scanning, scan_begins, scan_stops, scan_marks, scan_passes, scan_ends}
+use Rattle.read.proofs.scan.scan.Goals as goal
+use Rattle.read.proofs.scan.scan.Goals.{then-sort-gt0+else-sort-eq5, else-sort-gt0}
+
+pub loop-i-init : goal.loop-i-init
+loop-i-init c = scan_begins (omega arith)
+
+pub bounds-message-i : goal.bounds-message-i
+bounds-message-i c = omega arith
+
+pub returns-then-sort-eq5 : goal.returns-then-sort-eq5
+returns-then-sort-eq5 c =
+    let scanned = scan_stops c.loop-i.invariant (omega arith) (omega arith) c.index.ensures.0 c.if-sort-eq5.true in
+    (scanned.end, scanned.marked)
+
+pub overflow_add-separators : goal.overflow_add-separators
+overflow_add-separators c = omega (arith, c.loop-i.invariant.few)
+
+pub overflow_add-i : goal.overflow_add-i
+overflow_add-i c = omega arith
+
+pub loop-i-smaller : goal.loop-i-smaller
+loop-i-smaller c = omega arith
+
+pub loop-i-preserved : goal.loop-i-preserved
+loop-i-preserved c =
+    let a = c.args in
+    elim c.if-sort-gt0.branch [
+      | then-sort-gt0+else-sort-eq5 w ↦
+          subst⁻¹ (Scanning a.class.now a.message.now a.from a.stop (c.loop-i.i + 1)) w.separators-is
+          (scan_marks c.loop-i.invariant (omega arith) (omega arith) c.index.ensures.0 w.if-sort-eq5.false w.if-sort-gt0.true)
+      | else-sort-gt0 w ↦
+          subst⁻¹ (Scanning a.class.now a.message.now a.from a.stop (c.loop-i.i + 1)) w.separators-is
+          (scan_passes c.loop-i.invariant (omega arith) (omega arith) c.index.ensures.0 w.if-sort-gt0.false)
+    ]
+
+pub returns : goal.returns
+returns c =
+    let scanned = scan_ends c.loop-i.invariant (omega arith) in
+    (scanned.end, scanned.marked)
