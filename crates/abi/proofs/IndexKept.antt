@@ -38,13 +38,13 @@ module _ (L : Limits) (message text segments leaves codes counts tally answer : 
   pub indexed_answer_kept : length answer < 6
       → (r ≡ 1) × (text' ≡ text) × (segments' ≡ segments) × (leaves' ≡ leaves) × (codes' ≡ codes) × (counts' ≡ counts) × (tally' ≡ tally) × (answer' ≡ answer)
   indexed_answer_kept h =
-      only.read-indexed L message text segments leaves codes counts tally answer read
+      only.read_indexed L message text segments leaves codes counts tally answer read
       (indexed_short_answer L message text segments leaves codes counts tally answer h)
 
   pub indexed_tally_kept : length tally < 3
       → (r ≡ 1) × (text' ≡ text) × (segments' ≡ segments) × (leaves' ≡ leaves) × (codes' ≡ codes) × (counts' ≡ counts) × (tally' ≡ tally) × (answer' ≡ answer)
   indexed_tally_kept h =
-      only.read-indexed L message text segments leaves codes counts tally answer read
+      only.read_indexed L message text segments leaves codes counts tally answer read
       (indexed_short_tally L message text segments leaves codes counts tally answer h)
 
 -- any refusal of it: table, index and tally are kept

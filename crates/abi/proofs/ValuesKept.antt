@@ -24,7 +24,7 @@ value-short-kept text answer read h = only.read-value text answer read (value-sh
 pub text-short-kept : (whole : ℤ) (decimals : ℕ) (output answer : List ℕ) {r : ℕ} {output' answer' : List ℕ}
     → WroteValueInto whole decimals output answer r output' answer' → length answer < 1 → (r ≡ 1) × (output' ≡ output) × (answer' ≡ answer)
 text-short-kept whole decimals output answer wrote h =
-    only.write-value whole decimals output answer wrote (spelling-short whole decimals output answer h)
+    only.write_value whole decimals output answer wrote (spelling-short whole decimals output answer h)
 
 pub order-short-kept : (L : Limits) (t : Lent) (order : ℕ) (numbers : List ℕ) (wholes : List ℤ) (decimals answer : List ℕ) {r : ℕ}
     {numbers' : List ℕ} {wholes' : List ℤ} {decimals' answer' : List ℕ}

@@ -32,10 +32,10 @@ module _ (L : Limits) (lawful : Lawful L) (levels : ℕ → ℕ → ℕ) where
         one-reading = λ message g h. reader.only_one L levels message g h;
         refused-reading = λ message g refused. reads.refused_unchanged L levels message g refused;
         one-writing = λ table g h. writes.one-writing L lawful levels table g h;
-        refused-writing = λ table g refused. writes.refused-as-it-was L lawful levels table g refused;
-        leaf-found = looks.finds-exactly;
-        leaf-found_in_segment = looks.finds-in-segment-exactly;
-        row-found = looks.finds-row-exactly;
+        refused-writing = λ table g refused. writes.refused_as_it_was L lawful levels table g refused;
+        leaf-found = looks.finds_exactly;
+        leaf-found_in_segment = looks.finds_in_segment_exactly;
+        row-found = looks.finds_row_exactly;
         orders-compared = looks.same-orders;
       }
 
@@ -44,7 +44,7 @@ module _ (L : Limits) (lawful : Lawful L) (levels : ℕ → ℕ → ℕ) where
       record {
         accepted-table = λ message g yes. reads.accepted-table L levels message g yes;
         table-left = λ message g yes. left.table-left L lawful levels message g yes;
-        written-table = λ table g yes. writes.wrote-table L lawful levels table g yes;
+        written-table = λ table g yes. writes.wrote_table L lawful levels table g yes;
         written_exactly = λ table g. writes.written_exactly L lawful levels table g;
         short_exactly = λ table g. writes.short_exactly L lawful levels table g;
         none_exactly = λ table g. writes.none_exactly L lawful levels table g;
@@ -61,7 +61,7 @@ module _ (L : Limits) (lawful : Lawful L) (levels : ℕ → ℕ → ℕ) where
         one_derivation = order.one_derivation;
         each-owner = λ message read i h. owners.owners-column read i h;
         watcher-yes = watcher.yes_exactly;
-        watcher_no = refusals.changes-on-a-no tell_of (λ w k. refl);
+        watcher_no = refusals.changes_on_a_no tell_of (λ w k. refl);
         cut_anyhow = λ message other one two same g h. reads.cut_anyhow L lawful levels message other one two same g h;
       }
 

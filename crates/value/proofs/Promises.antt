@@ -21,7 +21,7 @@ pub one_value : (most : ℕ) → 1 ≤ most → OneValue most
 one_value most one =
     record {
       one-reading = λ text r s. only.read-value most text r s;
-      one-writing = λ whole decimals output. only.write-value most whole decimals output;
+      one-writing = λ whole decimals output. only.write_value most whole decimals output;
       reads_exactly = λ whole decimals text. (reads_spelt most text whole decimals, spelt_reads most text whole decimals);
       no_number = no_number most;
       many_digits_lem = many_digits_lem most;
