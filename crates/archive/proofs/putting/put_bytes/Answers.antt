@@ -1,0 +1,32 @@
+-- `archive::putting::put_bytes` meets its contract: what is left of the bytes, put from here on, gives what all of them give.
+-- Assumes nothing.
+use mathlib.Core.Path.{refl}
+use Prim.Native.Nat.{◌-◌}
+use native.Mathlib.Omega.{arith}
+use lib.ListN.{length}
+use Rattle.read.proofs.AtTheFront.{Putting, putting_begins, putting_next, putting_done}
+use Rattle.archive.proofs.putting.put_bytes.Goals as goal
+
+pub loop-at-init : goal.loop-at-init
+loop-at-init c = putting_begins c.args.to.now c.args.text.now
+
+pub bounds-text-at : goal.bounds-text-at
+bounds-text-at c = omega arith
+
+pub bounds-to-at : goal.bounds-to-at
+bounds-to-at c = omega (arith, c.loop-at.invariant.long)
+
+pub overflow_add-at : goal.overflow_add-at
+overflow_add-at c = omega arith
+
+pub loop-at-smaller : goal.loop-at-smaller
+loop-at-smaller c = omega arith
+
+pub loop-at-preserved : goal.loop-at-preserved
+loop-at-preserved c = putting_next c.loop-at.invariant c.loop-at-test.true refl
+
+pub shape_of-to : goal.shape_of-to
+shape_of-to c = c.loop-at.invariant.long
+
+pub returns : goal.returns
+returns c = putting_done c.loop-at.invariant c.loop-at-test.false

@@ -1,0 +1,38 @@
+-- `archive::putting::put_numbers` meets its contract: what is left of the numbers, put from here on, gives what all of them give.
+-- Assumes nothing.
+use borrow.Author.Rules.{rules}
+use Prim.Native.Nat.{◌-◌}
+use native.Mathlib.Omega.{arith}
+use lib.ListN.{length}
+use Rattle.read.proofs.AtTheFront.{Putting, putting_begins, putting_next, putting_done}
+use Rattle.archive.proofs.putting.put_numbers.Goals as goal
+
+pub loop-at-init : goal.loop-at-init
+loop-at-init c = putting_begins c.args.to.now c.args.numbers.now
+
+pub offset_bounds-numbers-at : goal.offset_bounds-numbers-at
+offset_bounds-numbers-at c = omega arith
+
+pub bounds-numbers-at : goal.bounds-numbers-at
+bounds-numbers-at c = omega arith
+
+pub offset_bounds-to-at : goal.offset_bounds-to-at
+offset_bounds-to-at c = omega arith
+
+pub bounds-to-at : goal.bounds-to-at
+bounds-to-at c = omega (arith, c.loop-at.invariant.long)
+
+pub overflow_add-at : goal.overflow_add-at
+overflow_add-at c = omega arith
+
+pub loop-at-smaller : goal.loop-at-smaller
+loop-at-smaller c = omega arith
+
+pub loop-at-preserved : goal.loop-at-preserved
+loop-at-preserved c = putting_next c.loop-at.invariant c.loop-at-test.true c.wide.ensures
+
+pub shape_of-to : goal.shape_of-to
+shape_of-to c = c.loop-at.invariant.long
+
+pub returns : goal.returns
+returns c = putting_done c.loop-at.invariant c.loop-at-test.false

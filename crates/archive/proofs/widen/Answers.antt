@@ -1,0 +1,69 @@
+-- `archive::widen` meets its contract: each return is one outcome.
+-- Assumes nothing.
+use borrow.Author.Rules.{rules}
+use native.Mathlib.Omega.{arith}
+use mathlib.Core.Bool.{true, false}
+use mathlib.Core.Path.{◌≡◌, sym, ◌∙◌}
+use Rattle.form.specs.declared.forms.Form.TheVariants.{Small}
+use Rattle.form.specs.Forms.{small_form, limits_of}
+use Rattle.form.specs.Limits.{Lawful}
+use Rattle.form.proofs.TwoForms.{form_lawful}
+use Rattle.table.specs.Lent.{Lent, lent}
+use Rattle.table.specs.Reading.{Room, room_of, short}
+use Rattle.write.proofs.Said.{answered_no, answered_yes}
+use Rattle.archive.specs.Widening.{ever_read}
+use Rattle.archive.proofs.Outcomes.{short-text, short-segments, short-leaves, none-short, widening-short, widening-never, refusal_gives}
+use Rattle.archive.proofs.WidenedTables.{given-put}
+use Rattle.archive.proofs.widen.Goals as goal
+use Rattle.archive.proofs.widen.Goals.{Else-new_leaves, Else-not-ever_read, Start}
+
+small_lawful : Lawful small_form
+unfolding limits_of
+small_lawful = form_lawful Small
+
+-- the lent table, and the lengths of the new buffers
+abbrev table : Start → Lent
+table s = lent s.args.card s.args.segments.now s.args.leaves.now s.args.text.now
+
+abbrev room : Start → Room
+room s = room_of s.args.new_text.now s.args.new_segments.now s.args.new_leaves.now
+
+-- where no new buffer is short
+roomy : (c : Else-new_leaves) → short small_form (room (goal.at.Else-new_leaves c).Start) ≡ false
+roomy c = none-short small_form (room (goal.at.Else-new_leaves c).Start) c.if-new_text-lt-BYTES.false c.if-new_segments.false c.if-new_leaves.false
+
+-- and where a reader gave the table
+given : (c : Else-not-ever_read) → ever_read small_form (table (goal.at.Else-not-ever_read c).Start) ≡ true
+given c = answered_yes c.ever_read.ensures c.if-not-ever_read.false
+
+pub returns-then-new_text-lt-BYTES : goal.returns-then-new_text-lt-BYTES
+returns-then-new_text-lt-BYTES c = refusal_gives (widening-short small_form (room (goal.at.returns-then-new_text-lt-BYTES c).Start) (table (goal.at.returns-then-new_text-lt-BYTES c).Start) (short-text small_form (room (goal.at.returns-then-new_text-lt-BYTES c).Start) c.if-new_text-lt-BYTES.true)) c.refuse.ensures
+
+pub overflow_mul-t-10 : goal.overflow_mul-t-10
+overflow_mul-t-10 c = omega arith
+
+pub returns-then-new_segments : goal.returns-then-new_segments
+returns-then-new_segments c =
+    refusal_gives (widening-short small_form (room (goal.at.returns-then-new_segments c).Start) (table (goal.at.returns-then-new_segments c).Start) (short-segments small_form (room (goal.at.returns-then-new_segments c).Start) c.if-new_text-lt-BYTES.false c.if-new_segments.true))
+    c.refuse-then-new_segments.ensures
+
+pub overflow_mul-t-10-2 : goal.overflow_mul-t-10-2
+overflow_mul-t-10-2 c = omega arith
+
+pub returns-then-new_leaves : goal.returns-then-new_leaves
+returns-then-new_leaves c =
+    refusal_gives
+    (widening-short small_form (room (goal.at.returns-then-new_leaves c).Start) (table (goal.at.returns-then-new_leaves c).Start) (short-leaves small_form (room (goal.at.returns-then-new_leaves c).Start) c.if-new_text-lt-BYTES.false c.if-new_segments.false c.if-new_leaves.true))
+    c.refuse-then-new_leaves.ensures
+
+pub returns-then-not-ever_read : goal.returns-then-not-ever_read
+returns-then-not-ever_read c =
+    refusal_gives
+    (widening-never small_form (room (goal.at.returns-then-not-ever_read c).Start) (table (goal.at.returns-then-not-ever_read c).Start) (roomy (goal.at.returns-then-not-ever_read c).Else-new_leaves) (answered_no c.ever_read.ensures c.if-not-ever_read.true))
+    c.refuse-then-not-ever_read.ensures
+
+pub put_table-requires : goal.put_table-requires
+put_table-requires c = record { given = given (goal.at.put_table-requires c).Else-not-ever_read; roomy = roomy (goal.at.put_table-requires c).Else-new_leaves }
+
+pub returns : goal.returns
+returns c = given-put small_form small_lawful (table (goal.at.returns c).Start) (given (goal.at.returns c).Else-not-ever_read) (roomy (goal.at.returns c).Else-new_leaves) c.put_table.ensures
