@@ -44,6 +44,7 @@ struct Shown {
 
 // Writes the verdict and a line for each row.
 pub fn write_message(
+    rt: &impl Print,
     message: &[u8],
     card: Card,
     segments: &[rows::Entry],
@@ -56,35 +57,35 @@ pub fn write_message(
         line: greater(LINE, count_digits(count_ends(message))),
         width,
     };
-    write_accepted(card, count_lines(message), message.len());
-    write_heading(columns);
-    write_rows(message, card, segments, leaves, text, columns);
-    write_letters(message);
+    write_accepted(rt, card, count_lines(message), message.len());
+    write_heading(rt, columns);
+    write_rows(rt, message, card, segments, leaves, text, columns);
+    write_letters(rt, message);
 }
 
 // Advice on a message whose letters are in UTF-8, though it is accepted: all of it reads as UTF-8, and some letters have several bytes.
-fn write_letters(message: &[u8]) {
+fn write_letters(rt: &impl Print, message: &[u8]) {
     let characters = characters_of(message);
     if !characters.sound {
         return;
     }
     if characters.count < message.len() {
         let mut line = [0; ROOM];
-        write_whole(&mut line, Pen::begin(ROOM));
-        write_advice(Advice::ReadLetters);
+        write_whole(rt, &mut line, Pen::begin(ROOM));
+        write_advice(rt, Advice::ReadLetters);
     }
 }
 
 // An empty line, and the columns' headings.
-fn write_heading(columns: Columns) {
+fn write_heading(rt: &impl Print, columns: Columns) {
     let mut line = [0; ROOM];
     let pen = Pen::begin(ROOM);
-    write_whole(&mut line, pen);
+    write_whole(rt, &mut line, pen);
     let pen = put_padding(&mut line, pen, columns.row, ROW);
     let pen = put(&mut line, pen, b"row  ");
     let pen = put_padding(&mut line, pen, columns.line, LINE);
     let pen = put(&mut line, pen, b"line");
-    write_whole(&mut line, pen);
+    write_whole(rt, &mut line, pen);
 }
 
 // Spaces for what a column has more than its heading.
@@ -97,6 +98,7 @@ fn put_padding(line: &mut [u8; ROOM], pen: Pen, columns: usize, heading: usize) 
 
 // A line for each row. The rows are those of the table, gone through in the file.
 fn write_rows(
+    rt: &impl Print,
     message: &[u8],
     card: Card,
     segments: &[rows::Entry],
@@ -122,7 +124,7 @@ fn write_rows(
             line,
             lines: run.lines,
         };
-        write_row(card, segments, leaves, text, columns, shown);
+        write_row(rt, card, segments, leaves, text, columns, shown);
         line = sum(line, count_ends(&message[at..next]));
         at = next;
     }
@@ -130,6 +132,7 @@ fn write_rows(
 
 // The line of a row.
 fn write_row(
+    rt: &impl Print,
     card: Card,
     segments: &[rows::Entry],
     leaves: &[rows::Entry],
@@ -148,7 +151,7 @@ fn write_row(
     let pen = put_kind(&mut line, pen, kind);
     let pen = put_lines(&mut line, pen, shown.lines);
     let pen = put_fields(&mut line, pen, card, segments, leaves, text, row, kind);
-    write_cut(&mut line, pen);
+    write_cut(rt, &mut line, pen);
 }
 
 // How many lines a row takes, where it is more than one.

@@ -3,12 +3,12 @@ use crate::advice::Advice;
 use crate::output::{Pen, ROOM, put, write_whole};
 
 // Writes a piece of advice; nothing where there is none.
-pub fn write_advice(advice: Advice) {
+pub fn write_advice(rt: &impl Print, advice: Advice) {
     let mut line = [0; ROOM];
     let pen = put(&mut line, Pen::begin(ROOM), b"advice: ");
     let advised = put_advice(&mut line, pen, advice);
     if pen.columns < advised.columns {
-        write_whole(&mut line, advised);
+        write_whole(rt, &mut line, advised);
     }
 }
 

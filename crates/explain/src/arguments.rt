@@ -3,6 +3,7 @@ ghost use Rattle.std.specs.Prelude.{◌<◌};
 
 use form::forms::Form;
 use look::text::same_bytes;
+use std::env::Env;
 
 // The arguments' places. The program's own name is at 0.
 const FORM: usize = 1;
@@ -20,9 +21,9 @@ const NARROWEST: usize = 40;
 const WIDEST: usize = 1000;
 
 // The form that a message is judged by: the small one where the first argument is `small`, and else the large one.
-pub fn form_asked() -> Form {
+pub fn form_asked(rt: &impl Env) -> Form {
     let mut word = [0; LONGEST];
-    let length = os::arg(FORM, &mut word);
+    let length = rt.arg(FORM, &mut word).unwrap_or(0);
     if same_bytes(&word[..length], b"small") {
         return Form::Small;
     }
@@ -30,9 +31,9 @@ pub fn form_asked() -> Form {
 }
 
 // The columns that a line may have: the second argument where it is a number that makes sense, and else 80.
-pub fn width_asked() -> usize {
+pub fn width_asked(rt: &impl Env) -> usize {
     let mut word = [0; LONGEST];
-    let length = os::arg(WIDTH, &mut word);
+    let length = rt.arg(WIDTH, &mut word).unwrap_or(0);
     let width = number_of(&word[..length]);
     if width < NARROWEST {
         return USUAL;

@@ -16,7 +16,7 @@ struct Marked {
 }
 
 // Writes the line around a spot, from CR to CR, and under it the mark.
-pub fn write_excerpt(message: &[u8], spot: Spot, width: usize) {
+pub fn write_excerpt(rt: &impl Print, message: &[u8], spot: Spot, width: usize) {
     let mut line = [0; ROOM];
     let start = line_start(message, spot.offset);
     let from = window_start(message, start, spot.offset, room_before(width));
@@ -30,11 +30,14 @@ pub fn write_excerpt(message: &[u8], spot: Spot, width: usize) {
     );
     let marked = put_marked(&mut line, pen, message, spot);
     let rest = put_rest(&mut line, marked, message, spot);
-    write_cut(&mut line, rest);
-    write_mark(Marked {
-        from: pen.columns,
-        to: lesser(marked.columns, width),
-    });
+    write_cut(rt, &mut line, rest);
+    write_mark(
+        rt,
+        Marked {
+            from: pen.columns,
+            to: lesser(marked.columns, width),
+        },
+    );
 }
 
 // The columns that there are for what stands before the place.
@@ -108,13 +111,13 @@ fn put_rest(line: &mut [u8; ROOM], pen: Pen, message: &[u8], spot: Spot) -> Pen 
 }
 
 // Writes the mark.
-fn write_mark(marked: Marked) {
+fn write_mark(rt: &impl Print, marked: Marked) {
     let mut line = [0; ROOM];
     let pen = put_times(&mut line, Pen::begin(ROOM), b' ', marked.from);
     if marked.to <= marked.from {
-        write_whole(&mut line, pen);
+        write_whole(rt, &mut line, pen);
         return;
     }
     let under = put_times(&mut line, pen, b'^', marked.to - marked.from);
-    write_whole(&mut line, under);
+    write_whole(rt, &mut line, under);
 }

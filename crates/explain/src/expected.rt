@@ -14,7 +14,7 @@ use form::number::Number;
 use form::separators::{Header, Separators};
 
 // Writes what was expected.
-pub fn write_expected(message: &[u8], case: Case, spot: Spot) {
+pub fn write_expected(rt: &impl Print, message: &[u8], case: Case, spot: Spot) {
     let mut line = [0; ROOM];
     let pen = put(&mut line, Pen::begin(ROOM), b"expected: ");
     let number = case.number;
@@ -30,7 +30,7 @@ pub fn write_expected(message: &[u8], case: Case, spot: Spot) {
         ),
         _ => put_in_rows(&mut line, pen, message, case, spot),
     };
-    write_whole(&mut line, pen);
+    write_whole(rt, &mut line, pen);
 }
 
 // The same where it is about rows, so that the header is sound.

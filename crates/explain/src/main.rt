@@ -1,6 +1,6 @@
 // Explains the answer on the message that comes on standard input: why and where it is refused, what was expected there and what to do about it; or, where
 // it is accepted, what its rows are and on which lines they stand. The first line is the verdict in short. The command is ./explain. Where the input cannot
-// be read nothing is printed: a program has no exit status, and an empty message has a line.
+// be read nothing is printed, which tells it: the exit status is always 0, and an empty message has a line.
 #![tactic(auto)]
 
 mod accepted;
@@ -37,6 +37,7 @@ use crate::refused::write_refusal;
 use crate::rest::{Rest, read_rest};
 use form::forms::{Form, LargeForm};
 use form::number::Number;
+use std::env::Env;
 use table::rows;
 
 // One byte past the longest message, enough to tell that a message is too long.
@@ -49,25 +50,27 @@ const SEGMENTS: usize = LargeForm::SEGMENTS * rows::SEGMENT_ROW;
 
 const LEAVES: usize = LargeForm::LEAVES * rows::LEAF_ROW;
 
-fn main() {
+fn main(rt: HostRuntime) {
     let mut message = [0; MESSAGE];
     let mut text = [0; TEXT];
     let mut segments = [0; SEGMENTS];
     let mut leaves = [0; LEAVES];
-    answer_input(&mut message, &mut text, &mut segments, &mut leaves);
+    answer_input(&rt, &mut message, &mut text, &mut segments, &mut leaves);
 }
 
 // Takes in the message, counts what does not fit, and says what there is to say of it. The buffers come as arrays: their types state their lengths then,
 // and no proof counts a megabyte.
 fn answer_input(
+    rt: &(impl Input + Env + Print),
     message: &mut [u8; MESSAGE],
     text: &mut [u8; TEXT],
     segments: &mut [rows::Entry; SEGMENTS],
     leaves: &mut [rows::Entry; LEAVES],
 ) {
-    let input = input::read_input(message);
+    let mut reader = rt.reader();
+    let input = input::read_input(&mut reader, message);
     let bytes = input.bytes;
-    let rest = read_rest(bytes == MESSAGE);
+    let rest = read_rest(&mut reader, bytes == MESSAGE);
     if !input.sound {
         return;
     }
@@ -75,22 +78,23 @@ fn answer_input(
         return;
     }
     let whole = &message[..];
-    explain(&whole[0..bytes], rest, text, segments, leaves);
+    explain(rt, &whole[0..bytes], rest, text, segments, leaves);
 }
 
 // Reads a message, and explains the answer.
 fn explain(
+    rt: &(impl Env + Print),
     message: &[u8],
     rest: Rest,
     text: &mut [u8; TEXT],
     segments: &mut [rows::Entry; SEGMENTS],
     leaves: &mut [rows::Entry; LEAVES],
 ) {
-    let form = arguments::form_asked();
-    let width = arguments::width_asked();
+    let form = arguments::form_asked(rt);
+    let width = arguments::width_asked(rt);
     let answer = read::read(form, message, text, segments, leaves);
     if answer.number == Number::ACCEPTED {
-        write_message(message, answer.card, segments, leaves, text, width);
+        write_message(rt, message, answer.card, segments, leaves, text, width);
         return;
     }
     let case = Case {
@@ -103,7 +107,7 @@ fn explain(
         large: number_in_large(message, text, segments, leaves),
         width,
     };
-    write_refusal(message, case);
+    write_refusal(rt, message, case);
 }
 
 // What the large form answers.

@@ -1,14 +1,11 @@
-// Lines of output: each is built in a lent array and written at once. A pen says where in the line the next byte goes.
-use libc::STDOUT_FILENO;
+// Lines of output: each is built in a lent array and written at once. A pen says where in the line the next byte goes. A write that fails is passed over.
+use itoa::Buffer;
 
 // The bytes that a line has room for: two for each of the most columns that can be asked for, and some for a long word at its end. What does not fit is left out.
 pub const ROOM: usize = 4096;
 
 // What stands at the end of a text that is cut.
 const CUT: usize = 2;
-
-// The decimal digits that a number has at most.
-const DIGITS: usize = 20;
 
 // Where a line of output has come to.
 #[derive(Clone, Copy)]
@@ -91,15 +88,14 @@ pub fn put(line: &mut [u8; ROOM], pen: Pen, words: &[u8]) -> Pen {
 
 // A number in decimal.
 pub fn put_number(line: &mut [u8; ROOM], pen: Pen, n: usize) -> Pen {
-    let mut digits = [0; DIGITS];
-    let count = io::decimal(n as u64, &mut digits);
-    put(line, pen, &digits[..count])
+    let mut digits = Buffer::new();
+    put(line, pen, digits.format(n).as_bytes())
 }
 
 // How many digits a number has.
 pub fn count_digits(n: usize) -> usize {
-    let mut digits = [0; DIGITS];
-    io::decimal(n as u64, &mut digits)
+    let mut digits = Buffer::new();
+    digits.format(n).len()
 }
 
 // A byte so many times.
@@ -124,27 +120,27 @@ pub fn put_right(line: &mut [u8; ROOM], pen: Pen, n: usize, columns: usize) -> P
 }
 
 // Writes a line out, whole.
-pub fn write_whole(line: &mut [u8; ROOM], pen: Pen) {
+pub fn write_whole(rt: &impl Print, line: &mut [u8; ROOM], pen: Pen) {
     let ended = put_byte(line, pen, b'\n');
-    write_bytes(line, ended.bytes);
+    write_bytes(rt, line, ended.bytes);
 }
 
 // Writes a line out, cut to its width, with dots where something of it is left out.
-pub fn write_cut(line: &mut [u8; ROOM], pen: Pen) {
+pub fn write_cut(rt: &impl Print, line: &mut [u8; ROOM], pen: Pen) {
     if !pen.is_past() {
-        write_whole(line, pen);
+        write_whole(rt, line, pen);
         return;
     }
     let mut cut = pen;
     cut.bytes = pen.kept;
     let dotted = put(line, cut, b"..");
-    write_whole(line, dotted);
+    write_whole(rt, line, dotted);
 }
 
 // Writes so many bytes of a line.
-fn write_bytes(line: &[u8; ROOM], bytes: usize) {
+fn write_bytes(rt: &impl Print, line: &[u8; ROOM], bytes: usize) {
     let whole = &line[..];
     if bytes <= whole.len() {
-        io::write_all(STDOUT_FILENO, &whole[0..bytes]);
+        let _ = rt.write_all(&whole[0..bytes]);
     }
 }

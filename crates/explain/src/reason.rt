@@ -7,7 +7,7 @@ use source::position::position_of;
 use table::Card;
 
 // Of an accepted message: its context, rows, lines and bytes.
-pub fn write_accepted(card: Card, lines: usize, bytes: usize) {
+pub fn write_accepted(rt: &impl Print, card: Card, lines: usize, bytes: usize) {
     let mut line = [0; ROOM];
     let pen = put(&mut line, Pen::begin(ROOM), b"accepted: ");
     let pen = put_context(&mut line, pen, card.context as usize);
@@ -18,18 +18,18 @@ pub fn write_accepted(card: Card, lines: usize, bytes: usize) {
     let pen = put(&mut line, pen, b" lines, ");
     let pen = put_number(&mut line, pen, bytes);
     let pen = put(&mut line, pen, b" bytes");
-    write_whole(&mut line, pen);
+    write_whole(rt, &mut line, pen);
 }
 
 // Of a refused one: number, reason and place.
-pub fn write_refused(message: &[u8], case: Case, spot: Spot) {
+pub fn write_refused(rt: &impl Print, message: &[u8], case: Case, spot: Spot) {
     let mut line = [0; ROOM];
     let pen = put(&mut line, Pen::begin(ROOM), b"refused: ");
     let pen = put_number(&mut line, pen, case.number as usize);
     let pen = put(&mut line, pen, b", ");
     let pen = put_reason(&mut line, pen, case.number, message.len() <= spot.offset);
     let pen = put_position(&mut line, pen, message, spot);
-    write_whole(&mut line, pen);
+    write_whole(rt, &mut line, pen);
 }
 
 // Line, column, offset and row of a spot; no row where that is 0.

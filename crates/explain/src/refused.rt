@@ -8,18 +8,18 @@ use crate::place::{Case, spot_of};
 use crate::reason::write_refused;
 
 // Writes the explanation.
-pub fn write_refusal(message: &[u8], case: Case) {
+pub fn write_refusal(rt: &impl Print, message: &[u8], case: Case) {
     let spot = spot_of(message, case);
-    write_refused(message, case, spot);
-    write_blank();
-    write_excerpt(message, spot, case.width);
-    write_blank();
-    write_expected(message, case, spot);
-    write_advice(advice_on(message, case, spot));
+    write_refused(rt, message, case, spot);
+    write_blank(rt);
+    write_excerpt(rt, message, spot, case.width);
+    write_blank(rt);
+    write_expected(rt, message, case, spot);
+    write_advice(rt, advice_on(message, case, spot));
 }
 
 // Writes an empty line.
-fn write_blank() {
+fn write_blank(rt: &impl Print) {
     let mut line = [0; ROOM];
-    write_whole(&mut line, Pen::begin(ROOM));
+    write_whole(rt, &mut line, Pen::begin(ROOM));
 }

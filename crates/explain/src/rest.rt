@@ -1,9 +1,12 @@
 // What comes on standard input behind the longest message: read to be counted, and kept nowhere.
 use crate::counts::sum;
-use libc::STDIN_FILENO;
+use std::io::Read;
 
 // How often is read at most: input that never ends is not counted to its end.
 const READS: usize = 65536;
+
+// The bytes that a read asks for.
+const CHUNK: usize = 65536;
 
 // The bytes that came, whether the input has ended, and whether every read went well.
 #[derive(Clone, Copy)]
@@ -14,7 +17,7 @@ pub struct Rest {
 }
 
 // Counts the rest of the input, where there may be some.
-pub fn read_rest(more: bool) -> Rest {
+pub fn read_rest(reader: &mut impl Read, more: bool) -> Rest {
     let mut rest = Rest {
         bytes: 0,
         ended: !more,
@@ -25,20 +28,25 @@ pub fn read_rest(more: bool) -> Rest {
         if rest.ended {
             return rest;
         }
-        rest = read_more(rest.bytes);
+        rest = read_more(reader, rest.bytes);
         left -= 1;
     }
     rest
 }
 
-// One read behind so many bytes: none are the end, and a number below 0 is a fault, which ends it as well.
-fn read_more(bytes: usize) -> Rest {
-    let mut buffer = io::large_buffer();
-    let got = libc::read(STDIN_FILENO, &mut buffer);
-    let count = io::count(got, &buffer);
-    Rest {
-        bytes: sum(bytes, count),
-        ended: count == 0,
-        sound: got >= 0,
+// One read behind so many bytes: none are the end, and an error is a fault, which ends it as well.
+fn read_more(reader: &mut impl Read, bytes: usize) -> Rest {
+    let mut buffer = [0; CHUNK];
+    match reader.read(&mut buffer) {
+        Ok(count) => Rest {
+            bytes: sum(bytes, count),
+            ended: count == 0,
+            sound: true,
+        },
+        Err(_) => Rest {
+            bytes,
+            ended: true,
+            sound: false,
+        },
     }
 }

@@ -1,9 +1,9 @@
 // Lists the message that comes on standard input: the listing (G1, G2), and nothing else. What matters is in the library; this reads and writes.
-// Where the input cannot be read nothing is printed: a program has no exit status, and an empty message has a listing.
+// Where the input cannot be read nothing is printed, which tells it: the exit status is always 0, and an empty message has a listing. A write that
+// fails is passed over.
 #![tactic(auto)]
 
 use form::forms::SmallForm;
-use libc::STDOUT_FILENO;
 use listing::list::{SIZE, list};
 use table::rows;
 
@@ -17,22 +17,22 @@ const SEGMENTS: usize = SmallForm::SEGMENTS * rows::SEGMENT_ROW;
 
 const LEAVES: usize = SmallForm::LEAVES * rows::LEAF_ROW;
 
-fn main() {
+fn main(rt: HostRuntime) {
     let mut message = [0; MESSAGE];
-    let input = input::read_input(&mut message);
+    let input = input::read_input(&mut rt.stdin(), &mut message);
     if !input.sound {
         return;
     }
     let bytes = input.bytes;
-    print_listing(&message[0..bytes]);
+    print_listing(&rt, &message[0..bytes]);
 }
 
 // Writes the listing of a message to standard output.
-fn print_listing(message: &[u8]) {
+fn print_listing(rt: &impl Print, message: &[u8]) {
     let mut text = [0; TEXT];
     let mut segments = [0; SEGMENTS];
     let mut leaves = [0; LEAVES];
     let mut listing = [0; SIZE];
     let bytes = list(message, &mut text, &mut segments, &mut leaves, &mut listing);
-    io::write_all(STDOUT_FILENO, &listing[0..bytes]);
+    let _ = rt.write_all(&listing[0..bytes]);
 }

@@ -6,6 +6,7 @@ use crate::{
     comparing, filing, finding, indexing, judging, looking, naming, seeking, value_writing, values,
     walking, watching,
 };
+use std::io::Read;
 use table::rows::Entry;
 
 // The pieces of an operation's case, as digits from the right to the left: B bytes, A a row of numbers, C a whole number with its sign, D a
@@ -40,6 +41,8 @@ fn pieces_of(operation: usize) -> usize {
 
 // Takes in the next case and runs it; false where there is none.
 pub fn next_case(
+    rt: &impl Print,
+    reader: &mut impl Read,
     numbers: &mut [Entry; ROOM],
     bytes: &mut [u8; ROOM],
     message: &mut [u8; BYTES],
@@ -47,14 +50,18 @@ pub fn next_case(
     segments: &mut [Entry; SEGMENT_ROWS],
     leaves: &mut [Entry; LEAF_ROWS],
 ) -> bool {
-    let operation = number();
-    if !take_in(pieces_of(operation), numbers, bytes, message) {
+    let operation = number(reader);
+    if !take_in(reader, pieces_of(operation), numbers, bytes, message) {
         return false;
     }
     match operation {
-        107 | 10107 => indexing::run(operation, numbers, bytes, message, text, segments, leaves),
+        107 | 10107 => indexing::run(
+            rt, reader, operation, numbers, bytes, message, text, segments, leaves,
+        ),
         _ => {
-            run(operation, numbers, bytes, message, text, segments, leaves);
+            run(
+                rt, operation, numbers, bytes, message, text, segments, leaves,
+            );
             true
         }
     }
@@ -62,6 +69,7 @@ pub fn next_case(
 
 // Runs a case whose pieces have come. The three buffers behind the message are for a table that is written or read.
 fn run(
+    rt: &impl Print,
     operation: usize,
     numbers: &[Entry; ROOM],
     bytes: &[u8; ROOM],
@@ -71,27 +79,29 @@ fn run(
     leaves: &mut [Entry; LEAF_ROWS],
 ) {
     match operation {
-        1 | 106 | 10001 => filing::run(operation, numbers, bytes, message, text, segments, leaves),
-        2 | 104 | 1023 => judging::run(operation, numbers, bytes, message),
-        10002 | 10104 | 11023 => judging::run_large(
-            operation, numbers, message, text, segments, leaves,
+        1 | 106 | 10001 => filing::run(
+            rt, operation, numbers, bytes, message, text, segments, leaves,
         ),
-        1022 => value_writing::run(numbers, bytes, text),
-        _ => ask(operation, numbers, bytes),
+        2 | 104 | 1023 => judging::run(rt, operation, numbers, bytes, message),
+        10002 | 10104 | 11023 => judging::run_large(
+            rt, operation, numbers, message, text, segments, leaves,
+        ),
+        1022 => value_writing::run(rt, numbers, bytes, text),
+        _ => ask(rt, operation, numbers, bytes),
     }
 }
 
 // Runs a case of an operation that asks something of its pieces and writes no buffer.
-fn ask(operation: usize, numbers: &[Entry; ROOM], bytes: &[u8; ROOM]) {
+fn ask(rt: &impl Print, operation: usize, numbers: &[Entry; ROOM], bytes: &[u8; ROOM]) {
     match operation {
-        3 => looking::run(numbers, bytes),
-        4 => finding::run(numbers),
-        5 => comparing::run(numbers, bytes),
-        6 => walking::run(numbers, bytes),
-        7 => watching::run(numbers),
-        101 => seeking::run(numbers, bytes),
-        105 => naming::run(numbers, bytes),
-        1021 => values::run(numbers, bytes),
+        3 => looking::run(rt, numbers, bytes),
+        4 => finding::run(rt, numbers),
+        5 => comparing::run(rt, numbers, bytes),
+        6 => walking::run(rt, numbers, bytes),
+        7 => watching::run(rt, numbers),
+        101 => seeking::run(rt, numbers, bytes),
+        105 => naming::run(rt, numbers, bytes),
+        1021 => values::run(rt, numbers, bytes),
         _ => {}
     }
 }

@@ -20,6 +20,7 @@ fn lengths_of(operation: usize) -> u8 {
 
 // Files into as much of each buffer as is asked for.
 pub fn run(
+    rt: &impl Print,
     operation: usize,
     numbers: &[Entry; ROOM],
     bytes: &[u8; ROOM],
@@ -33,6 +34,7 @@ pub fn run(
     let b = least(number_at(numbers, lengths, 1) as usize, segments.len());
     let c = least(number_at(numbers, lengths, 2) as usize, leaves.len());
     put_filing(
+        rt,
         operation,
         numbers,
         bytes,
@@ -45,6 +47,7 @@ pub fn run(
 
 // Files into these buffers, which are filled before, and puts their sums.
 fn put_filing(
+    rt: &impl Print,
     operation: usize,
     numbers: &[Entry; ROOM],
     bytes: &[u8; ROOM],
@@ -54,10 +57,13 @@ fn put_filing(
     leaves: &mut [Entry],
 ) {
     fill(text, segments, leaves);
-    begin(operation);
-    put_answer(file(operation, numbers, bytes, message, text, segments, leaves));
-    put_sums(text, segments, leaves);
-    end();
+    begin(rt, operation);
+    put_answer(
+        rt,
+        file(operation, numbers, bytes, message, text, segments, leaves),
+    );
+    put_sums(rt, text, segments, leaves);
+    end(rt);
 }
 
 // Files by the operation.
@@ -91,20 +97,20 @@ pub fn fill(text: &mut [u8], segments: &mut [Entry], leaves: &mut [Entry]) {
 }
 
 // The number, the place and the card's five numbers.
-pub fn put_answer(answer: Answer) {
+pub fn put_answer(rt: &impl Print, answer: Answer) {
     let card = answer.card;
-    put(answer.number as usize);
-    put(answer.place);
-    put(card.separator as usize);
-    put(card.context as usize);
-    put(card.segments);
-    put(card.leaves);
-    put(card.text);
+    put(rt, answer.number as usize);
+    put(rt, answer.place);
+    put(rt, card.separator as usize);
+    put(rt, card.context as usize);
+    put(rt, card.segments);
+    put(rt, card.leaves);
+    put(rt, card.text);
 }
 
 // The sums of the three buffers of a table.
-pub fn put_sums(text: &[u8], segments: &[Entry], leaves: &[Entry]) {
-    put(sum_bytes(text));
-    put(sum_numbers(segments));
-    put(sum_numbers(leaves));
+pub fn put_sums(rt: &impl Print, text: &[u8], segments: &[Entry], leaves: &[Entry]) {
+    put(rt, sum_bytes(text));
+    put(rt, sum_numbers(segments));
+    put(rt, sum_numbers(leaves));
 }

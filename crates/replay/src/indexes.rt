@@ -5,6 +5,7 @@ use crate::input::ROOM;
 use crate::output::put;
 use crate::pieces::{bytes_at, bytes_between, number_at, numbers_between, take_in};
 use index::{CODE, PLACE};
+use std::io::Read;
 use table::rows::Entry;
 
 // The most places that a case asks for.
@@ -26,6 +27,7 @@ pub fn places_at(numbers: &[Entry; ROOM]) -> Entry {
 // Takes in the entries of the index whose three numbers are piece 0. Everything else is filled before. False where the input ends first, or the
 // index is past the format's sizes.
 pub fn index_in(
+    reader: &mut impl Read,
     numbers: &mut [Entry; ROOM],
     bytes: &mut [u8; ROOM],
     message: &mut [u8; BYTES],
@@ -43,11 +45,12 @@ pub fn index_in(
     fill_codes(codes);
     fill_counts(counts);
     counts[0] = number_at(numbers, 0, 0);
-    entries_in(entries, numbers, bytes, message, codes, counts)
+    entries_in(reader, entries, numbers, bytes, message, codes, counts)
 }
 
 // Takes in so many entries, and puts them at the first places.
 fn entries_in(
+    reader: &mut impl Read,
     entries: usize,
     numbers: &mut [Entry; ROOM],
     bytes: &mut [u8; ROOM],
@@ -57,7 +60,7 @@ fn entries_in(
 ) -> bool {
     let mut i = 0;
     while i < entries {
-        if !take_in(ENTRY, numbers, bytes, message) {
+        if !take_in(reader, ENTRY, numbers, bytes, message) {
             return false;
         }
         put_entry(i, numbers, bytes, codes, counts);
@@ -125,12 +128,12 @@ fn fill_counts(counts: &mut [Entry]) {
 }
 
 // How many codes are named, and the sums of lengths, codes and counts.
-pub fn put_index(codes: &[u8], counts: &[Entry]) {
+pub fn put_index(rt: &impl Print, codes: &[u8], counts: &[Entry]) {
     let named = named_in(counts) as usize;
-    put(named);
-    put(sum_lengths(codes));
-    put(sum_codes(codes, named));
-    put(sum_numbers(numbers_between(counts, 1, counts.len())));
+    put(rt, named);
+    put(rt, sum_lengths(codes));
+    put(rt, sum_codes(codes, named));
+    put(rt, sum_numbers(numbers_between(counts, 1, counts.len())));
 }
 
 // How many codes are named. There is always such a number, which the test says to the proof.

@@ -11,6 +11,7 @@ use form::forms::Form;
 use index::PLACE;
 use index::tally::Tally;
 use read::indexed::{Indexed, read_indexed};
+use std::io::Read;
 use table::rows::{Entry, wide};
 
 // The pieces behind the index, as digits, and which is which: the tally, the lengths of the buffers, how many messages follow.
@@ -32,6 +33,8 @@ fn form_of(operation: usize) -> Form {
 
 // Runs a case whose index lies in buffers that are made here. False where the input ends before the case does.
 pub fn run(
+    rt: &impl Print,
+    reader: &mut impl Read,
     operation: usize,
     numbers: &mut [Entry; ROOM],
     bytes: &mut [u8; ROOM],
@@ -43,6 +46,8 @@ pub fn run(
     let mut codes = [0; CODE_BYTES];
     let mut counts = [0; COUNTS];
     take_and_read(
+        rt,
+        reader,
         operation,
         numbers,
         bytes,
@@ -57,6 +62,8 @@ pub fn run(
 
 // Takes in the index and what follows it, and reads the messages.
 fn take_and_read(
+    rt: &impl Print,
+    reader: &mut impl Read,
     operation: usize,
     numbers: &mut [Entry; ROOM],
     bytes: &mut [u8; ROOM],
@@ -68,20 +75,22 @@ fn take_and_read(
     counts: &mut [Entry; COUNTS],
 ) -> bool {
     let places = places_at(numbers);
-    if !index_in(numbers, bytes, message, codes, counts) {
+    if !index_in(reader, numbers, bytes, message, codes, counts) {
         return false;
     }
-    if !take_in(READINGS, numbers, bytes, message) {
+    if !take_in(reader, READINGS, numbers, bytes, message) {
         return false;
     }
-    begin(operation);
+    begin(rt, operation);
     lend(
-        operation, places, numbers, message, text, segments, leaves, codes, counts,
+        rt, reader, operation, places, numbers, message, text, segments, leaves, codes, counts,
     )
 }
 
 // Lends as much of each buffer as is asked for.
 fn lend(
+    rt: &impl Print,
+    reader: &mut impl Read,
     operation: usize,
     places: Entry,
     numbers: &[Entry; ROOM],
@@ -98,6 +107,8 @@ fn lend(
     let d = least(PLACE * wide(places), codes.len());
     let e = least(1 + wide(places), counts.len());
     read_all(
+        rt,
+        reader,
         operation,
         tally_at(numbers, TALLY),
         number_at(numbers, MESSAGES, 0),
@@ -121,6 +132,8 @@ fn tally_at(numbers: &[Entry; ROOM], k: u8) -> Tally {
 
 // Takes in so many messages, and reads each into these buffers. False where the input ends first.
 fn read_all(
+    rt: &impl Print,
+    reader: &mut impl Read,
     operation: usize,
     before: Tally,
     messages: Entry,
@@ -134,11 +147,12 @@ fn read_all(
     let mut tally = before;
     let mut left = messages;
     while left > 0 {
-        let length = next_message(operation, message);
+        let length = next_message(reader, operation, message);
         if length == MISSING {
             return false;
         }
         tally = put_reading(
+            rt,
             tally,
             form_of(operation),
             bytes_between(message, 0, length),
@@ -150,20 +164,24 @@ fn read_all(
         );
         left -= 1;
     }
-    end();
+    end(rt);
     true
 }
 
 // Takes in the next message, as bytes in the small form and in parts in the large form, and answers its length; MISSING where the input ends first.
-fn next_message(operation: usize, message: &mut [u8]) -> usize {
+fn next_message(reader: &mut impl Read, operation: usize, message: &mut [u8]) -> usize {
     match operation {
-        107 => bytes_in(message, 0, number()),
-        _ => message_in(message),
+        107 => {
+            let count = number(reader);
+            bytes_in(reader, message, 0, count)
+        }
+        _ => message_in(reader, message),
     }
 }
 
 // Reads a message, and puts what came back. Answers the tally.
 fn put_reading(
+    rt: &impl Print,
     tally: Tally,
     form: Form,
     lines: &[u8],
@@ -174,7 +192,7 @@ fn put_reading(
     counts: &mut [Entry],
 ) -> Tally {
     let indexed = read_anew(tally, form, lines, text, segments, leaves, codes, counts);
-    put_indexed(indexed, text, segments, leaves, codes, counts);
+    put_indexed(rt, indexed, text, segments, leaves, codes, counts);
     indexed.tally
 }
 
@@ -195,6 +213,7 @@ fn read_anew(
 
 // What a reading answered, and the buffers as it left them.
 fn put_indexed(
+    rt: &impl Print,
     indexed: Indexed,
     text: &[u8],
     segments: &[Entry],
@@ -202,15 +221,15 @@ fn put_indexed(
     codes: &[u8],
     counts: &[Entry],
 ) {
-    put_answer(indexed.answer);
-    put_sums(text, segments, leaves);
-    put_tally(indexed.tally);
-    put_index(codes, counts);
+    put_answer(rt, indexed.answer);
+    put_sums(rt, text, segments, leaves);
+    put_tally(rt, indexed.tally);
+    put_index(rt, codes, counts);
 }
 
 // The tally's three numbers.
-fn put_tally(tally: Tally) {
-    put(tally.messages as usize);
-    put(tally.segments as usize);
-    put(tally.results as usize);
+fn put_tally(rt: &impl Print, tally: Tally) {
+    put(rt, tally.messages as usize);
+    put(rt, tally.segments as usize);
+    put(rt, tally.results as usize);
 }

@@ -1,6 +1,6 @@
-// What comes on standard input: numbers, rows of numbers, and bytes. Each function answers MISSING where the input ends first.
+// What comes on standard input: numbers, rows of numbers, and bytes. Each function answers MISSING where the input ends first or a read fails.
 use crate::buffers::least;
-use libc::STDIN_FILENO;
+use std::io::Read;
 use table::rows::Entry;
 
 // More than every number and every place in a buffer, so that one test rules out what is missing and what is past a limit.
@@ -16,9 +16,9 @@ pub const LAST: usize = 65535;
 pub const ROOM: usize = 65792;
 
 // A number: four bytes, the lowest first.
-pub fn number() -> usize {
+pub fn number(reader: &mut impl Read) -> usize {
     let mut four = [0; 4];
-    if io::read_full(STDIN_FILENO, &mut four) < 4 {
+    if reader.read_exact(&mut four).is_err() {
         return MISSING;
     }
     number_of(four[0], four[1], four[2], four[3])
@@ -30,11 +30,16 @@ fn number_of(a: u8, b: u8, c: u8, d: u8) -> usize {
 }
 
 // So many numbers, put into a buffer from a place on. Answers the place behind them; MISSING too where one finds no room.
-pub fn numbers_in(buffer: &mut [Entry; ROOM], from: usize, count: usize) -> usize {
+pub fn numbers_in(
+    reader: &mut impl Read,
+    buffer: &mut [Entry; ROOM],
+    from: usize,
+    count: usize,
+) -> usize {
     let mut at = from;
     let mut left = count;
     while left > 0 {
-        at = put_number(buffer, at, number());
+        at = put_number(buffer, at, number(reader));
         if at == MISSING {
             return MISSING;
         }
@@ -56,10 +61,13 @@ pub fn put_number(buffer: &mut [Entry; ROOM], at: usize, n: usize) -> usize {
 }
 
 // So many bytes likewise.
-pub fn bytes_in(buffer: &mut [u8], from: usize, count: usize) -> usize {
+pub fn bytes_in(reader: &mut impl Read, buffer: &mut [u8], from: usize, count: usize) -> usize {
     let begin = least(from, buffer.len());
     let end = begin + least(count, buffer.len() - begin);
-    if io::read_full(STDIN_FILENO, &mut buffer[begin..end]) < count {
+    if reader.read_exact(&mut buffer[begin..end]).is_err() {
+        return MISSING;
+    }
+    if end - begin < count {
         return MISSING;
     }
     end

@@ -16,12 +16,14 @@ const LARGE: usize = 10000;
 
 // Runs an operation of the small form. A message is written into the output.
 pub fn run(
+    rt: &impl Print,
     operation: usize,
     numbers: &[Entry; ROOM],
     bytes: &[u8; ROOM],
     output: &mut [u8; BYTES],
 ) {
     judge(
+        rt,
         operation,
         Form::Small,
         numbers,
@@ -36,6 +38,7 @@ pub fn run(
 
 // Runs an operation of the large form. The output takes the place of the message, which has been read then.
 pub fn run_large(
+    rt: &impl Print,
     operation: usize,
     numbers: &[Entry; ROOM],
     message: &mut [u8; BYTES],
@@ -46,6 +49,7 @@ pub fn run_large(
     let table = read_table(numbers, message, text, segments, leaves);
     let card = table.card;
     judge(
+        rt,
         operation,
         Form::Large,
         numbers,
@@ -60,6 +64,7 @@ pub fn run_large(
 
 // Runs an operation of either form on a table; piece k is what is asked of it.
 fn judge(
+    rt: &impl Print,
     operation: usize,
     form: Form,
     numbers: &[Entry; ROOM],
@@ -71,13 +76,22 @@ fn judge(
     output: &mut [u8],
 ) {
     let asked = number_at(numbers, k, 0);
-    begin(operation);
+    begin(rt, operation);
     match operation % LARGE {
-        2 => writing::run(form, card, segments, leaves, text, output, asked as usize),
-        104 => screening::run(form, card, segments, leaves, text),
+        2 => writing::run(
+            rt,
+            form,
+            card,
+            segments,
+            leaves,
+            text,
+            output,
+            asked as usize,
+        ),
+        104 => screening::run(rt, form, card, segments, leaves, text),
         1023 => {
             let room = number_at(numbers, k, 1) as usize;
-            order_values::run(form, card, segments, leaves, text, asked, room);
+            order_values::run(rt, form, card, segments, leaves, text, asked, room);
         }
         _ => {}
     }

@@ -11,21 +11,24 @@ use table::rows::Entry;
 const SUBSTITUTE: u8 = 5;
 
 // Looks up the place that follows the table, with the substitute that follows it.
-pub fn run(numbers: &[Entry; ROOM], bytes: &[u8; ROOM]) {
-    put_text(leaf_text(
-        card_at(numbers, 0),
-        row_at(numbers, SEGMENTS),
-        row_at(numbers, LEAVES),
-        bytes_at(numbers, bytes, AREA),
-        place_at(numbers, ASKED),
-        bytes_at(numbers, bytes, SUBSTITUTE),
-    ));
+pub fn run(rt: &impl Print, numbers: &[Entry; ROOM], bytes: &[u8; ROOM]) {
+    put_text(
+        rt,
+        leaf_text(
+            card_at(numbers, 0),
+            row_at(numbers, SEGMENTS),
+            row_at(numbers, LEAVES),
+            bytes_at(numbers, bytes, AREA),
+            place_at(numbers, ASKED),
+            bytes_at(numbers, bytes, SUBSTITUTE),
+        ),
+    );
 }
 
 // The length of what came back, and its sum.
-fn put_text(part: &[u8]) {
-    begin(3);
-    put(part.len());
-    put(sum_bytes(part));
-    end();
+fn put_text(rt: &impl Print, part: &[u8]) {
+    begin(rt, 3);
+    put(rt, part.len());
+    put(rt, sum_bytes(part));
+    end(rt);
 }

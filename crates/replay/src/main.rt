@@ -39,7 +39,8 @@ mod writing;
 // More cases than any file has: a loop has to end, and nothing says that an input does.
 const MOST_CASES: u32 = 1000000;
 
-fn main() {
+fn main(rt: HostRuntime) {
+    let mut reader = rt.reader();
     let mut numbers = [0; ROOM];
     let mut bytes = [0; ROOM];
     let mut message = [0; BYTES];
@@ -49,6 +50,8 @@ fn main() {
     let mut left = MOST_CASES;
     while left > 0 {
         if !next_case(
+            &rt,
+            &mut reader,
             &mut numbers,
             &mut bytes,
             &mut message,

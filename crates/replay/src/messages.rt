@@ -3,6 +3,7 @@
 use crate::buffers::{BYTES, least};
 use crate::input::{MISSING, ROOM, bytes_in, number};
 use crate::pieces::{bytes_between, number_at};
+use std::io::Read;
 use table::rows::Entry;
 
 // The most parts that a message has.
@@ -18,14 +19,14 @@ pub fn message_at<'a>(numbers: &[Entry; ROOM], message: &'a [u8], k: u8) -> &'a 
 }
 
 // Takes in the parts, laid end to end, and answers the message's length; MISSING too where a part finds no room or there are too many.
-pub fn message_in(message: &mut [u8]) -> usize {
+pub fn message_in(reader: &mut impl Read, message: &mut [u8]) -> usize {
     let mut end = 0;
-    let mut left = number();
+    let mut left = number(reader);
     if PARTS < left {
         return MISSING;
     }
     while left > 0 {
-        end = part_in(message, end);
+        end = part_in(reader, message, end);
         if end == MISSING {
             return MISSING;
         }
@@ -35,9 +36,10 @@ pub fn message_in(message: &mut [u8]) -> usize {
 }
 
 // Takes in one part from a place on, as often as it stands, and answers the place behind it.
-fn part_in(message: &mut [u8], from: usize) -> usize {
-    let times = least(number(), TIMES);
-    let end = bytes_in(message, from, number());
+fn part_in(reader: &mut impl Read, message: &mut [u8], from: usize) -> usize {
+    let times = least(number(reader), TIMES);
+    let count = number(reader);
+    let end = bytes_in(reader, message, from, count);
     if end == MISSING {
         return MISSING;
     }

@@ -6,13 +6,13 @@ use form::kind::Kind;
 use table::rows::Entry;
 
 // Asks for the kind whose name the text is.
-pub fn run(numbers: &[Entry; ROOM], bytes: &[u8; ROOM]) {
-    put_kind(Kind::named(bytes_at(numbers, bytes, 0)));
+pub fn run(rt: &impl Print, numbers: &[Entry; ROOM], bytes: &[u8; ROOM]) {
+    put_kind(rt, Kind::named(bytes_at(numbers, bytes, 0)));
 }
 
 // Its number.
-fn put_kind(kind: u8) {
-    begin(105);
-    put(kind as usize);
-    end();
+fn put_kind(rt: &impl Print, kind: u8) {
+    begin(rt, 105);
+    put(rt, kind as usize);
+    end(rt);
 }

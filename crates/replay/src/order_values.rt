@@ -9,6 +9,7 @@ use value::results::{ValuesRead, order_values};
 
 // Asks for the values of a row, with room for so many answers, which are made here.
 pub fn run(
+    rt: &impl Print,
     form: Form,
     card: Card,
     segments: &[Entry],
@@ -21,6 +22,7 @@ pub fn run(
     let mut wholes = [0; ANSWERS];
     let mut decimals = [0; ANSWERS];
     put_answers(
+        rt,
         form,
         card,
         segments,
@@ -36,6 +38,7 @@ pub fn run(
 
 // Reads into these answers, which are filled before, and puts their sum.
 fn put_answers(
+    rt: &impl Print,
     form: Form,
     card: Card,
     segments: &[Entry],
@@ -48,11 +51,14 @@ fn put_answers(
     room: usize,
 ) {
     fill(answers, wholes, decimals);
-    put_read(read_into(
-        form, card, segments, leaves, text, order, answers, wholes, decimals, room,
-    ));
-    put(sum_answers(answers, wholes, decimals, room));
-    end();
+    put_read(
+        rt,
+        read_into(
+            form, card, segments, leaves, text, order, answers, wholes, decimals, room,
+        ),
+    );
+    put(rt, sum_answers(answers, wholes, decimals, room));
+    end(rt);
 }
 
 // Reads into as much of each buffer as is asked for.
@@ -85,8 +91,8 @@ fn read_into(
 }
 
 // The number, the place, and how many answers were put.
-fn put_read(read: ValuesRead) {
-    put(read.number as usize);
-    put(read.place);
-    put(read.count);
+fn put_read(rt: &impl Print, read: ValuesRead) {
+    put(rt, read.number as usize);
+    put(rt, read.place);
+    put(rt, read.count);
 }

@@ -1,37 +1,36 @@
-// A line of numbers on standard output, written number by number: lines are short and few.
+// A line of numbers on standard output, written number by number: lines are short and few. A write that fails is passed over.
 use crate::wholes::magnitude;
-use libc::STDOUT_FILENO;
 
 // Begins a line with the operation's number.
-pub fn begin(operation: usize) {
-    io::print_decimal(STDOUT_FILENO, operation as u64);
+pub fn begin(rt: &impl Print, operation: usize) {
+    let _ = rt.print(operation);
 }
 
 // A space and a number.
-pub fn put(n: usize) {
-    io::write_all(STDOUT_FILENO, b" ");
-    io::print_decimal(STDOUT_FILENO, n as u64);
+pub fn put(rt: &impl Print, n: usize) {
+    let _ = rt.write_all(b" ");
+    let _ = rt.print(n);
 }
 
 // A space and a whole number, with a minus before the digits of one below 0.
-pub fn put_whole(whole: i64) {
-    io::write_all(STDOUT_FILENO, b" ");
+pub fn put_whole(rt: &impl Print, whole: i64) {
+    let _ = rt.write_all(b" ");
     if whole < 0 {
-        io::write_all(STDOUT_FILENO, b"-");
+        let _ = rt.write_all(b"-");
     }
-    io::print_decimal(STDOUT_FILENO, magnitude(whole));
+    let _ = rt.print(magnitude(whole));
 }
 
 // 1 for yes, 0 for no.
-pub fn put_yes_or_no(yes: bool) {
+pub fn put_yes_or_no(rt: &impl Print, yes: bool) {
     if yes {
-        put(1);
+        put(rt, 1);
     } else {
-        put(0);
+        put(rt, 0);
     }
 }
 
 // Ends the line.
-pub fn end() {
-    io::write_all(STDOUT_FILENO, b"\n");
+pub fn end(rt: &impl Print) {
+    let _ = rt.write_all(b"\n");
 }

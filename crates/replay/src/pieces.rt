@@ -4,6 +4,7 @@
 use crate::buffers::{BYTES, least};
 use crate::input::{LAST, ROOM, bytes_in, number, numbers_in, put_number};
 use crate::messages::message_in;
+use std::io::Read;
 use table::rows::{Entry, wide};
 
 // As many pieces as a number of 64 bits has digits in base 16, and where the first lies.
@@ -29,6 +30,7 @@ pub const WHOLE_BYTES: u8 = 8;
 // Takes in the pieces that the digits of a number say, the lowest first. False where the input ends before they do, one is past the
 // format's sizes, or there are none.
 pub fn take_in(
+    reader: &mut impl Read,
     pieces: usize,
     numbers: &mut [Entry; ROOM],
     bytes: &mut [u8; ROOM],
@@ -39,7 +41,7 @@ pub fn take_in(
     let mut left = pieces;
     let mut k = 0;
     while k < PIECES {
-        end = piece(left % BASE, end, numbers, bytes, message);
+        end = piece(reader, left % BASE, end, numbers, bytes, message);
         if LAST < end {
             return false;
         }
@@ -52,6 +54,7 @@ pub fn take_in(
 
 // Takes in one piece from a place on, and answers the place behind it.
 fn piece(
+    reader: &mut impl Read,
     kind: usize,
     from: usize,
     numbers: &mut [Entry; ROOM],
@@ -59,11 +62,17 @@ fn piece(
     message: &mut [u8; BYTES],
 ) -> usize {
     match kind {
-        TEXT => bytes_in(bytes, from, number()),
-        ROW => numbers_in(numbers, from, number()),
-        WHOLE => bytes_in(bytes, from, WHOLE_BYTES as usize),
-        PARTS => put_number(numbers, from, message_in(message)),
-        _ => numbers_in(numbers, from, kind),
+        TEXT => {
+            let count = number(reader);
+            bytes_in(reader, bytes, from, count)
+        }
+        ROW => {
+            let count = number(reader);
+            numbers_in(reader, numbers, from, count)
+        }
+        WHOLE => bytes_in(reader, bytes, from, WHOLE_BYTES as usize),
+        PARTS => put_number(numbers, from, message_in(reader, message)),
+        _ => numbers_in(reader, numbers, from, kind),
     }
 }
 

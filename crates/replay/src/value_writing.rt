@@ -8,8 +8,9 @@ use table::rows::Entry;
 use value::writing::{ValueWritten, write_value};
 
 // Writes the whole number, with the decimals that follow it, into an output of the length that follows them.
-pub fn run(numbers: &[Entry; ROOM], bytes: &[u8; ROOM], output: &mut [u8; BYTES]) {
+pub fn run(rt: &impl Print, numbers: &[Entry; ROOM], bytes: &[u8; ROOM], output: &mut [u8; BYTES]) {
     write_into(
+        rt,
         whole_at(numbers, bytes, 0),
         number_at(numbers, 1, 0) as usize,
         output,
@@ -18,22 +19,22 @@ pub fn run(numbers: &[Entry; ROOM], bytes: &[u8; ROOM], output: &mut [u8; BYTES]
 }
 
 // Writes into as much of the output as is asked for.
-fn write_into(whole: i64, decimals: usize, output: &mut [u8], size: usize) {
+fn write_into(rt: &impl Print, whole: i64, decimals: usize, output: &mut [u8], size: usize) {
     let n = least(size, output.len());
-    put_writing(whole, decimals, &mut output[0..n]);
+    put_writing(rt, whole, decimals, &mut output[0..n]);
 }
 
 // Writes into this output, which is filled before, and puts its sum.
-fn put_writing(whole: i64, decimals: usize, output: &mut [u8]) {
+fn put_writing(rt: &impl Print, whole: i64, decimals: usize, output: &mut [u8]) {
     fill_bytes(output);
-    put_written(write_value(whole, decimals, output));
-    put(sum_bytes(output));
-    end();
+    put_written(rt, write_value(whole, decimals, output));
+    put(rt, sum_bytes(output));
+    end(rt);
 }
 
 // The number, and how much was written.
-fn put_written(written: ValueWritten) {
-    begin(1022);
-    put(written.number as usize);
-    put(written.bytes);
+fn put_written(rt: &impl Print, written: ValueWritten) {
+    begin(rt, 1022);
+    put(rt, written.number as usize);
+    put(rt, written.bytes);
 }

@@ -6,20 +6,24 @@ use order::watcher::Watcher;
 use table::rows::Entry;
 
 // Tells a watcher, begun with the context, the kinds that follow it.
-pub fn run(numbers: &[Entry; ROOM]) {
-    begin(7);
-    tell_all((number_at(numbers, 0, 0) % 256) as u8, row_at(numbers, 1));
-    end();
+pub fn run(rt: &impl Print, numbers: &[Entry; ROOM]) {
+    begin(rt, 7);
+    tell_all(
+        rt,
+        (number_at(numbers, 0, 0) % 256) as u8,
+        row_at(numbers, 1),
+    );
+    end(rt);
 }
 
 // What the watcher says to each kind. Contexts and kinds are below 256, which the remainder says to the proof.
-fn tell_all(context: u8, kinds: &[Entry]) {
+fn tell_all(rt: &impl Print, context: u8, kinds: &[Entry]) {
     let mut watcher = Watcher::begin(context);
     let mut i = 0;
     while i < kinds.len() {
         let told = watcher.tell((kinds[i] % 256) as u8);
         watcher = told.watcher;
-        put_yes_or_no(told.yes);
+        put_yes_or_no(rt, told.yes);
         i += 1;
     }
 }

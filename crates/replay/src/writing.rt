@@ -8,6 +8,7 @@ use write::{Written, write};
 
 // Writes into as much of the output as is asked for.
 pub fn run(
+    rt: &impl Print,
     form: Form,
     card: Card,
     segments: &[Entry],
@@ -17,11 +18,12 @@ pub fn run(
     size: usize,
 ) {
     let n = least(size, output.len());
-    put_writing(form, card, segments, leaves, text, &mut output[0..n]);
+    put_writing(rt, form, card, segments, leaves, text, &mut output[0..n]);
 }
 
 // Writes into this output, which is filled before, and puts its sum.
 fn put_writing(
+    rt: &impl Print,
     form: Form,
     card: Card,
     segments: &[Entry],
@@ -30,15 +32,15 @@ fn put_writing(
     output: &mut [u8],
 ) {
     fill_bytes(output);
-    put_written(write(form, card, segments, leaves, text, output));
-    put(sum_bytes(output));
-    end();
+    put_written(rt, write(form, card, segments, leaves, text, output));
+    put(rt, sum_bytes(output));
+    end(rt);
 }
 
 // The number, the place, and how much was written.
-fn put_written(written: Written) {
-    put(written.number as usize);
-    put(written.place);
-    put(written.bytes);
-    put(written.lines);
+fn put_written(rt: &impl Print, written: Written) {
+    put(rt, written.number as usize);
+    put(rt, written.place);
+    put(rt, written.bytes);
+    put(rt, written.lines);
 }

@@ -13,6 +13,7 @@ const CODE: Entry = 4;
 
 // How many results with the code of a rule a patient has, by the patient's row.
 pub fn put_miscounted(
+    rt: &impl Print,
     card: Card,
     segments: &[Entry],
     leaves: &[Entry],
@@ -21,15 +22,16 @@ pub fn put_miscounted(
     number: u8,
 ) {
     match number {
-        Refusal::NOT_ONE_PAYS => put_count(card, segments, leaves, text, patient, b"PAYS"),
-        Refusal::NOT_ONE_TYPOR => put_count(card, segments, leaves, text, patient, b"TYPOR"),
-        Refusal::NOT_ONE_PROSS => put_count(card, segments, leaves, text, patient, b"PROSS"),
-        _ => put_count(card, segments, leaves, text, patient, b"FINGE"),
+        Refusal::NOT_ONE_PAYS => put_count(rt, card, segments, leaves, text, patient, b"PAYS"),
+        Refusal::NOT_ONE_TYPOR => put_count(rt, card, segments, leaves, text, patient, b"TYPOR"),
+        Refusal::NOT_ONE_PROSS => put_count(rt, card, segments, leaves, text, patient, b"PROSS"),
+        _ => put_count(rt, card, segments, leaves, text, patient, b"FINGE"),
     }
 }
 
 // The same of a code.
 fn put_count(
+    rt: &impl Print,
     card: Card,
     segments: &[Entry],
     leaves: &[Entry],
@@ -38,15 +40,15 @@ fn put_count(
     code: &[u8],
 ) {
     let count = count_coded(card, segments, leaves, text, patient, code);
-    put(b"the patient has ");
+    put(rt, b"the patient has ");
     if count == 0 {
-        put(b"no result ");
+        put(rt, b"no result ");
     } else {
-        put_number(count);
-        put(b" results ");
+        put_number(rt, count);
+        put(rt, b" results ");
     }
-    put(code);
-    put(b" (10.4.1) and must have exactly one");
+    put(rt, code);
+    put(rt, b" (10.4.1) and must have exactly one");
 }
 
 // How many results behind a patient's row, up to the next patient, have a code.

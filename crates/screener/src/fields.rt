@@ -13,6 +13,7 @@ use table::rows::Entry;
 
 // The field that a rule asks for, and whether a row does not have it or has it empty. That it has a text is never said: then the rule does not fail.
 pub fn put_unfilled(
+    rt: &impl Print,
     card: Card,
     segments: &[Entry],
     leaves: &[Entry],
@@ -25,7 +26,7 @@ pub fn put_unfilled(
     let wanted = WANTED;
     let rule = (number - Refusal::NO_NAME) as usize;
     let asked = wanted[rule];
-    put_field(number);
+    put_field(rt, number);
     let leaf = leaf_of(
         card,
         segments,
@@ -36,22 +37,22 @@ pub fn put_unfilled(
         asked.subfield,
     );
     match leaf {
-        Sought::At(_, _) => put(b" is there"),
-        Sought::Empty => put(b" is empty"),
-        Sought::NotThere => put(b" is not there"),
+        Sought::At(_, _) => put(rt, b" is there"),
+        Sought::Empty => put(rt, b" is empty"),
+        Sought::NotThere => put(rt, b" is not there"),
     }
 }
 
 // A rule's field by its name.
-fn put_field(number: u8) {
+fn put_field(rt: &impl Print, number: u8) {
     match number {
-        Refusal::NO_NAME => put(b"the name in use (8.6.1)"),
-        Refusal::NO_FIRST_NAME => put(b"the first name (8.6.2)"),
-        Refusal::NO_BIRTH_NAME => put(b"the birth name (8.7)"),
-        Refusal::NO_TELEPHONE => put(b"the telephone (8.13)"),
-        Refusal::NO_POSTAL_CODE => put(b"the postal code (8.11.5)"),
-        Refusal::NO_ORDER_NUMBER => put(b"the order's number in the laboratory (9.4.2)"),
-        Refusal::NO_SAMPLE_TIME => put(b"the time of the sample (9.8)"),
-        _ => put(b"the laboratory's code (7.5.1)"),
+        Refusal::NO_NAME => put(rt, b"the name in use (8.6.1)"),
+        Refusal::NO_FIRST_NAME => put(rt, b"the first name (8.6.2)"),
+        Refusal::NO_BIRTH_NAME => put(rt, b"the birth name (8.7)"),
+        Refusal::NO_TELEPHONE => put(rt, b"the telephone (8.13)"),
+        Refusal::NO_POSTAL_CODE => put(rt, b"the postal code (8.11.5)"),
+        Refusal::NO_ORDER_NUMBER => put(rt, b"the order's number in the laboratory (9.4.2)"),
+        Refusal::NO_SAMPLE_TIME => put(rt, b"the time of the sample (9.8)"),
+        _ => put(rt, b"the laboratory's code (7.5.1)"),
     }
 }

@@ -1,6 +1,6 @@
 // Says in one line whether the message that comes on standard input is a screening report that keeps all rules (R1 to R6): yes, no or refused, and
 // why. The command is ./screen; crate `screen` is the library that judges, and a crate is either a library or a program, so this one is called
-// otherwise. Where the input cannot be read nothing is printed: a program has no exit status, and an empty message has a line.
+// otherwise. Where the input cannot be read nothing is printed, which tells it: the exit status is always 0, and an empty message has a line.
 #![tactic(auto)]
 
 mod codes;
@@ -28,33 +28,35 @@ const SEGMENTS: usize = LargeForm::SEGMENTS * rows::SEGMENT_ROW;
 
 const LEAVES: usize = LargeForm::LEAVES * rows::LEAF_ROW;
 
-fn main() {
+fn main(rt: HostRuntime) {
     let mut message = [0; MESSAGE];
     let mut text = [0; TEXT];
     let mut segments = [0; SEGMENTS];
     let mut leaves = [0; LEAVES];
-    answer_input(&mut message, &mut text, &mut segments, &mut leaves);
+    answer_input(&rt, &mut message, &mut text, &mut segments, &mut leaves);
 }
 
 // Takes in the message and says what there is to say of it. The buffers come as arrays: their types state their lengths then, and no proof
 // counts a megabyte.
 fn answer_input(
+    rt: &(impl Input + Print),
     message: &mut [u8; MESSAGE],
     text: &mut [u8; TEXT],
     segments: &mut [rows::Entry; SEGMENTS],
     leaves: &mut [rows::Entry; LEAVES],
 ) {
-    let input = input::read_input(message);
+    let input = input::read_input(&mut rt.reader(), message);
     if !input.sound {
         return;
     }
     let bytes = input.bytes;
     let whole = &message[..];
-    put_answer(&whole[0..bytes], text, segments, leaves);
+    put_answer(rt, &whole[0..bytes], text, segments, leaves);
 }
 
 // Reads a message; says why it is refused, or the verdict on its table.
 fn put_answer(
+    rt: &impl Print,
     message: &[u8],
     text: &mut [u8; TEXT],
     segments: &mut [rows::Entry; SEGMENTS],
@@ -62,8 +64,8 @@ fn put_answer(
 ) {
     let answer = read::read(Form::Large, message, text, segments, leaves);
     if answer.number == Number::ACCEPTED {
-        put_verdict(answer.card, segments, leaves, text);
+        put_verdict(rt, answer.card, segments, leaves, text);
     } else {
-        put_refused(answer.number, answer.place);
+        put_refused(rt, answer.number, answer.place);
     }
 }

@@ -11,6 +11,7 @@ const VALUE: Entry = 6;
 
 // The value of a row's result, whether it is there at all, and which values a rule wants.
 pub fn put_misvalued(
+    rt: &impl Print,
     card: Card,
     segments: &[Entry],
     leaves: &[Entry],
@@ -18,30 +19,30 @@ pub fn put_misvalued(
     row: Entry,
     number: u8,
 ) {
-    put(b"the value (10.6.1) of ");
-    put_result(number);
+    put(rt, b"the value (10.6.1) of ");
+    put_result(rt, number);
     match leaf_of(card, segments, leaves, text, row, VALUE, 1) {
-        Sought::At(_, _) => put(b" is none of "),
-        Sought::Empty => put(b" is empty, so none of "),
-        Sought::NotThere => put(b" is not there, so none of "),
+        Sought::At(_, _) => put(rt, b" is none of "),
+        Sought::Empty => put(rt, b" is empty, so none of "),
+        Sought::NotThere => put(rt, b" is not there, so none of "),
     }
-    put_letters(number);
+    put_letters(rt, number);
 }
 
 // The result that a rule is about.
-fn put_result(number: u8) {
+fn put_result(rt: &impl Print, number: u8) {
     match number {
-        Refusal::WRONG_TYPOR => put(b"TYPOR"),
-        Refusal::WRONG_PROSS => put(b"PROSS"),
-        _ => put(b"a result of type CE with a LOINC code (LN)"),
+        Refusal::WRONG_TYPOR => put(rt, b"TYPOR"),
+        Refusal::WRONG_PROSS => put(rt, b"PROSS"),
+        _ => put(rt, b"a result of type CE with a LOINC code (LN)"),
     }
 }
 
 // The values that it may take.
-fn put_letters(number: u8) {
+fn put_letters(rt: &impl Print, number: u8) {
     match number {
-        Refusal::WRONG_TYPOR => put(b"I H E C A U"),
-        Refusal::WRONG_PROSS => put(b"O N U"),
-        _ => put(b"P N I X"),
+        Refusal::WRONG_TYPOR => put(rt, b"I H E C A U"),
+        Refusal::WRONG_PROSS => put(rt, b"O N U"),
+        _ => put(rt, b"P N I X"),
     }
 }
