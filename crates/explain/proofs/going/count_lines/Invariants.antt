@@ -1,0 +1,13 @@
+-- `explain::going::count_lines` is safe and ends. Nothing has to hold, since sums stop at the greatest number. The measure is how much of the message
+-- is left.
+-- Assumes nothing.
+use Prim.Native.Nat.{◌≤◌, ◌-◌}
+use lib.ListN.{length}
+use borrow.Author.Rules.{rules}
+use Rattle.explain.proofs.going.count_lines.Given as goal
+
+abbrev pub invariant-loop-at : goal.invariant-loop-at
+invariant-loop-at l = 0 ≤ l.at
+
+abbrev pub decreases-loop-at : goal.decreases-loop-at
+decreases-loop-at l = length l.message - l.at

@@ -1,0 +1,13 @@
+-- `explain::going::row_of` is safe and ends. The loop's invariant: no more rows are counted than bytes are passed. The measure is how much of the
+-- message is left.
+-- Assumes nothing.
+use Prim.Native.Nat.{◌≤◌, ◌-◌}
+use lib.ListN.{length}
+use borrow.Author.Rules.{rules}
+use Rattle.explain.proofs.going.row_of.Given as goal
+
+abbrev pub invariant-loop-at : goal.invariant-loop-at
+invariant-loop-at l = l.rows ≤ l.at
+
+abbrev pub decreases-loop-at : goal.decreases-loop-at
+decreases-loop-at l = length l.message - l.at

@@ -1,0 +1,11 @@
+-- `explain::joined::joined_place` is safe and ends. The loop goes on from the place that is asked for. The measure is how much of the row is left.
+-- Assumes nothing.
+use Prim.Native.Nat.{◌≤◌, ◌-◌}
+use borrow.Author.Rules.{rules}
+use Rattle.explain.proofs.joined.joined_place.Given as goal
+
+abbrev pub invariant-loop-place : goal.invariant-loop-place
+invariant-loop-place l = l.at ≤ l.place
+
+abbrev pub decreases-loop-place : goal.decreases-loop-place
+decreases-loop-place l = l.end - l.place

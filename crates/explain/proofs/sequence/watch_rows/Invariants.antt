@@ -1,0 +1,12 @@
+-- `explain::sequence::watch_rows` is safe and ends. Nothing has to hold. The measure is how much of the message is left.
+-- Assumes nothing.
+use Prim.Native.Nat.{◌≤◌, ◌-◌}
+use lib.ListN.{length}
+use borrow.Author.Rules.{rules}
+use Rattle.explain.proofs.sequence.watch_rows.Given as goal
+
+abbrev pub invariant-loop-at : goal.invariant-loop-at
+invariant-loop-at l = 0 ≤ l.at
+
+abbrev pub decreases-loop-at : goal.decreases-loop-at
+decreases-loop-at l = length l.message - l.at
