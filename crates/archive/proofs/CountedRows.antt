@@ -6,13 +6,12 @@ use mathlib.Core.Path.{◌≡◌, refl, sym, ap, ap₂, ◌∙◌}
 use Prim.Native.Nat.{ℕ, ◌*◌, ◌≤◌, ◌<◌}
 use native.Mathlib.Omega.{arith}
 use lib.Dec.{leb}
-use lib.ListN.{length, take, replicate, length-replicate}
+use lib.ListN.{length, take}
 use lib.Seq.{sets, length-sets, length-take-le, take-take, take-length}
-use borrow.Author.Tests.{le-leb, lt-leb, leb-true}
+use borrow.Author.Tests.{le-leb, lt-leb}
 use mathlib.Core.Logic.{◌⊎◌, inl, inr}
 use Rattle.laws.proofs.Cases.{less_or_not}
 use Rattle.laws.proofs.Stores.{front_taken}
-use Rattle.laws.proofs.Tests.{and_first, and_second}
 use Rattle.form.specs.declared.limits.Limits.{Limits}
 use Rattle.order.specs.Owners.{level, former_level}
 use Rattle.table.specs.declared.Card.{Card}

@@ -13,7 +13,7 @@ use Rattle.form.specs.Numbers.{short_buffer}
 use Rattle.order.specs.Owners.{level, former_level}
 use Rattle.table.specs.Lent.{Lent, counted}
 use Rattle.table.specs.Rows.{segment_row_size, leaf_row_size}
-use Rattle.table.specs.Reading.{Room, Outcome, refused, accepted, refuse_if, short, reading, stated}
+use Rattle.table.specs.Reading.{Room, Outcome, refused, refuse_if, short, reading}
 use Rattle.table.specs.inner.Back.{written}
 use Rattle.read.specs.declared.Answer.{Answer}
 use Rattle.read.specs.Answering.{answer_of, text_put, segments_put, leaves_put, Gives}

@@ -3,10 +3,10 @@
 use mathlib.Core.Bool.{true, false}
 use mathlib.Core.List.{List, []}
 use mathlib.Core.Logic.{◌⊎◌, inl, inr}
-use mathlib.Core.Path.{◌≡◌, refl, sym, ap, ap₂, ◌∙◌, subst, subst⁻¹}
+use mathlib.Core.Path.{◌≡◌, refl, sym, ap, ap₂, ◌∙◌, subst⁻¹}
 use Prim.Native.Nat.{ℕ, ◌*◌, ◌≤◌, ◌<◌}
 use native.Mathlib.Omega.{arith}
-use lib.ListN.{length, take, get_or}
+use lib.ListN.{get_or}
 use lib.Seq.{sets, take-take}
 use Rattle.form.specs.declared.limits.Limits.{Limits}
 use Rattle.form.specs.declared.separators.Separators.{Separators}
@@ -17,15 +17,13 @@ use Rattle.order.proofs.Owner.{length-owners}
 use Rattle.table.specs.declared.Card.{Card}
 use Rattle.table.specs.Lent.{Lent, lent, within_limits, within_buffers, counted}
 use Rattle.table.specs.Leaves.{split, kind_of_segment, message_leaves}
-use Rattle.table.specs.Reading.{Room, room_of, Outcome, accepted, short, reading, stated}
-use Rattle.table.specs.Rows.{Table, segment_row_size, leaf_row_size, width, kind_in, kinds_of, context_in, none_before, table_of}
-use Rattle.table.specs.inner.Back.{written}
+use Rattle.table.specs.Reading.{room_of, Outcome, short, stated}
+use Rattle.table.specs.Rows.{Table, segment_row_size, leaf_row_size, width, kinds_of, context_in, none_before, table_of}
 use Rattle.table.proofs.Accepting.{Judged, Accepted, accepting}
 use Rattle.table.proofs.Filing.{segments_of_accepted}
 use Rattle.table.proofs.Lent.{few-segments, few-leaves, few_bytes}
 use Rattle.table.proofs.Room.{roomy-text, roomy-segments, roomy-leaves}
 use Rattle.table.proofs.RowsGrowing.{length-kinds, length-message_leaves}
-use Rattle.read.specs.declared.Answer.{Answer}
 use Rattle.read.specs.Answering.{answer_of, text_put, segments_put, leaves_put, Gives}
 use Rattle.write.specs.inner.Tests.{kind_column, KindsStated}
 use Rattle.write.specs.Writing.{ReadTo}
@@ -37,7 +35,7 @@ use Rattle.tested.proofs.LentOwners.{kinds-lent}
 use Rattle.archive.specs.Widening.{ever_read, widening}
 use Rattle.archive.specs.inner.OwnedRows.{rows_owned, rows_now, PutNow}
 use Rattle.archive.proofs.OwnedRows.{rows_reowned}
-use Rattle.archive.proofs.OtherLevels.{table_by, written-table}
+use Rattle.archive.proofs.OtherLevels.{written-table}
 use Rattle.archive.proofs.Outcomes.{given_by, widening-read}
 
 -- the counted entries by themselves

@@ -1,6 +1,6 @@
 -- Writers that the contract shuts out: whatever the table, and on the table of K1.
 -- Assumes nothing.
-use mathlib.Core.Bool.{true, false}
+use mathlib.Core.Bool.{false}
 use mathlib.Core.List.{List}
 use mathlib.Core.Path.{◌≡◌, refl, sym, ap, ◌∙◌}
 use Prim.Native.Nat.{ℕ, ◌≤◌, ◌<◌}
@@ -26,7 +26,7 @@ use Rattle.table.specs.inner.Back.{leaf_at, leaves_of, separators_at, between, u
 use Rattle.table.specs.Examples.{filed, k1}
 use Rattle.table.specs.Lent.{Lent, counted}
 use Rattle.table.specs.Rows.{Table}
-use Rattle.table.specs.Reading.{Outcome, accepted, reading, stated}
+use Rattle.table.specs.Reading.{accepted, reading, stated}
 use Rattle.table.proofs.Room.{front_at}
 use Rattle.read.proofs.ShutOut.{K1, k1-read}
 use Rattle.write.specs.declared.Written.{Written}

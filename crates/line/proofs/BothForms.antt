@@ -12,7 +12,7 @@ use Rattle.form.specs.declared.forms.Form.TheVariants.{Small, Large}
 use Rattle.form.specs.Numbers.{control_byte, long_line}
 use Rattle.form.specs.Forms.{small_form, limits_of}
 use Rattle.line.specs.Finding.{found_at}
-use Rattle.line.specs.Lines.{Lines, end, fault, line, CR, space, inside, between, walk_from, walk}
+use Rattle.line.specs.Lines.{Lines, fault, line, CR, space, inside, between, walk_from, walk}
 
 -- what stands at a place of a message, which is all that the line walk answers
 pub found_in_any : (f : Form) (message : List ℕ) (at : ℕ) → found_at (limits_of f) message at ≡ found_at small_form message at

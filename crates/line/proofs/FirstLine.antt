@@ -7,7 +7,7 @@ use native.Mathlib.Omega.{arith}
 use lib.ListN.{length}
 use Rattle.laws.specs.Every.{also}
 use Rattle.form.specs.declared.limits.Limits.{Limits}
-use Rattle.line.specs.Lines.{Lines, line, inside, between, walk, texts, fault_number}
+use Rattle.line.specs.Lines.{Lines, inside, between, walk, texts, fault_number}
 use Rattle.line.specs.inner.Sound.{Text}
 use Rattle.line.proofs.Steps.{inside_nil, inside_both, walk_from-text}
 use Rattle.line.proofs.Walking.{inside-run}

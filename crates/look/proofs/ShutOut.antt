@@ -3,7 +3,7 @@
 -- elsewhere; one within a segment that goes past its leaves or answers a leaf of another segment; a finder that begins at the given row itself;
 -- same order on different bytes, or on two empty texts; texts that are the same by their lengths alone, or where one only begins like the other.
 -- Assumes nothing.
-use mathlib.Core.Bool.{Bool, true, false, true≢false}
+use mathlib.Core.Bool.{Bool, true, true≢false}
 use mathlib.Core.List.{List, [], ◌∷◌, ◌++◌}
 use mathlib.Core.Path.{◌≡◌, refl, sym, ap, ◌∙◌}
 use Prim.Native.Nat.{ℕ, ◌+◌}

@@ -10,7 +10,7 @@ use lib.Dec.{eqb}
 use lib.ListN.{get_or}
 use borrow.Author.Tests.{eq-eqb, ne_eqb}
 use Rattle.laws.specs.Lists.{among}
-use Rattle.laws.specs.Every.{All, none, also}
+use Rattle.laws.specs.Every.{All, also}
 use Rattle.laws.proofs.Cases.{equal_or_not}
 use Rattle.laws.proofs.Lists.{among_miss, first_hit, first_miss, first-least, not_first_among, found_among}
 use Rattle.laws.proofs.Tests.{never_both}

@@ -2,7 +2,7 @@
 -- Assumes nothing.
 use mathlib.Core.Bool.{false}
 use mathlib.Core.List.{List, ◌++◌, map}
-use mathlib.Core.Path.{◌≡◌, refl, sym, ap, ◌∙◌, subst}
+use mathlib.Core.Path.{◌≡◌, refl, ap, ◌∙◌, subst}
 use Prim.Native.Nat.{ℕ, ◌+◌, ◌*◌, ◌<◌}
 use native.Mathlib.Omega.{arith}
 use lib.Dec.{lit≤}
@@ -23,7 +23,7 @@ use Rattle.table.specs.declared.Card.{Card}
 use Rattle.table.specs.Leaves.{onto, split, kind_of_segment, context_of_header}
 use Rattle.table.specs.Rows.{segment_row_size, leaf_row_size, owner_in, kinds_of, context_in, Table}
 use Rattle.table.specs.inner.Columns.{segment_in}
-use Rattle.table.specs.Reading.{room_of, Room, Outcome, refused, accepted, refuse_if, refuse_at, short, first_unknown, judged, of_message, reading, stated}
+use Rattle.table.specs.Reading.{room_of, Outcome, refused, accepted, refuse_if, refuse_at, short, first_unknown, judged, of_message, reading, stated}
 use Rattle.table.specs.Examples.{Example, Says, refuses, files, says, read, filed, examples, k1, k6, k10, k11}
 use Rattle.table.proofs.Accepting.{any-room}
 use Rattle.table.proofs.Examples.{examples_hold}

@@ -21,7 +21,7 @@ use Rattle.table.specs.Leaves.{onto, split, leaves, segment_leaves, header_leave
 use Rattle.table.specs.Rows.{segment_rows_from, leaf_rows_from, text_of, kinds_of, context_in, all_leaves, table_of}
 use Rattle.table.specs.Reading.{refuse_if, refuse_at, stated, short, first_unknown, judged, of_message, reading}
 use Rattle.table.specs.inner.Back.{leaf_at, leaves_of, separators_at, between, unsplit_from, unsplit, segments_of, lines_of, written}
-use Rattle.table.specs.Examples.{Example, Says, says, read, filed, examples, k1, k5, k6, k10, k11, k12}
+use Rattle.table.specs.Examples.{Example, says, read, filed, examples, k1, k5, k6, k10, k11, k12}
 
 -- reading each message gives what the example says
 pub examples_hold : (f : Form) → map (λ (e : Example). read f e.message) examples ≡ map (λ (e : Example). e.expected) examples

@@ -7,7 +7,7 @@ use native.Mathlib.Omega.{arith}
 use Rattle.form.specs.declared.limits.Limits.{Limits}
 use Rattle.form.specs.Limits.{NoLess}
 use Rattle.line.specs.Joining.{joined}
-use Rattle.line.specs.Lines.{Lines, walk, texts, fault_number}
+use Rattle.line.specs.Lines.{Lines, texts, fault_number}
 use Rattle.line.proofs.BothForms.{walk_same}
 use Rattle.table.specs.Rows.{Table}
 use Rattle.table.specs.Reading.{accepted, reading, stated}

@@ -5,7 +5,7 @@ use mathlib.Core.Path.{◌≡◌, sym, ap, ◌∙◌}
 use Prim.Native.Nat.{ℕ}
 use Rattle.form.specs.declared.limits.Limits.{Limits}
 use Rattle.form.specs.Limits.{Lawful}
-use Rattle.table.specs.Lent.{Lent, lent, counted}
+use Rattle.table.specs.Lent.{lent, counted}
 use Rattle.table.specs.Rows.{Table}
 use Rattle.table.specs.Reading.{room_of, accepted, reading, stated}
 use Rattle.table.proofs.Accepting.{accepting, any-room}

@@ -12,7 +12,6 @@ use Rattle.form.specs.Limits.{Lawful}
 use Rattle.table.specs.declared.Card.{Card}
 use Rattle.line.specs.Cutting.{unlines}
 use Rattle.table.specs.inner.Back.{leaves_of, separators_at, segments_of, lines_of, written}
-use Rattle.write.specs.declared.Written.{Written}
 use Rattle.write.specs.declared.lines.Going.{Going}
 use Rattle.table.specs.Lent.{Lent, counted, lent}
 use Rattle.write.specs.Writing.{writes, writing}

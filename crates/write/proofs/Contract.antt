@@ -1,7 +1,7 @@
 -- What the writer's contract says (rules N1 to N3, W1 to W4): one outcome on all inputs; 12 exactly where the output is short, 13 exactly where
 -- no message reads to the lent table, and a refusal leaves the output; what is written reads to the table, in the fewest bytes and lines.
 -- Assumes nothing.
-use mathlib.Core.Bool.{Bool, true, false, true≢false}
+use mathlib.Core.Bool.{Bool, true, true≢false}
 use mathlib.Core.List.{List, ◌++◌}
 use mathlib.Core.Logic.{◌↔◌}
 use mathlib.Core.Path.{◌≡◌, refl, sym, ap, ap₂, ◌∙◌, subst⁻¹}

@@ -12,7 +12,7 @@ use Rattle.laws.proofs.Every.{all_append}
 use Rattle.form.specs.declared.limits.Limits.{Limits}
 use Rattle.form.specs.Limits.{Lawful, line_count}
 use Rattle.line.specs.Lines.{walk, texts}
-use Rattle.line.specs.Cutting.{cut, cuts}
+use Rattle.line.specs.Cutting.{cuts}
 use Rattle.line.proofs.Cutting.{cuts_nil, cuts_cons, cut_short, length-cuts, length-unlines-cuts}
 use Rattle.line.proofs.Walking.{texts-sound}
 use Rattle.line.proofs.Fewest as line

@@ -12,7 +12,6 @@ use lib.ListN.{length, take, drop, length-append}
 use Rattle.laws.specs.Tables.{values}
 use Rattle.laws.proofs.Cases.{equal_or_not}
 use Rattle.laws.proofs.Tests.{never_both}
-use Rattle.form.specs.Header as header
 use Rattle.table.specs.Rows.{leaf_row_size, text_of, start_in, length_in, place_in, width}
 use Rattle.table.specs.inner.Back.{leaf_at}
 use Rattle.table.specs.inner.RowTests.{next_place}

@@ -1,6 +1,6 @@
 -- The local conditions say exactly whether some message reads to a table (W4): what a writer tests row by row.
 -- Assumes nothing.
-use mathlib.Core.Bool.{true, false}
+use mathlib.Core.Bool.{true}
 use mathlib.Core.List.{List, [], ◌∷◌}
 use mathlib.Core.Logic.{◌↔◌}
 use mathlib.Core.Path.{◌≡◌, refl, sym, ap, ap₂, ◌∙◌, subst}
@@ -18,7 +18,6 @@ use Rattle.form.specs.Header.{all_allowed, different, five, splitting}
 use Rattle.form.proofs.HeaderRule.{AllAllowed, AllDifferent, all-allowed_facts, facts_all_allowed, different_facts, facts_different}
 use Rattle.line.specs.Lines.{CR}
 use Rattle.line.specs.Cutting.{cuts, unlines}
-use Rattle.line.specs.inner.Sound.{Text}
 use Rattle.line.proofs.Fewest.{least-message}
 use Rattle.line.proofs.Written.{Worded}
 use Rattle.order.specs.inner.Place.{misplaced}

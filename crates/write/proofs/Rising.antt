@@ -15,7 +15,6 @@ use Rattle.laws.specs.Tables.{values}
 use Rattle.laws.proofs.Cases.{equal_or_not}
 use Rattle.laws.proofs.Lists.{same_equal}
 use Rattle.laws.proofs.Tests.{and_first, and_second}
-use Rattle.form.specs.Header as header
 use Rattle.table.specs.Rows.{leaf_row_size, place_in}
 use Rattle.table.specs.inner.Columns.{segment_in, field_in}
 use Rattle.table.specs.inner.Flat.{ones}

@@ -1,8 +1,7 @@
 -- What an answer of no, or of yes, says of the test that it answers.
 -- Assumes nothing.
-use mathlib.Core.Bool.{Bool, true, false, not}
+use mathlib.Core.Bool.{Bool, true, false}
 use mathlib.Core.Path.{◌≡◌, sym, ◌∙◌}
-use borrow.Author.Tests.{not-true, not-false}
 
 pub answered_no : {r b : Bool} → r ≡ b → r ≡ false → b ≡ false
 answered_no e h = sym e ∙ h

@@ -1,9 +1,7 @@
 -- `archive::put_table` meets its contract: each of the three parts is put at the front of its buffer.
 -- Assumes nothing.
-use borrow.Author.Rules.{rules}
 use native.Mathlib.Omega.{arith}
-use mathlib.Core.List.{List}
-use mathlib.Core.Path.{◌≡◌, sym, ap, ◌∙◌}
+use mathlib.Core.Path.{sym, ap, ◌∙◌}
 use Prim.Native.Nat.{ℕ, ◌*◌}
 use lib.Seq.{sets, length-take-le}
 use Rattle.form.specs.declared.forms.Form.TheVariants.{Small}

@@ -1,9 +1,8 @@
 -- `archive::widen` meets its contract: each return is one outcome.
 -- Assumes nothing.
-use borrow.Author.Rules.{rules}
 use native.Mathlib.Omega.{arith}
 use mathlib.Core.Bool.{true, false}
-use mathlib.Core.Path.{◌≡◌, sym, ◌∙◌}
+use mathlib.Core.Path.{◌≡◌}
 use Rattle.form.specs.declared.forms.Form.TheVariants.{Small}
 use Rattle.form.specs.Forms.{small_form, limits_of}
 use Rattle.form.specs.Limits.{Lawful}

@@ -2,7 +2,6 @@
 -- segments.
 -- Assumes nothing.
 use mathlib.Core.Path.{refl}
-use borrow.Author.Rules.{rules}
 use Rattle.form.specs.declared.forms.Form.TheVariants.{Small, Large}
 use Rattle.form.specs.Forms.{limits_of}
 use Rattle.order.proofs.LevelTable.{levels_are, levels-below}

@@ -1,6 +1,5 @@
 -- `read::read_within` meets its contract: what was decided is refused, or filled in.
 -- Assumes nothing.
-use borrow.Author.Rules.{rules}
 use Rattle.read.specs.inner.Deciding.{Fileable}
 use Rattle.read.proofs.Answering.{refusal_read, accepted_fileable, table-filed, table-read}
 use Rattle.read.proofs.read_within.Goals as goal

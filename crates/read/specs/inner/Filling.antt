@@ -6,7 +6,7 @@ use Rattle.form.specs.declared.limits.Limits.{Limits}
 use Rattle.form.specs.declared.separators.Separators.{Separators}
 use Rattle.form.specs.declared.separators.Header.TheVariants.{Sound}
 use Rattle.form.specs.Header.{header_of}
-use Rattle.line.specs.Lines.{walk, texts, fault_number}
+use Rattle.line.specs.Lines.{walk, fault_number}
 use Rattle.order.specs.inner.Levels.{level_in, LevelsBelow}
 use Rattle.table.specs.Rows.{Table, context_in, all_leaves, table_of, segment_row_size, leaf_row_size}
 use Rattle.table.specs.inner.Fitting.{FitsRows}

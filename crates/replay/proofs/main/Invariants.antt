@@ -1,6 +1,5 @@
 -- `replay::main` is safe and ends: the measure is how many cases it may still run.
 -- Assumes nothing.
-use borrow.Author.Rules.{rules}
 use Rattle.replay.proofs.main.Given as goal
 
 abbrev pub invariant-loop-left : goal.invariant-loop-left

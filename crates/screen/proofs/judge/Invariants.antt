@@ -1,11 +1,8 @@
 -- `screen::judge` meets its contract. The loop's invariant: the rows so far fail no rule below the lowest, and its row is the first that fails it. The
 -- measure is the rows that are left. Assumes nothing.
-use mathlib.Core.Path.{◌∙◌}
 use Prim.Native.Nat.{◌-◌}
-use native.Mathlib.Omega.{arith}
-use borrow.Author.Rules.{rules}
-use Rattle.table.specs.Lent.{Lent, lent}
-use Rattle.screen.proofs.LowestRule.{LowestSoFar, lowest_begins, lower_row, other_row, all-judged}
+use Rattle.table.specs.Lent.{lent}
+use Rattle.screen.proofs.LowestRule.{LowestSoFar}
 use Rattle.screen.proofs.judge.Given as goal
 
 abbrev pub invariant-loop-row : goal.invariant-loop-row

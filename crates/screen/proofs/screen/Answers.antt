@@ -3,8 +3,6 @@
 use mathlib.Core.Bool.{true}
 use mathlib.Core.Path.{◌≡◌, sym, ◌∙◌}
 use native.Mathlib.Omega.{arith}
-use borrow.Author.Rules.{rules}
-use borrow.Author.Tests.{not-true, not-false}
 use Rattle.form.specs.declared.forms.Form.{Form}
 use Rattle.form.specs.Forms.{limits_of}
 use Rattle.form.proofs.TwoForms.{form_lawful}

@@ -1,7 +1,6 @@
 -- `screen::told` meets its contract: whether the number is past those of the rules.
 -- Assumes nothing.
 use mathlib.Core.Path.{sym, ◌∙◌}
-use borrow.Author.Rules.{rules}
 use borrow.Author.Tests.{eq-eqb, ne_eqb}
 use Rattle.screen.specs.inner.Rows.{past_rules, verdict_at}
 use Rattle.screen.proofs.told.Goals as goal

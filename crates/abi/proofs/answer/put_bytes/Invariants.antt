@@ -1,10 +1,8 @@
 -- `abi::answer::put_bytes` meets its contract. The loop's invariant: what is left of the bytes gives what all of them give.
 -- The measure is the bytes that are left. Assumes nothing.
-use mathlib.Core.Path.{sym}
 use Prim.Native.Nat.{◌-◌}
-use native.Mathlib.Omega.{arith}
 use lib.ListN.{length}
-use Rattle.abi.proofs.Puts.{put-short, Underway, put-begins, put_next, put-done}
+use Rattle.abi.proofs.Puts.{Underway}
 use Rattle.abi.proofs.answer.put_bytes.Given as goal
 
 abbrev pub invariant-loop-at : goal.invariant-loop-at

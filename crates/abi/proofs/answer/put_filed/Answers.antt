@@ -1,7 +1,6 @@
 -- `abi::answer::put_filed` meets its contract: place and card, number by number.
 -- Assumes nothing.
 use mathlib.Core.Path.{refl}
-use borrow.Author.Rules.{rules}
 use Rattle.abi.specs.Cards.{card_numbers}
 use Rattle.abi.proofs.answer.put_filed.Goals as goal
 

@@ -1,10 +1,8 @@
 -- `abi::answer::put_numbers` meets its contract. The loop's invariant: what is left of the numbers gives what all of them give.
 -- The measure is the numbers that are left. Assumes nothing.
-use mathlib.Core.Path.{sym}
 use Prim.Native.Nat.{◌-◌}
-use native.Mathlib.Omega.{arith}
 use lib.ListN.{length}
-use Rattle.abi.proofs.Puts.{put-short, Underway, put-begins, put_next, put-done}
+use Rattle.abi.proofs.Puts.{Underway}
 use Rattle.abi.proofs.answer.put_numbers.Given as goal
 
 abbrev pub invariant-loop-at : goal.invariant-loop-at

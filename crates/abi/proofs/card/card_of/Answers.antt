@@ -2,7 +2,6 @@
 -- Assumes nothing.
 use mathlib.Core.Path.{◌∙◌}
 use Rattle.abi.proofs.CardNumbers.{too_few, no_separator, no_context, card-taken}
-use borrow.Author.Rules.{rules}
 use Rattle.abi.proofs.card.card_of.Goals as goal
 
 pub returns-then-card-lt-NUMBERS : goal.returns-then-card-lt-NUMBERS

@@ -2,7 +2,6 @@
 -- Assumes nothing.
 use native.Mathlib.Omega.{arith}
 use lib.ListN.{length-set}
-use borrow.Author.Rules.{rules}
 use Rattle.abi.proofs.IndexAnswers.{tally-put}
 use Rattle.abi.proofs.indexing.put_tally.Goals as goal
 

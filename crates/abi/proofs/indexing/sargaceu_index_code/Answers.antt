@@ -5,7 +5,6 @@ use mathlib.Core.Path.{sym, ap, ◌∙◌}
 use Prim.Native.Nat.{ℕ}
 use Rattle.abi.specs.Putting.{put_all}
 use Rattle.abi.proofs.IndexAnswers.{code-told, code_not_named, code_no_index}
-use borrow.Author.Rules.{rules}
 use Rattle.abi.proofs.indexing.sargaceu_index_code.Goals as goal
 
 pub returns-in-At : goal.returns-in-At

@@ -2,7 +2,6 @@
 -- Assumes nothing.
 use mathlib.Core.Path.{sym, ◌∙◌}
 use Rattle.abi.proofs.IndexAnswers.{codes-told, codes_no_index}
-use borrow.Author.Rules.{rules}
 use Rattle.abi.proofs.indexing.sargaceu_index_codes.Goals as goal
 
 pub returns-in-Named : goal.returns-in-Named

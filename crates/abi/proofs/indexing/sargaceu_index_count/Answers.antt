@@ -5,7 +5,6 @@ use mathlib.Core.Path.{sym, ap, ◌∙◌}
 use Prim.Native.Nat.{ℕ}
 use Rattle.abi.specs.Putting.{put_all}
 use Rattle.abi.proofs.IndexAnswers.{count-told, count_not_named, count_no_index}
-use borrow.Author.Rules.{rules}
 use Rattle.abi.proofs.indexing.sargaceu_index_count.Goals as goal
 
 pub returns-in-Times : goal.returns-in-Times

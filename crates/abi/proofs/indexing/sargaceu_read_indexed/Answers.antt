@@ -4,7 +4,6 @@ use mathlib.Core.Path.{ap}
 use Rattle.form.specs.Forms.{limits_of}
 use Rattle.abi.specs.FormNumbers.{limits_numbered}
 use Rattle.abi.proofs.IndexAnswers.{indexed_short_answer, indexed_short_tally, indexed_whole, indexed_same}
-use borrow.Author.Rules.{rules}
 use Rattle.abi.proofs.indexing.sargaceu_read_indexed.Goals as goal
 
 pub returns-then-answer-lt-ANSWER : goal.returns-then-answer-lt-ANSWER

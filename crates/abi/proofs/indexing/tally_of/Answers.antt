@@ -1,7 +1,6 @@
 -- `abi::indexing::tally_of` meets its contract: the first three numbers.
 -- Assumes nothing.
 use mathlib.Core.Path.{refl}
-use borrow.Author.Rules.{rules}
 use Rattle.abi.specs.Indexing.{tally_of}
 use Rattle.abi.proofs.indexing.tally_of.Goals as goal
 

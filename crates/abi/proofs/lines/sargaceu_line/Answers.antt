@@ -4,7 +4,6 @@ use mathlib.Core.Path.{sym, ◌∙◌}
 use Rattle.form.specs.Forms.{small_form}
 use Rattle.line.specs.Finding.{found_at}
 use Rattle.abi.proofs.LineAnswers.{line-short, line-found, line-end, line-fault}
-use borrow.Author.Rules.{rules}
 use Rattle.abi.proofs.lines.sargaceu_line.Goals as goal
 
 pub returns-then-answer-lt-ANSWER : goal.returns-then-answer-lt-ANSWER

@@ -2,7 +2,6 @@
 -- Assumes nothing.
 use Rattle.look.specs.inner.Searching.{sought_in_segment}
 use Rattle.abi.proofs.LeafAnswers.{tells_looked}
-use borrow.Author.Rules.{rules}
 use Rattle.abi.proofs.looking.sargaceu_find_leaf_in_segment.Goals as goal
 
 pub returns : goal.returns

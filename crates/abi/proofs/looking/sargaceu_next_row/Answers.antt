@@ -3,7 +3,6 @@
 use mathlib.Core.Path.{ap, ◌∙◌}
 use Rattle.table.specs.declared.Card.{Card}
 use Rattle.look.specs.inner.Searching.{row_after}
-use borrow.Author.Rules.{rules}
 use Rattle.abi.proofs.looking.sargaceu_next_row.Goals as goal
 
 pub returns : goal.returns

@@ -4,7 +4,6 @@ use mathlib.Core.Path.{ap₂, ◌∙◌}
 use Rattle.table.specs.declared.Card.{Card}
 use Rattle.table.specs.Lent.{lent}
 use Rattle.look.specs.inner.Searching.{same_order}
-use borrow.Author.Rules.{rules}
 use Rattle.abi.proofs.looking.sargaceu_same_order.Goals as goal
 
 pub returns : goal.returns

@@ -1,7 +1,6 @@
 -- `abi::looking::tell_sought` meets its contract: the number of what was sought, and what goes into the answer.
 -- Assumes nothing.
 use Rattle.abi.proofs.LeafAnswers.{leaf_with_text, leaf_empty, leaf_not_there}
-use borrow.Author.Rules.{rules}
 use Rattle.abi.proofs.looking.tell_sought.Goals as goal
 
 pub shape_of-answer-in-At : goal.shape_of-answer-in-At

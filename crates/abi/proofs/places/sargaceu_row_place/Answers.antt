@@ -5,7 +5,6 @@ use mathlib.Core.Path.{ap, ◌∙◌}
 use Prim.Native.Nat.{ℕ}
 use Rattle.source.specs.declared.row.RowPlace.{RowPlace}
 use Rattle.abi.specs.Putting.{put_all}
-use borrow.Author.Rules.{rules}
 use Rattle.abi.proofs.places.sargaceu_row_place.Goals as goal
 
 pub returns : goal.returns

@@ -7,7 +7,6 @@ use Rattle.table.specs.Reading.{Outcome, room_of, reading}
 use Rattle.read.proofs.Answering.{read_same}
 use Rattle.abi.specs.FormNumbers.{limits_numbered}
 use Rattle.abi.proofs.ReadAnswers.{tells_short, tells_whole}
-use borrow.Author.Rules.{rules}
 use Rattle.abi.proofs.reading.sargaceu_read.Goals as goal
 use Rattle.abi.proofs.reading.sargaceu_read.Goals.{Start}
 

@@ -9,7 +9,6 @@ use Rattle.screen.specs.Verdicts.{screened}
 use Rattle.abi.specs.Cards.{card_of}
 use Rattle.abi.specs.FormNumbers.{limits_numbered}
 use Rattle.abi.proofs.ScreenAnswers.{screen_short, screen_whole}
-use borrow.Author.Rules.{rules}
 use Rattle.abi.proofs.screening.sargaceu_screen.Goals as goal
 
 pub returns-then-answer-lt-SCREEN_ANSWER : goal.returns-then-answer-lt-SCREEN_ANSWER

@@ -11,7 +11,6 @@ use Rattle.value.specs.Results.{ReadValues}
 use Rattle.abi.specs.Cards.{card_of}
 use Rattle.abi.specs.FormNumbers.{limits_numbered}
 use Rattle.abi.proofs.ValueAnswers.{results-short, results-whole}
-use borrow.Author.Rules.{rules}
 use Rattle.abi.proofs.values.sargaceu_order_values.Goals as goal
 use Rattle.abi.proofs.values.sargaceu_order_values.Goals.{Start}
 

@@ -7,7 +7,6 @@ use mir.Syntax.{w64}
 use mir.ValLaws.{to_z_pos}
 use Rattle.value.proofs.SignedValues.{value_bits, value-decimals}
 use Rattle.abi.proofs.ValueAnswers.{value-short, value-whole}
-use borrow.Author.Rules.{rules}
 use Rattle.abi.proofs.values.sargaceu_read_value.Goals as goal
 
 pub returns-then-answer-lt-VALUE_ANSWER : goal.returns-then-answer-lt-VALUE_ANSWER

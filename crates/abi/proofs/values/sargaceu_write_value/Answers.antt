@@ -7,7 +7,6 @@ use mir.ValLaws.{to_z-of_z}
 use Rattle.value.specs.Numerals.{most_digits}
 use Rattle.value.specs.Writing.{WroteValue}
 use Rattle.abi.proofs.ValueAnswers.{spelling-short, spelling-whole}
-use borrow.Author.Rules.{rules}
 use Rattle.abi.proofs.values.sargaceu_write_value.Goals as goal
 
 pub returns-then-answer-lt-TEXT_ANSWER : goal.returns-then-answer-lt-TEXT_ANSWER

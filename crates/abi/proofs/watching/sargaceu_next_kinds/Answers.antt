@@ -1,8 +1,7 @@
 -- `abi::watching::sargaceu_next_kinds` meets its contract: what the watcher's `next_kinds` answers, put into the lent bytes, whose length stays.
 -- Assumes nothing.
-use borrow.Author.Rules.{rules}
 use mathlib.Core.List.{List}
-use mathlib.Core.Path.{sym, ap, ◌∙◌}
+use mathlib.Core.Path.{ap, ◌∙◌}
 use Prim.Native.Nat.{ℕ}
 use lib.Dec.{leb}
 use Rattle.abi.specs.Putting.{put_all}

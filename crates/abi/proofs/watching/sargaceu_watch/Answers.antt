@@ -1,7 +1,6 @@
 -- `abi::watching::sargaceu_watch` meets its contract: what the watcher of the two bytes says, and its bytes after that.
 -- Assumes nothing.
 use Rattle.abi.proofs.WatcherBytes.{watch_short, watch_told}
-use borrow.Author.Rules.{rules}
 use Rattle.abi.proofs.watching.sargaceu_watch.Goals as goal
 
 pub returns-then-watcher-lt-BYTES : goal.returns-then-watcher-lt-BYTES

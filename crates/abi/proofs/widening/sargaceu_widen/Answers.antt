@@ -8,7 +8,6 @@ use Rattle.table.specs.Reading.{Outcome, room_of}
 use Rattle.archive.specs.Widening.{widening, WidenedAs}
 use Rattle.abi.specs.Cards.{card_of}
 use Rattle.abi.proofs.ReadAnswers.{tells_short, tells_whole}
-use borrow.Author.Rules.{rules}
 use Rattle.abi.proofs.widening.sargaceu_widen.Goals as goal
 use Rattle.abi.proofs.widening.sargaceu_widen.Goals.{Start}
 

@@ -7,7 +7,6 @@ use Rattle.order.specs.Owners.{level}
 use Rattle.table.specs.declared.Card.{Card}
 use Rattle.table.specs.Lent.{lent}
 use Rattle.write.specs.inner.ReadsBack.{is_table}
-use borrow.Author.Rules.{rules}
 use Rattle.abi.proofs.writing.sargaceu_is_table.Goals as goal
 
 pub returns : goal.returns

@@ -9,7 +9,6 @@ use Rattle.write.specs.Answer.{WroteAs}
 use Rattle.abi.specs.Cards.{card_of}
 use Rattle.abi.specs.FormNumbers.{limits_numbered}
 use Rattle.abi.proofs.WriteAnswers.{write_short, write_whole}
-use borrow.Author.Rules.{rules}
 use Rattle.abi.proofs.writing.sargaceu_write.Goals as goal
 
 pub returns-then-answer-lt-ANSWER : goal.returns-then-answer-lt-ANSWER

@@ -1,6 +1,5 @@
 -- `archive::owned::put_row` meets its contract: four stores in a row.
 -- Assumes nothing.
-use borrow.Author.Rules.{rules}
 use native.Mathlib.Omega.{arith}
 use lib.ListN.{length-set}
 use Rattle.archive.proofs.FourStores.{four_stores}

@@ -1,11 +1,9 @@
 -- `archive::owned::put_rows` meets its contract: the rows from here on, put into the buffer as it stands, give what all of them give.
 -- Assumes nothing.
-use borrow.Author.Rules.{rules}
 use mathlib.Core.Path.{refl}
-use Prim.Native.Nat.{◌-◌}
 use native.Mathlib.Omega.{arith}
 use Rattle.order.specs.inner.Levels.{level_in}
-use Rattle.archive.proofs.OwnedRows.{PuttingRows, rows-begun, rows_on, rows-done}
+use Rattle.archive.proofs.OwnedRows.{rows-begun, rows_on, rows-done}
 use Rattle.archive.proofs.owned.put_rows.Goals as goal
 
 pub loop-i-init : goal.loop-i-init

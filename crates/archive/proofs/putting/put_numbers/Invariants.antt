@@ -1,10 +1,8 @@
 -- `archive::putting::put_numbers` meets its contract: what is left of the numbers, put from here on, gives what all of them give.
 -- Assumes nothing.
-use borrow.Author.Rules.{rules}
 use Prim.Native.Nat.{◌-◌}
-use native.Mathlib.Omega.{arith}
 use lib.ListN.{length}
-use Rattle.read.proofs.AtTheFront.{Putting, putting_begins, putting_next, putting_done}
+use Rattle.read.proofs.AtTheFront.{Putting}
 use Rattle.archive.proofs.putting.put_numbers.Given as goal
 
 abbrev pub invariant-loop-at : goal.invariant-loop-at

@@ -1,6 +1,5 @@
 -- `archive::rereading::ever_read` meets its contract: the counts, and then the counted rows.
 -- Assumes nothing.
-use borrow.Author.Rules.{rules}
 use native.Mathlib.Omega.{arith}
 use mathlib.Core.Bool.{true}
 use mathlib.Core.Path.{◌≡◌, sym, ◌∙◌}

@@ -1,16 +1,8 @@
 -- `archive::rereading::read_by_either` meets its contract: the rows at the front of wide ones are tested as they would be by themselves.
 -- Assumes nothing.
-use borrow.Author.Rules.{rules}
-use native.Mathlib.Omega.{arith}
-use mathlib.Core.Bool.{true, false}
-use mathlib.Core.Path.{◌≡◌, sym, ap, ap₂, ◌∙◌}
-use mathlib.Core.List.{List}
-use Prim.Native.Nat.{ℕ}
-use lib.ListN.{replicate, length-replicate}
-use lib.Seq.{sets}
+use mathlib.Core.Path.{sym, ◌∙◌}
+use lib.ListN.{replicate}
 use Rattle.form.specs.Forms.{small_form, limits_of}
-use Rattle.table.specs.Lent.{Lent, lent}
-use Rattle.archive.specs.Widening.{ever_read}
 use Rattle.archive.proofs.CountedRows.{read_now, read-once, room_for_segments, room_for_leaves}
 use Rattle.archive.proofs.rereading.read_by_either.Goals as goal
 

@@ -2,7 +2,6 @@
 -- still come.
 -- Assumes nothing.
 use Prim.Native.Nat.{◌≤◌, ◌-◌}
-use borrow.Author.Rules.{rules}
 use Rattle.explain.proofs.accepted.count_owners.Given as goal
 
 abbrev pub invariant-loop-owners : goal.invariant-loop-owners

@@ -3,7 +3,6 @@
 -- Assumes nothing.
 use Prim.Native.Nat.{◌≤◌, ◌-◌}
 use lib.ListN.{length}
-use borrow.Author.Rules.{rules}
 use Rattle.explain.proofs.arguments.number_of.Given as goal
 
 abbrev pub invariant-loop-at : goal.invariant-loop-at

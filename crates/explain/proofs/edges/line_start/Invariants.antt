@@ -1,7 +1,6 @@
 -- `explain::edges::line_start` is safe and ends. The loop goes back from the offset. The measure is the place.
 -- Assumes nothing.
 use Prim.Native.Nat.{◌≤◌}
-use borrow.Author.Rules.{rules}
 use Rattle.explain.proofs.edges.line_start.Given as goal
 
 abbrev pub invariant-loop-at : goal.invariant-loop-at

@@ -1,7 +1,6 @@
 -- `explain::edges::text_end` is safe and ends. The loop goes back from the end. The measure is the place.
 -- Assumes nothing.
 use Prim.Native.Nat.{◌≤◌}
-use borrow.Author.Rules.{rules}
 use Rattle.explain.proofs.edges.text_end.Given as goal
 
 abbrev pub invariant-loop-at : goal.invariant-loop-at

@@ -2,7 +2,6 @@
 -- bytes are left.
 -- Assumes nothing.
 use Prim.Native.Nat.{◌≤◌, ◌-◌}
-use borrow.Author.Rules.{rules}
 use Rattle.explain.proofs.header.first_flaw.Given as goal
 
 abbrev pub invariant-loop-at : goal.invariant-loop-at

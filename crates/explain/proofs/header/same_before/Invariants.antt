@@ -1,7 +1,6 @@
 -- `explain::header::same_before` is safe and ends. The loop begins with the first separator. The measure is how many are left.
 -- Assumes nothing.
 use Prim.Native.Nat.{◌≤◌, ◌-◌}
-use borrow.Author.Rules.{rules}
 use Rattle.explain.proofs.header.same_before.Given as goal
 
 abbrev pub invariant-loop-earlier : goal.invariant-loop-earlier

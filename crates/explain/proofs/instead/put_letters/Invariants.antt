@@ -1,7 +1,6 @@
 -- `explain::instead::put_letters` is safe and ends. The measure is how many bytes may still be shown.
 -- Assumes nothing.
 use Prim.Native.Nat.{◌≤◌}
-use borrow.Author.Rules.{rules}
 use Rattle.explain.proofs.instead.put_letters.Given as goal
 
 abbrev pub invariant-loop-left : goal.invariant-loop-left

@@ -1,7 +1,6 @@
 -- `explain::joined::joined_place` is safe and ends. The loop goes on from the place that is asked for. The measure is how much of the row is left.
 -- Assumes nothing.
 use Prim.Native.Nat.{◌≤◌, ◌-◌}
-use borrow.Author.Rules.{rules}
 use Rattle.explain.proofs.joined.joined_place.Given as goal
 
 abbrev pub invariant-loop-place : goal.invariant-loop-place

@@ -2,7 +2,6 @@
 -- left.
 -- Assumes nothing.
 use Prim.Native.Nat.{◌≤◌, ◌-◌}
-use borrow.Author.Rules.{rules}
 use Rattle.explain.proofs.names.count_kinds.Given as goal
 
 abbrev pub invariant-loop-kind : goal.invariant-loop-kind

@@ -1,7 +1,6 @@
 -- `explain::names::put_contexts` is safe and ends. The loop's invariant: no more contexts are left than there are. The measure is how many are left.
 -- Assumes nothing.
 use Prim.Native.Nat.{◌≤◌}
-use borrow.Author.Rules.{rules}
 use Rattle.explain.proofs.names.put_contexts.Given as goal
 
 abbrev pub invariant-loop-left : goal.invariant-loop-left

@@ -1,7 +1,6 @@
 -- `explain::names::put_kinds` is safe and ends. The loop's invariant: the kind is one of the list, or just behind it. The measure is how many are left.
 -- Assumes nothing.
 use Prim.Native.Nat.{◌≤◌, ◌-◌}
-use borrow.Author.Rules.{rules}
 use Rattle.explain.proofs.names.put_kinds.Given as goal
 
 abbrev pub invariant-loop-kind : goal.invariant-loop-kind

@@ -1,7 +1,6 @@
 -- `explain::output::put_times` is safe and ends. The measure is how often the byte is still to be put.
 -- Assumes nothing.
 use Prim.Native.Nat.{◌≤◌}
-use borrow.Author.Rules.{rules}
 use Rattle.explain.proofs.output.put_times.Given as goal
 
 abbrev pub invariant-loop-left : goal.invariant-loop-left

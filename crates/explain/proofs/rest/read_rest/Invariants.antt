@@ -1,7 +1,6 @@
 -- `explain::rest::read_rest` is safe and ends. The measure is how many reads are left.
 -- Assumes nothing.
 use Prim.Native.Nat.{◌≤◌}
-use borrow.Author.Rules.{rules}
 use Rattle.explain.proofs.rest.read_rest.Given as goal
 
 abbrev pub invariant-loop-left : goal.invariant-loop-left

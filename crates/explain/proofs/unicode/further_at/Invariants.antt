@@ -1,7 +1,6 @@
 -- `explain::unicode::further_at` is safe and ends. The loop begins behind the first byte. The measure is how many bytes are left.
 -- Assumes nothing.
 use Prim.Native.Nat.{◌≤◌, ◌-◌}
-use borrow.Author.Rules.{rules}
 use Rattle.explain.proofs.unicode.further_at.Given as goal
 
 abbrev pub invariant-loop-next : goal.invariant-loop-next

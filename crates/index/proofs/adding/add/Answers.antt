@@ -5,8 +5,6 @@ use mathlib.Core.List.{List}
 use mathlib.Core.Path.{◌≡◌, refl, sym, ap, ◌∙◌}
 use Prim.Native.Nat.{ℕ, ◌<◌}
 use native.Mathlib.Omega.{arith}
-use borrow.Author.Rules.{rules}
-use borrow.Author.Tests.{not-true, not-false}
 use Rattle.index.specs.Index.{codes_most, named_in, roomy}
 use Rattle.index.specs.inner.Halving.{sought_among}
 use Rattle.index.proofs.Additions.{not_roomy_adds, empty_adds, long-adds, place-within, full_adds, inserted-adds, counted-adds}

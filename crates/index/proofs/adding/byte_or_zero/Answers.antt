@@ -1,6 +1,5 @@
 -- `index::adding::byte_or_zero` meets its contract: behind the end of a list stands 0. Assumes nothing.
 use mathlib.Core.Path.{sym}
-use borrow.Author.Rules.{rules}
 use lib.ListN.{get_or-eq_default}
 use Rattle.index.proofs.adding.byte_or_zero.Goals as goal
 

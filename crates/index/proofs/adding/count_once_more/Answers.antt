@@ -1,6 +1,5 @@
 -- `index::adding::count_once_more` meets its contract: a count is below 4,294,967,296. Assumes nothing.
 use native.Mathlib.Omega.{arith}
-use borrow.Author.Rules.{rules}
 use Rattle.index.proofs.OnceMore.{count_full, counted-once}
 use Rattle.index.proofs.adding.count_once_more.Goals as goal
 

@@ -1,7 +1,7 @@
 -- `index::adding::move_codes` meets its contract: what stood from i up to the end stands a place further. Assumes nothing.
 use native.Mathlib.Omega.{arith}
 use Rattle.index.specs.Index.{place_size}
-use Rattle.index.proofs.Moving.{Moving, moving_begins, moving_within, moving_next, moving_done}
+use Rattle.index.proofs.Moving.{moving_begins, moving_within, moving_next, moving_done}
 use Rattle.index.proofs.adding.move_codes.Goals as goal
 
 pub loop-i-init : goal.loop-i-init

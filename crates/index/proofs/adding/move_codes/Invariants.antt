@@ -1,7 +1,6 @@
 -- `index::adding::move_codes` meets its contract: what stood from i up to the end stands a place further. Assumes nothing.
-use native.Mathlib.Omega.{arith}
 use Rattle.index.specs.Index.{place_size}
-use Rattle.index.proofs.Moving.{Moving, moving_begins, moving_within, moving_next, moving_done}
+use Rattle.index.proofs.Moving.{Moving}
 use Rattle.index.proofs.adding.move_codes.Given as goal
 
 abbrev pub invariant-loop-i : goal.invariant-loop-i

@@ -1,6 +1,6 @@
 -- `index::adding::move_counts` meets its contract: what stood from i up to the end stands one further. Assumes nothing.
 use native.Mathlib.Omega.{arith}
-use Rattle.index.proofs.Moving.{Moving, moving_begins, moving_within, moving_next, moving_done}
+use Rattle.index.proofs.Moving.{moving_begins, moving_within, moving_next, moving_done}
 use Rattle.index.proofs.adding.move_counts.Goals as goal
 
 pub loop-i-init : goal.loop-i-init

@@ -1,6 +1,5 @@
 -- `index::adding::move_counts` meets its contract: what stood from i up to the end stands one further. Assumes nothing.
-use native.Mathlib.Omega.{arith}
-use Rattle.index.proofs.Moving.{Moving, moving_begins, moving_within, moving_next, moving_done}
+use Rattle.index.proofs.Moving.{Moving}
 use Rattle.index.proofs.adding.move_counts.Given as goal
 
 abbrev pub invariant-loop-i : goal.invariant-loop-i

@@ -1,11 +1,7 @@
 -- `index::adding::put_code` meets its contract: what is left of the place, put from here on, gives what all of it gives. Assumes nothing.
-use mathlib.Core.Path.{◌≡◌, ◌∙◌}
 use Prim.Native.Nat.{◌-◌}
-use native.Mathlib.Omega.{arith}
-use lib.ListN.{length, set, length-set}
-use borrow.Author.Rules.{rules}
 use Rattle.index.specs.Index.{code_most}
-use Rattle.index.proofs.PlacedCode.{Placing, placing_begins, placing_next, placing_done}
+use Rattle.index.proofs.PlacedCode.{Placing}
 use Rattle.index.proofs.adding.put_code.Given as goal
 
 abbrev pub invariant-loop-k : goal.invariant-loop-k

@@ -2,8 +2,6 @@
 use mathlib.Core.Bool.{true}
 use mathlib.Core.Path.{◌≡◌, sym, ap, ◌∙◌}
 use native.Mathlib.Omega.{arith}
-use borrow.Author.Rules.{rules}
-use borrow.Author.Tests.{not-true, not-false}
 use Rattle.index.specs.declared.asking.Codes.TheVariants.{Named}
 use Rattle.index.specs.Index.{roomy}
 use Rattle.index.proofs.Asked.{no_codes, some-codes}

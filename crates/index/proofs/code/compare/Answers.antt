@@ -1,9 +1,7 @@
 -- `index::code::compare` meets its contract: what is left of both stands to each other as they do. The measure is the bytes that are left.
 -- Assumes nothing.
-use Prim.Native.Nat.{◌-◌}
 use native.Mathlib.Omega.{arith}
-use lib.ListN.{length}
-use Rattle.index.proofs.Beside.{Beside, beside_begins, beside_shorter, beside_same, beside_longer, beside_less, beside_greater, beside_alike}
+use Rattle.index.proofs.Beside.{beside_begins, beside_shorter, beside_same, beside_longer, beside_less, beside_greater, beside_alike}
 use Rattle.index.proofs.code.compare.Goals as goal
 
 pub length_at-n-requires : goal.length_at-n-requires

@@ -4,8 +4,6 @@ use mathlib.Core.Bool.{true}
 use mathlib.Core.Path.{◌≡◌, sym, ap, ◌∙◌}
 use Prim.Native.Nat.{ℕ}
 use native.Mathlib.Omega.{arith}
-use borrow.Author.Rules.{rules}
-use borrow.Author.Tests.{not-true, not-false}
 use Rattle.index.specs.Index.{roomy}
 use Rattle.index.specs.inner.Halving.{sought_among}
 use Rattle.index.proofs.Asked.{found_nowhere, too_long, found_sought}

@@ -1,10 +1,8 @@
 -- `index::finding::seek` meets its contract: the half that is kept comes to the place that all come to. The measure is the places that are left.
 -- Assumes nothing.
 use mathlib.Core.Path.{sym, ◌∙◌}
-use Prim.Native.Nat.{◌-◌}
 use native.Mathlib.Omega.{arith}
-use borrow.Author.Rules.{rules}
-use Rattle.index.proofs.KeptHalf.{Halving, halving_begins, middle_named, keeps_before, keeps_after, stops, halving_ends}
+use Rattle.index.proofs.KeptHalf.{halving_begins, middle_named, keeps_before, keeps_after, stops, halving_ends}
 use Rattle.index.proofs.finding.seek.Goals as goal
 
 pub loop-low-init : goal.loop-low-init

@@ -1,10 +1,7 @@
 -- `index::finding::seek` meets its contract: the half that is kept comes to the place that all come to. The measure is the places that are left.
 -- Assumes nothing.
-use mathlib.Core.Path.{sym, ◌∙◌}
 use Prim.Native.Nat.{◌-◌}
-use native.Mathlib.Omega.{arith}
-use borrow.Author.Rules.{rules}
-use Rattle.index.proofs.KeptHalf.{Halving, halving_begins, middle_named, keeps_before, keeps_after, stops, halving_ends}
+use Rattle.index.proofs.KeptHalf.{Halving}
 use Rattle.index.proofs.finding.seek.Given as goal
 
 abbrev pub invariant-loop-low : goal.invariant-loop-low

@@ -6,8 +6,6 @@ use Prim.Native.Nat.{ℕ, ◌+◌, ◌-◌, ◌≤◌}
 use native.Mathlib.Omega.{arith}
 use lib.ListN.{length, take, drop, get_or, length-drop}
 use lib.Seq.{length-take-le}
-use borrow.Author.Rules.{rules}
-use borrow.Author.Tests.{not-true, not-false}
 use Rattle.index.specs.Index.{code_most, place_size}
 use Rattle.index.specs.inner.Comparing.{compared}
 use Rattle.index.specs.inner.Rising.{is_length, is_behind, code_from, follows_at}

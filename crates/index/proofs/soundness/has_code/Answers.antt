@@ -3,7 +3,6 @@ use mathlib.Core.Path.{sym, ap, ◌∙◌}
 use Prim.Native.Nat.{ℕ}
 use lib.Dec.{leb}
 use lib.ListN.{get_or}
-use borrow.Author.Rules.{rules}
 use Rattle.index.specs.Index.{code_most}
 use Rattle.index.proofs.Followed.{no_length, length_decides}
 use Rattle.index.proofs.soundness.has_code.Goals as goal

@@ -3,7 +3,6 @@ use mathlib.Core.Path.{ap, ◌∙◌}
 use Prim.Native.Nat.{ℕ}
 use native.Mathlib.Omega.{arith}
 use lib.Dec.{leb}
-use borrow.Author.Rules.{rules}
 use Rattle.index.specs.Index.{codes_most}
 use Rattle.index.proofs.Sizes.{codes-short, counts-short, named_decides}
 use Rattle.index.proofs.soundness.is_roomy.Goals as goal

@@ -2,8 +2,6 @@
 use mathlib.Core.Bool.{true}
 use mathlib.Core.Path.{◌≡◌, sym, ap, ◌∙◌}
 use native.Mathlib.Omega.{arith}
-use borrow.Author.Rules.{rules}
-use borrow.Author.Tests.{not-true, not-false}
 use Rattle.laws.proofs.Cases.{at_least_one}
 use Rattle.index.specs.Index.{roomy, sound_index}
 use Rattle.index.specs.inner.Rising.{all_rise}

@@ -1,11 +1,9 @@
 -- `index::soundness::rises` meets its contract: what is left rises exactly where all do. The measure is how far the last place is.
 -- Assumes nothing.
 use mathlib.Core.Path.{sym, ◌∙◌}
-use Prim.Native.Nat.{◌-◌, ◌*◌}
+use Prim.Native.Nat.{◌-◌}
 use native.Mathlib.Omega.{arith}
-use borrow.Author.Tests.{not-true, not-false}
-use Rattle.index.specs.Index.{place_size}
-use Rattle.index.proofs.Followed.{StillRising, rising-begins, rising-room, rising-next, rising-fails, rising-done}
+use Rattle.index.proofs.Followed.{rising-begins, rising-room, rising-next, rising-fails, rising-done}
 use Rattle.index.proofs.soundness.rises.Goals as goal
 
 pub overflow_sub-last : goal.overflow_sub-last

@@ -1,11 +1,8 @@
 -- `index::soundness::rises` meets its contract: what is left rises exactly where all do. The measure is how far the last place is.
 -- Assumes nothing.
-use mathlib.Core.Path.{sym, ◌∙◌}
 use Prim.Native.Nat.{◌-◌, ◌*◌}
-use native.Mathlib.Omega.{arith}
-use borrow.Author.Tests.{not-true, not-false}
 use Rattle.index.specs.Index.{place_size}
-use Rattle.index.proofs.Followed.{StillRising, rising-begins, rising-room, rising-next, rising-fails, rising-done}
+use Rattle.index.proofs.Followed.{StillRising}
 use Rattle.index.proofs.soundness.rises.Given as goal
 
 abbrev pub invariant-loop-at : goal.invariant-loop-at

@@ -1,6 +1,5 @@
 -- `line::finder::ended_line` meets its contract: each answer is one way in which a line's text can end.
 -- Assumes nothing.
-use borrow.Author.Rules.{rules}
 use mathlib.Core.Path.{sym, ap, ◌∙◌}
 use Rattle.line.specs.declared.finder.Found.TheVariants.{Line}
 use Rattle.line.proofs.Finding.{ended_open, ended-long, ended-line, ended-first, ended_control}

@@ -1,7 +1,6 @@
 -- `line::finder::find_line` meets its contract: past the message's end there is no line, and else it is the line whose text goes up to
 -- where `text_end` stopped.
 -- Assumes nothing.
-use borrow.Author.Rules.{rules}
 use mathlib.Core.Path.{◌≡◌, sym, ◌∙◌}
 use Prim.Native.Nat.{◌+◌, min}
 use native.Mathlib.Omega.{arith}

@@ -1,6 +1,5 @@
 -- `line::finder::line_at` meets its contract: it is `find_line` at the form's line.
 -- Assumes nothing.
-use borrow.Author.Rules.{rules}
 use Rattle.line.proofs.finder.line_at.Goals as goal
 
 pub returns : goal.returns

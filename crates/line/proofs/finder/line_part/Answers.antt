@@ -1,6 +1,5 @@
 -- `line::finder::line_part` meets its contract: by what `line_at` finds, which lies in the message.
 -- Assumes nothing.
-use borrow.Author.Rules.{rules}
 use mathlib.Core.Path.{sym, ◌∙◌}
 use native.Mathlib.Omega.{arith}
 use Rattle.laws.proofs.LentParts.{none_part}

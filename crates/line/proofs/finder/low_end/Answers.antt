@@ -1,10 +1,6 @@
 -- `line::finder::low_end` meets its contract. The loop's invariant: the run from here ends where the whole one does.
 -- Assumes nothing.
-use mathlib.Core.Path.{◌≡◌}
-use Prim.Native.Nat.{◌+◌, ◌-◌}
 use native.Mathlib.Omega.{arith}
-use lib.ListN.{length, drop}
-use Rattle.line.specs.Finding.{low_run}
 use Rattle.line.proofs.Runs.{low_run_turn_more, low_run_turn_stop, low_run_turn_end}
 use Rattle.line.proofs.finder.low_end.Goals as goal
 

@@ -2,10 +2,8 @@
 -- Assumes nothing.
 use mathlib.Core.Path.{◌≡◌}
 use Prim.Native.Nat.{◌+◌, ◌-◌}
-use native.Mathlib.Omega.{arith}
 use lib.ListN.{length, drop}
 use Rattle.line.specs.Finding.{low_run}
-use Rattle.line.proofs.Runs.{low_run_turn_more, low_run_turn_stop, low_run_turn_end}
 use Rattle.line.proofs.finder.low_end.Given as goal
 
 abbrev pub invariant-loop-i : goal.invariant-loop-i

@@ -1,6 +1,5 @@
 -- `line::finder::next_place` meets its contract: by what `line_at` finds.
 -- Assumes nothing.
-use borrow.Author.Rules.{rules}
 use mathlib.Core.Path.{sym, ◌∙◌}
 use Rattle.form.specs.Forms.{small_form}
 use Rattle.line.specs.Finding.{found_at}

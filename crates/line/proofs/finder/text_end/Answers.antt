@@ -1,10 +1,6 @@
 -- `line::finder::text_end` meets its contract. The loop's invariant: the run from here, cut at `stop`, ends where the whole one does.
 -- Assumes nothing.
-use mathlib.Core.Path.{◌≡◌}
-use Prim.Native.Nat.{◌+◌, ◌-◌, ◌≤◌, min}
 use native.Mathlib.Omega.{arith}
-use lib.ListN.{drop}
-use Rattle.line.specs.Finding.{text_run}
 use Rattle.line.proofs.Runs.{text_run_turn_more, text_run_turn_stop}
 use Rattle.line.proofs.finder.text_end.Goals as goal
 

@@ -2,10 +2,8 @@
 -- Assumes nothing.
 use mathlib.Core.Path.{◌≡◌}
 use Prim.Native.Nat.{◌+◌, ◌-◌, ◌≤◌, min}
-use native.Mathlib.Omega.{arith}
 use lib.ListN.{drop}
 use Rattle.line.specs.Finding.{text_run}
-use Rattle.line.proofs.Runs.{text_run_turn_more, text_run_turn_stop}
 use Rattle.line.proofs.finder.text_end.Given as goal
 
 abbrev pub invariant-loop-i : goal.invariant-loop-i

@@ -3,7 +3,6 @@
 use native.Mathlib.Omega.{arith}
 use Rattle.listing.specs.Listing.{columns}
 use Rattle.listing.proofs.Putting.{put_exact, put-room, within_then, within-room}
-use borrow.Author.Rules.{rules}
 use Rattle.listing.proofs.lines.put_columns.Goals as goal
 
 pub overflow_mul-row : goal.overflow_mul-row

@@ -3,7 +3,6 @@
 use Rattle.laws.specs.Texts.{bytes}
 use Rattle.listing.specs.Listing.{entry_of, entry, context_line}
 use Rattle.listing.proofs.Putting.{put_exact, within_then}
-use borrow.Author.Rules.{rules}
 use Rattle.listing.proofs.lines.put_context_line.Goals as goal
 
 pub returns : goal.returns

@@ -4,7 +4,6 @@ use native.Mathlib.Omega.{arith}
 use Rattle.laws.specs.Texts.{bytes}
 use Rattle.listing.specs.Listing.{entry, count_lines}
 use Rattle.listing.proofs.Putting.{within_then, within_more}
-use borrow.Author.Rules.{rules}
 use Rattle.listing.proofs.lines.put_counts.Goals as goal
 
 pub returns : goal.returns

@@ -3,7 +3,6 @@
 use Prim.Native.Nat.{◌≤◌}
 use native.Mathlib.Omega.{arith}
 use lib.ListN.{length}
-use borrow.Author.Rules.{rules}
 use Rattle.listing.specs.Decimal.{decimal}
 use Rattle.listing.specs.Listing.{entry_of}
 use Rattle.listing.proofs.Decimal.{twenty_digits}

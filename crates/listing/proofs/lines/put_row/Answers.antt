@@ -8,7 +8,6 @@ use Rattle.listing.specs.Decimal.{decimal}
 use Rattle.listing.specs.Listing.{entry_of, entry, row_line}
 use Rattle.listing.proofs.Decimal.{five_digits}
 use Rattle.listing.proofs.Putting.{put_exact, put-within, put-room, within-room, within_then}
-use borrow.Author.Rules.{rules}
 use Rattle.listing.proofs.lines.put_row.Goals as goal
 use Rattle.listing.proofs.lines.put_row.Goals.{After-put_text-named}
 

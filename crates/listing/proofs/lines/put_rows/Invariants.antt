@@ -1,9 +1,7 @@
 -- `listing::lines::put_rows` meets its contract: the lines of the rows before stand, and the next one comes behind them.
 -- Assumes nothing.
-use Prim.Native.Nat.{◌+◌, ◌*◌, ◌-◌}
-use native.Mathlib.Omega.{arith}
-use Rattle.table.specs.Rows.{segment_row_size}
-use Rattle.listing.proofs.RowLines.{Rows, rows_begin, rows_more, rows-done}
+use Prim.Native.Nat.{◌-◌}
+use Rattle.listing.proofs.RowLines.{Rows}
 use Rattle.listing.proofs.lines.put_rows.Given as goal
 
 abbrev pub invariant-loop-i : goal.invariant-loop-i

@@ -10,7 +10,6 @@ use Rattle.table.specs.Reading.{room_of, reading}
 use Rattle.listing.specs.Listing.{listing_size}
 use Rattle.listing.proofs.Listed.{list_short, list_refused, list_ready, list_accepted}
 use Rattle.listing.proofs.Putting.{put-length}
-use borrow.Author.Rules.{rules}
 use Rattle.listing.proofs.list.list.Goals as goal
 
 pub returns-then-list-lt-SIZE : goal.returns-then-list-lt-SIZE

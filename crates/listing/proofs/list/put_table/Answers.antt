@@ -5,7 +5,6 @@ use native.Mathlib.Omega.{arith}
 use Rattle.form.specs.Forms.{limits_of}
 use Rattle.listing.specs.Listing.{count_lines}
 use Rattle.listing.proofs.Putting.{within_as, within_then}
-use borrow.Author.Rules.{rules}
 use Rattle.listing.proofs.list.put_table.Goals as goal
 
 pub put_rows-requires : goal.put_rows-requires

@@ -1,7 +1,6 @@
 -- `listing::put::put_name` meets its contract: the part of the letters from 0 on is what they begin with.
 -- Assumes nothing.
 use native.Mathlib.Nat.{sub-zero}
-use borrow.Author.Rules.{rules}
 use Rattle.listing.proofs.put.put_name.Goals as goal
 
 pub returns : goal.returns

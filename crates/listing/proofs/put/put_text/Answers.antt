@@ -1,9 +1,7 @@
 -- `listing::put::put_text` meets its contract: what is left of the text gives the whole.
 -- Assumes nothing.
-use Prim.Native.Nat.{◌-◌}
 use native.Mathlib.Omega.{arith}
-use lib.ListN.{length}
-use Rattle.listing.proofs.Putting.{Copying, copying_begins, copying_more, copying_done}
+use Rattle.listing.proofs.Putting.{copying_begins, copying_more, copying_done}
 use Rattle.listing.proofs.put.put_text.Goals as goal
 
 pub loop-i-init : goal.loop-i-init

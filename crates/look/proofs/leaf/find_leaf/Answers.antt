@@ -10,7 +10,6 @@ use Rattle.look.specs.declared.leaf.Place.{Place}
 use Rattle.look.specs.Looking.{numbers_of, leaf_fits}
 use Rattle.look.specs.inner.Searching.{sought_from}
 use Rattle.look.proofs.Seeking.{sought_counted, sought_uncounted}
-use borrow.Author.Rules.{rules}
 use Rattle.look.proofs.leaf.find_leaf.Goals as goal
 use Rattle.look.proofs.leaf.find_leaf.Goals.{After-counts_fit}
 

@@ -1,10 +1,7 @@
 -- `look::leaf::first_leaf` meets its contract. The loop's invariant: what is left of the rows gives what all of them give.
 -- The measure is the rows that are left. Assumes nothing.
-use borrow.Author.Rules.{rules}
-use mathlib.Core.Path.{◌∙◌}
 use Prim.Native.Nat.{◌-◌}
-use native.Mathlib.Omega.{arith}
-use Rattle.look.proofs.Seeking.{Seeking, seek_begins, seek_nowhere, seek_elsewhere, seek_past, seek_found}
+use Rattle.look.proofs.Seeking.{Seeking}
 use Rattle.look.proofs.leaf.first_leaf.Given as goal
 
 abbrev pub invariant-loop-next : goal.invariant-loop-next

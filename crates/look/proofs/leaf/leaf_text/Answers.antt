@@ -9,7 +9,6 @@ use Rattle.look.specs.declared.leaf.Sought.TheVariants.{At, Empty, NotThere}
 use Rattle.look.specs.inner.Searching.{sought_in}
 use Rattle.look.proofs.Seeking.{found_within}
 use Rattle.look.proofs.TextParts.{part_cut, empty_part, no_part}
-use borrow.Author.Rules.{rules}
 use Rattle.look.proofs.leaf.leaf_text.Goals as goal
 use Rattle.look.proofs.leaf.leaf_text.Goals.{After-find_leaf, In-At, In-At-2, In-Empty, In-NotThere}
 

@@ -5,8 +5,7 @@ use mathlib.Core.Path.{◌≡◌, sym, ◌∙◌}
 use Prim.Native.Nat.{◌*◌}
 use native.Mathlib.Omega.{arith}
 use lib.ListN.{length}
-use borrow.Author.Rules.{rules}
-use borrow.Author.Tests.{not-true, not-false, leb-true}
+use borrow.Author.Tests.{leb-true}
 use Rattle.table.specs.Rows.{segment_row_size}
 use Rattle.look.specs.Looking.{segments_fit}
 use Rattle.look.proofs.Orders.{count_past, row_zero, row_past, kind_decides}

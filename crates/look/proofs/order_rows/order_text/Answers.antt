@@ -4,7 +4,6 @@ use mathlib.Core.Path.{sym, ◌∙◌}
 use Rattle.table.specs.Lent.{Lent, lent}
 use Rattle.look.specs.Looking.{order_place}
 use Rattle.look.proofs.Orders.{order-text, no_order}
-use borrow.Author.Rules.{rules}
 use Rattle.look.proofs.order_rows.order_text.Goals as goal
 use Rattle.look.proofs.order_rows.order_text.Goals.{After-is_order}
 

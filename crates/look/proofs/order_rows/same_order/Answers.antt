@@ -8,7 +8,6 @@ use Rattle.table.specs.Lent.{Lent, lent}
 use Rattle.look.specs.declared.leaf.Sought.TheVariants.{At}
 use Rattle.look.specs.inner.Ordering.{order_text}
 use Rattle.look.proofs.Orders.{order-within, both_with_text, first_empty, first_not_there, second_empty, second_not_there}
-use borrow.Author.Rules.{rules}
 use Rattle.look.proofs.order_rows.same_order.Goals as goal
 use Rattle.look.proofs.order_rows.same_order.Goals.{After-order_text, In-At, In-At-2, In-At-order, In-At-order-2}
 

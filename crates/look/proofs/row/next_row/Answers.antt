@@ -1,11 +1,8 @@
 -- `look::row::next_row` meets its contract. The loop's invariant: what is left of the rows gives what all after the given one give.
 -- The measure is the rows that are left. Assumes nothing.
-use mathlib.Core.Path.{◌≡◌, sym, ◌∙◌}
-use Prim.Native.Nat.{◌-◌}
+use mathlib.Core.Path.{sym, ◌∙◌}
 use native.Mathlib.Omega.{arith}
-use borrow.Author.Rules.{rules}
-use borrow.Author.Tests.{not-true, not-false}
-use Rattle.look.proofs.RowSearch.{RowSearch, rows_past, rows_begin, other-kind, other-owner, row-found, no_row}
+use Rattle.look.proofs.RowSearch.{rows_past, rows_begin, other-kind, other-owner, row-found, no_row}
 use Rattle.look.proofs.row.next_row.Goals as goal
 
 pub returns-then-not-segments_fit : goal.returns-then-not-segments_fit

@@ -1,9 +1,7 @@
 -- `look::text::same_bytes` meets its contract. The loop's invariant: what is left of both is the same exactly where they are.
 -- The measure is the bytes that are left. Assumes nothing.
-use Prim.Native.Nat.{◌-◌}
 use native.Mathlib.Omega.{arith}
-use lib.ListN.{length}
-use Rattle.laws.proofs.Comparing.{Comparing, compare_begins, lengths_differ, compare_equal, compare_differ, compare_done}
+use Rattle.laws.proofs.Comparing.{compare_begins, lengths_differ, compare_equal, compare_differ, compare_done}
 use Rattle.look.proofs.text.same_bytes.Goals as goal
 
 pub returns-then-text-other : goal.returns-then-text-other

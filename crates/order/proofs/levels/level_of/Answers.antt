@@ -1,6 +1,5 @@
 -- `order::levels::level_of` meets its contract: each return is one case of `level_in`.
 -- Assumes nothing.
-use borrow.Author.Rules.{rules}
 use mathlib.Core.Path.{sym}
 use Rattle.order.proofs.LevelTable.{no_level_below, no_level_above, no_level_kind, level-there}
 use Rattle.order.proofs.levels.level_of.Goals as goal

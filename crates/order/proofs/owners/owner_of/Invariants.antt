@@ -1,12 +1,7 @@
 -- `order::owners::owner_of` meets its contract. The loop's invariant: what is still to be written gives what is to be known.
 -- The measure is the places that are left. Assumes nothing.
-use borrow.Author.Rules.{rules}
-use mathlib.Core.Path.{ap, ◌∙◌}
-use Prim.Native.Nat.{ℕ, ◌-◌}
-use native.Mathlib.Omega.{arith}
-use lib.ListN.{get_or}
-use Rattle.order.specs.inner.Owning.{added}
-use Rattle.order.proofs.Nearest.{Writing, writing_begins, writing_on, writing_waits, writing-done}
+use Prim.Native.Nat.{◌-◌}
+use Rattle.order.proofs.Nearest.{Writing}
 use Rattle.order.proofs.owners.owner_of.Given as goal
 
 abbrev pub invariant-loop-next : goal.invariant-loop-next

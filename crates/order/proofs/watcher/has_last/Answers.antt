@@ -1,6 +1,5 @@
 -- `order::watcher::has_last` meets its contract: the table of levels has the level of each kind.
 -- Assumes nothing.
-use borrow.Author.Rules.{rules}
 use borrow.Author.Tests.{eq-eqb, ne_eqb}
 use mathlib.Core.Bool.{Bool, ◌||◌, not}
 use mathlib.Core.Path.{◌≡◌, sym, ap, ◌∙◌}

@@ -1,6 +1,5 @@
 -- `order::watcher::may_come` meets its contract: each return is one case of `allows`.
 -- Assumes nothing.
-use borrow.Author.Rules.{rules}
 use mathlib.Core.Path.{sym, ◌∙◌}
 use Rattle.order.specs.inner.Telling.{follows_by}
 use Rattle.order.proofs.Allowing.{context-below, context_above, allows_C, allows-other}

@@ -5,7 +5,6 @@ use Prim.Native.Nat.{◌*◌, ◌+◌, ◌≤◌}
 use native.Mathlib.Omega.{arith}
 use lib.ListN.{length, replicate}
 use lib.Seq.{length-take-le}
-use borrow.Author.Rules.{rules}
 use borrow.Author.Tests.{not-true, not-false}
 use Rattle.index.proofs.Sizes.{Roomy}
 use Rattle.read.proofs.Admitting.{Copied, index_room, index_copied, admits_none, admits_no_more, new_room, admits}

@@ -1,10 +1,8 @@
 -- `read::admit::put_codes` meets its contract: what is left, put from here on, gives what all of it gives.
 -- Assumes nothing.
-use mathlib.Core.Path.{refl}
 use Prim.Native.Nat.{◌-◌}
-use native.Mathlib.Omega.{arith}
 use lib.ListN.{length}
-use Rattle.read.proofs.AtTheFront.{Putting, putting_begins, putting_next, putting_done}
+use Rattle.read.proofs.AtTheFront.{Putting}
 use Rattle.read.proofs.admit.put_codes.Given as goal
 
 abbrev pub invariant-loop-at : goal.invariant-loop-at

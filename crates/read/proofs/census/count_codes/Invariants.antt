@@ -1,16 +1,11 @@
 -- `read::census::count_codes` meets its contract: each turn counts one row, up to a code that is too long or the last row.
 -- Assumes nothing.
-use mathlib.Core.List.{List, map}
-use mathlib.Core.Path.{◌≡◌, refl, sym, ◌∙◌, subst}
-use Prim.Native.Nat.{ℕ, ◌-◌, ◌<◌}
-use native.Mathlib.Omega.{arith}
+use mathlib.Core.Path.{◌≡◌}
+use Prim.Native.Nat.{◌-◌}
 use lib.ListN.{length}
 use Rattle.index.specs.Index.{code_most, entries_in}
-use Rattle.read.specs.Codes.{code_carried}
-use Rattle.read.specs.Sound.{segments_in}
 use Rattle.read.specs.inner.Census.{carried_in}
-use Rattle.read.specs.inner.Noting.{Started}
-use Rattle.read.proofs.CountedAll.{RowsCounted, rows_begin, few-results, rows_on, rows_long, rows-done, carried_many, row-there}
+use Rattle.read.proofs.CountedAll.{RowsCounted}
 use Rattle.read.proofs.census.count_codes.Given as goal
 
 -- the rows so far are counted; the buffers keep their lengths

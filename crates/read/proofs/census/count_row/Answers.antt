@@ -6,7 +6,6 @@ use Prim.Native.Nat.{ℕ, ◌+◌, ◌≤◌, ◌<◌}
 use native.Mathlib.Omega.{arith}
 use lib.ListN.{length}
 use lib.Seq.{length-take-le}
-use borrow.Author.Rules.{rules}
 use Rattle.table.specs.Rows.{width}
 use Rattle.index.specs.Index.{code_most}
 use Rattle.read.specs.inner.Census.{carried_by, passed_over, long}

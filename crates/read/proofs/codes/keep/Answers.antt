@@ -1,7 +1,6 @@
 -- `read::codes::keep` meets its contract.
 -- Assumes nothing.
 use mathlib.Core.Path.{sym}
-use borrow.Author.Rules.{rules}
 use Rattle.read.proofs.TakenLines.{kept_in, kept_out}
 use Rattle.read.proofs.codes.keep.Goals as goal
 

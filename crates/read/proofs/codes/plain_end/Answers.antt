@@ -1,11 +1,10 @@
 -- `read::codes::plain_end` meets its contract: what is left of the text ends where all of it ends.
 -- Assumes nothing.
 use mathlib.Core.Path.{refl, sym, ap, ◌∙◌}
-use Prim.Native.Nat.{ℕ, ◌-◌}
+use Prim.Native.Nat.{ℕ}
 use native.Mathlib.Omega.{arith}
-use lib.ListN.{length, get_or}
-use borrow.Author.Rules.{rules}
-use Rattle.read.proofs.SkippedFields.{PlainTo, plain_on, plain_done}
+use lib.ListN.{get_or}
+use Rattle.read.proofs.SkippedFields.{plain_on, plain_done}
 use Rattle.read.proofs.codes.plain_end.Goals as goal
 
 pub loop-at-init : goal.loop-at-init

@@ -1,11 +1,8 @@
 -- `read::codes::plain_end` meets its contract: what is left of the text ends where all of it ends.
 -- Assumes nothing.
-use mathlib.Core.Path.{refl, sym, ap, ◌∙◌}
-use Prim.Native.Nat.{ℕ, ◌-◌}
-use native.Mathlib.Omega.{arith}
-use lib.ListN.{length, get_or}
-use borrow.Author.Rules.{rules}
-use Rattle.read.proofs.SkippedFields.{PlainTo, plain_on, plain_done}
+use Prim.Native.Nat.{◌-◌}
+use lib.ListN.{length}
+use Rattle.read.proofs.SkippedFields.{PlainTo}
 use Rattle.read.proofs.codes.plain_end.Given as goal
 
 abbrev pub invariant-loop-at : goal.invariant-loop-at

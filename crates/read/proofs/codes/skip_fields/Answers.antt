@@ -6,7 +6,6 @@ use Prim.Native.Nat.{ℕ, ◌-◌, ◌<◌}
 use native.Mathlib.Omega.{arith}
 use lib.Dec.{eqb}
 use lib.ListN.{length, get_or}
-use borrow.Author.Rules.{rules}
 use Rattle.read.proofs.SkippedFields.{Skipping, skipping_begins, text-inside, skipping_text, skipping_next}
 use Rattle.read.proofs.codes.skip_fields.Goals as goal
 use Rattle.read.proofs.codes.skip_fields.Goals.{After-index, After-plain_end-stop}

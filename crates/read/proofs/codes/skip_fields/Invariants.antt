@@ -1,13 +1,8 @@
 -- `read::codes::skip_fields` meets its contract: each turn goes over text and one byte behind it, up to field 4 or the line's end.
 -- Assumes nothing.
-use mathlib.Core.Bool.{true, false}
-use mathlib.Core.Path.{◌≡◌, refl, ap, ◌∙◌, subst⁻¹}
-use Prim.Native.Nat.{ℕ, ◌-◌, ◌<◌}
-use native.Mathlib.Omega.{arith}
-use lib.Dec.{eqb}
-use lib.ListN.{length, get_or}
-use borrow.Author.Rules.{rules}
-use Rattle.read.proofs.SkippedFields.{Skipping, skipping_begins, text-inside, skipping_text, skipping_next}
+use Prim.Native.Nat.{◌-◌}
+use lib.ListN.{length}
+use Rattle.read.proofs.SkippedFields.{Skipping}
 use Rattle.read.proofs.codes.skip_fields.Given as goal
 
 abbrev pub invariant-loop-left : goal.invariant-loop-left

@@ -1,12 +1,9 @@
 -- `read::codes::take_code` meets its contract: each turn looks at one line of the segment, up to the code's end or the segment's.
 -- Assumes nothing.
 use mathlib.Core.Path.{◌∙◌}
-use Prim.Native.Nat.{◌-◌}
 use native.Mathlib.Omega.{arith}
 use lib.ListN.{length}
-use borrow.Author.Rules.{rules}
 use Rattle.laws.proofs.Bytes.{bytes-known}
-use Rattle.form.specs.declared.limits.Limits.{Limits}
 use Rattle.read.proofs.CodeLines.{AtCode, code-begins, line-takes, code-whole, code-ends, code_on, further}
 use Rattle.read.proofs.codes.take_code.Goals as goal
 use Rattle.read.proofs.codes.take_code.Goals.{At-loop-taken}

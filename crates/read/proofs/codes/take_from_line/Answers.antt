@@ -1,6 +1,5 @@
 -- `read::codes::take_from_line` meets its contract: from the byte that skipping comes to, the line gives what it gives from `from` on.
 -- Assumes nothing.
-use borrow.Author.Rules.{rules}
 use Rattle.read.proofs.SkippedFields.{skipped_takes, skipped_taken}
 use Rattle.read.proofs.codes.take_from_line.Goals as goal
 

@@ -5,8 +5,7 @@ use mathlib.Core.Path.{◌≡◌, refl, sym, ap, ◌∙◌, subst⁻¹}
 use Prim.Native.Nat.{ℕ, ◌-◌}
 use native.Mathlib.Omega.{arith}
 use lib.Dec.{eqb}
-use lib.ListN.{length, get_or}
-use borrow.Author.Rules.{rules}
+use lib.ListN.{get_or}
 use Rattle.read.proofs.TakenLines.{Taking, taking_begins, taking_ends, taking_whole, taking_kept, taking_on}
 use Rattle.read.proofs.codes.take_line.Goals as goal
 use Rattle.read.proofs.codes.take_line.Goals.{After-index, At-loop-from}

@@ -2,7 +2,6 @@
 -- Assumes nothing.
 use mathlib.Core.Path.{sym, ◌∙◌}
 use native.Mathlib.Omega.{arith}
-use borrow.Author.Rules.{rules}
 use Rattle.table.specs.Reading.{Room}
 use Rattle.read.proofs.Deciding.{refusal_decides, header_decides, short-text, short-segments, short-leaves, long-refused, header_refused}
 use Rattle.read.proofs.decide.decide.Goals as goal

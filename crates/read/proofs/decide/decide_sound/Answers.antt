@@ -2,7 +2,6 @@
 -- Assumes nothing.
 use mathlib.Core.Path.{◌≡◌, subst}
 use native.Mathlib.Omega.{arith}
-use borrow.Author.Rules.{rules}
 use Rattle.table.specs.inner.Classes.{class_table}
 use Rattle.table.proofs.Classes.{classes-set}
 use Rattle.read.specs.declared.survey.Surveyed.{Surveyed}

@@ -2,7 +2,6 @@
 -- Assumes nothing.
 use mathlib.Core.Path.{◌≡◌, sym, ◌∙◌}
 use native.Mathlib.Omega.{arith}
-use borrow.Author.Rules.{rules}
 use Rattle.read.specs.inner.Deciding.{accepted_by}
 use Rattle.read.specs.inner.Surveying.{place_seen}
 use Rattle.read.proofs.Deciding.{place_none, decision_7, decision_8, decision_9, decision_misplaced, decision_open, decision_11, decision_0}

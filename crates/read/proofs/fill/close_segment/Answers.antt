@@ -2,7 +2,6 @@
 -- Assumes nothing.
 use native.Mathlib.Omega.{arith}
 use Rattle.read.proofs.SegmentLaws.{closed_by}
-use borrow.Author.Rules.{rules}
 use Rattle.read.proofs.fill.close_segment.Goals as goal
 
 pub overflow_sub-row : goal.overflow_sub-row

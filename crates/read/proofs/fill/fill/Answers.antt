@@ -1,13 +1,10 @@
 -- `read::fill::fill` meets its contract: the header's rest is the first line, each turn fills one, and at the message's end the buffers hold the table.
 -- Assumes nothing.
 use mathlib.Core.Path.{◌∙◌}
-use Prim.Native.Nat.{◌-◌}
 use native.Mathlib.Omega.{arith}
-use lib.ListN.{length}
-use borrow.Author.Rules.{rules}
 use Rattle.laws.proofs.Bytes.{bytes-known}
 use Rattle.laws.proofs.Bytes.{Bytes}
-use Rattle.read.specs.inner.Segments.{AtLine, Onward}
+use Rattle.read.specs.inner.Segments.{AtLine}
 use Rattle.read.proofs.HeaderLaws.{header-fits, header-line, field_sorted}
 use Rattle.read.proofs.StandLaws.{text-kept, segments-kept, leaves_kept, line-lays, line_on, line-ahead, stands_closable, stands-next, stands-addendum, stands-segment, stands-filled}
 use Rattle.read.proofs.fill.fill.Goals as goal

@@ -2,7 +2,6 @@
 -- Assumes nothing.
 use native.Mathlib.Omega.{arith}
 use Rattle.read.proofs.SegmentLaws.{line-filled}
-use borrow.Author.Rules.{rules}
 use Rattle.read.proofs.fill.fill_line.Goals as goal
 
 pub overflow_add-laid : goal.overflow_add-laid

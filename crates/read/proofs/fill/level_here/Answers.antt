@@ -1,7 +1,6 @@
 -- `read::fill::level_here` meets its contract: a C and what is no kind have no level, that of the others stands in the table.
 -- Assumes nothing.
 use mathlib.Core.Path.{sym}
-use borrow.Author.Rules.{rules}
 use Rattle.order.proofs.LevelTable.{no_level_kind, level-there}
 use Rattle.read.proofs.fill.level_here.Goals as goal
 

@@ -1,7 +1,6 @@
 -- `read::fill::next_segment` meets its contract: the next leaf, and its number.
 -- Assumes nothing.
 use Rattle.read.proofs.SegmentLaws.{begun-after}
-use borrow.Author.Rules.{rules}
 use Rattle.read.proofs.fill.next_segment.Goals as goal
 
 pub returns : goal.returns

@@ -3,7 +3,6 @@
 use native.Mathlib.Omega.{arith}
 use lib.ListN.{length-set}
 use Rattle.read.proofs.SegmentLaws.{header-put}
-use borrow.Author.Rules.{rules}
 use Rattle.read.proofs.fill.put_header.Goals as goal
 
 pub bounds-text-1 : goal.bounds-text-1

@@ -3,7 +3,6 @@
 use native.Mathlib.Numerals.{towards_suc}
 use native.Mathlib.Omega.{arith}
 use lib.ListN.{length-set}
-use borrow.Author.Rules.{rules}
 use Rattle.read.proofs.fill.put_segment.Goals as goal
 
 pub bounds-segments-at-2 : goal.bounds-segments-at-2

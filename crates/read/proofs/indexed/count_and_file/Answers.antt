@@ -1,7 +1,6 @@
 -- `indexed::count_and_file` meets its contract: what is not counted is turned away, and only what is counted is filed.
 -- Assumes nothing.
 use mathlib.Core.Path.{refl}
-use borrow.Author.Rules.{rules}
 use Rattle.read.specs.inner.Filling.{table_in}
 use Rattle.read.proofs.Answering.{table-filed}
 use Rattle.read.proofs.Indexing.{turned_left, counted-left}

@@ -1,8 +1,6 @@
 -- `indexed::index_within` meets its contract: an index that is not sound is refused, then what was decided, and what is left is counted and filed.
 -- Assumes nothing.
 use mathlib.Core.Path.{sym, ◌∙◌}
-use borrow.Author.Rules.{rules}
-use borrow.Author.Tests.{not-true, not-false}
 use Rattle.read.proofs.Answering.{accepted_fileable}
 use Rattle.read.proofs.Indexing.{unsound_indexed, refusal_indexed, accepted_admissible, admitted_indexed}
 use Rattle.read.proofs.indexed.index_within.Goals as goal

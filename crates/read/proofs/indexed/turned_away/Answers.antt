@@ -1,6 +1,5 @@
 -- `indexed::turned_away` meets its contract. Assumes nothing.
 use mathlib.Core.Path.{ap}
-use borrow.Author.Rules.{rules}
 use Rattle.read.specs.declared.Answer.{Answer}
 use Rattle.read.specs.declared.indexed.Indexed.{Indexed}
 use Rattle.read.proofs.indexed.turned_away.Goals as goal

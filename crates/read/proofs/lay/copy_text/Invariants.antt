@@ -1,11 +1,8 @@
 -- `read::lay::copy_text` meets its contract: what is left to copy gives the whole.
 -- Assumes nothing.
-use mathlib.Core.Path.{refl}
 use Prim.Native.Nat.{◌+◌, ◌-◌}
-use native.Mathlib.Omega.{arith}
 use lib.ListN.{length}
-use borrow.Author.Rules.{rules}
-use Rattle.read.proofs.Copying.{Copying, copying_begins, copying_left, copying_more, copying_done}
+use Rattle.read.proofs.Copying.{Copying}
 use Rattle.read.proofs.lay.copy_text.Given as goal
 
 abbrev pub invariant-loop-text : goal.invariant-loop-text

@@ -1,13 +1,11 @@
 -- `read::lay::lay_line` meets its contract: each turn copies text and closes a leaf, and what is left gives the whole.
 -- Assumes nothing.
 use mathlib.Core.Path.{◌≡◌, sym, ap, ◌∙◌}
-use Prim.Native.Nat.{◌-◌}
 use native.Mathlib.Omega.{arith}
-use lib.ListN.{length, get_or}
-use borrow.Author.Rules.{rules}
+use lib.ListN.{get_or}
 use Rattle.laws.proofs.Bytes.{bytes-known}
 use Rattle.read.specs.inner.Laying.{next_leaf}
-use Rattle.read.proofs.LineLaying.{Going, text-fits, row_fits, going-begins, going-text, going_stops, going_done, going-leaf}
+use Rattle.read.proofs.LineLaying.{text-fits, row_fits, going-begins, going-text, going_stops, going_done, going-leaf}
 use Rattle.read.proofs.lay.lay_line.Goals as goal
 use Rattle.read.proofs.lay.lay_line.Goals.{After-copy_text-n}
 

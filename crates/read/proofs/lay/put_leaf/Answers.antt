@@ -3,7 +3,6 @@
 use native.Mathlib.Numerals.{towards_suc}
 use native.Mathlib.Omega.{arith}
 use lib.ListN.{length-set}
-use borrow.Author.Rules.{rules}
 use Rattle.read.specs.inner.Laying.{leaf_place, row_of}
 use Rattle.read.proofs.lay.put_leaf.Goals as goal
 

@@ -1,9 +1,8 @@
 -- `read::name::gather` meets its contract. The loop's invariant: what is left from `i` on, gathered on, gives the whole.
 -- Assumes nothing.
 use mathlib.Core.Path.{◌≡◌, refl, sym, ap, ◌∙◌}
-use Prim.Native.Nat.{ℕ, ◌+◌, ◌-◌}
+use Prim.Native.Nat.{ℕ, ◌+◌}
 use native.Mathlib.Omega.{arith}
-use borrow.Author.Rules.{rules}
 use lib.ListN.{get_or}
 use Rattle.form.specs.declared.letters.Letters.{Letters}
 use Rattle.read.specs.declared.name.Name.{Name}

@@ -1,6 +1,5 @@
 -- `read::start::text_from` meets its contract: each answer is one law of the first two bytes.
 -- Assumes nothing.
-use borrow.Author.Rules.{rules}
 use mathlib.Core.Path.{sym}
 use Rattle.read.proofs.Starting.{from_past, from-other, from_single, from_unseparated, from-addendum}
 use Rattle.read.proofs.start.text_from.Goals as goal

@@ -1,6 +1,5 @@
 -- `read::survey::line_stop` meets its contract: the lesser of the line's limit and of what the message has left. Assumes nothing.
 use native.Mathlib.Omega.{arith}
-use borrow.Author.Rules.{rules}
 use Rattle.read.proofs.survey.line_stop.Goals as goal
 
 pub overflow_add-result : goal.overflow_add-result

@@ -4,7 +4,6 @@ use mathlib.Core.Path.{sym}
 use Prim.Native.Nat.{◌-◌}
 use native.Mathlib.Omega.{arith}
 use lib.Seq.{set_out}
-use borrow.Author.Rules.{rules}
 use Rattle.read.proofs.survey.note.Goals as goal
 
 pub returns-then-kinds-segment : goal.returns-then-kinds-segment

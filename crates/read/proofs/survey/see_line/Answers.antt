@@ -1,6 +1,5 @@
 -- `see_line` meets its contract: the scan goes up to where the line's text ends, so what stands there decides between the line and its fault.
 -- Assumes nothing.
-use borrow.Author.Rules.{rules}
 use mathlib.Core.Path.{sym, ap, ◌∙◌, subst}
 use Prim.Native.Nat.{ℕ, ◌+◌, ◌-◌}
 use mathlib.Core.List.{List}

@@ -2,11 +2,9 @@
 -- header bytes, and the kinds of the closed segments and the starts of those begun are noted; each line leads to a later place, and at the
 -- message's end all is known.
 -- Assumes nothing.
-use borrow.Author.Rules.{rules}
 use mathlib.Core.Path.{ap, ◌∙◌, subst}
-use Prim.Native.Nat.{◌+◌, ◌-◌}
+use Prim.Native.Nat.{◌+◌}
 use native.Mathlib.Omega.{arith}
-use lib.ListN.{length}
 use Rattle.laws.proofs.Bytes.{bytes-known}
 use Rattle.form.proofs.HeaderRule.{sound-header}
 use Rattle.read.specs.declared.survey.Survey.{Survey}
@@ -14,7 +12,7 @@ use Rattle.read.specs.declared.survey.Step.{Step}
 use Rattle.read.specs.declared.survey.Step.TheVariants.{On}
 use Rattle.read.specs.inner.Underway.{StepOf}
 use Rattle.read.proofs.Underway.{message-begins, goes_on_from, begins-next, survey_ends}
-use Rattle.read.proofs.Noting.{Noting, noting_begins, noting_goes_on, noting_next, closed-noted, closed-kept, still_started}
+use Rattle.read.proofs.Noting.{noting_begins, noting_goes_on, noting_next, closed-noted, closed-kept, still_started}
 use Rattle.read.proofs.survey.survey_message.Goals as goal
 use Rattle.read.proofs.survey.survey_message.Goals.{At-loop-more, In-On}
 

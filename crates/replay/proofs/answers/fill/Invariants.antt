@@ -1,7 +1,6 @@
 -- `replay::answers::fill` is safe and ends: the measure is what is left of the buffers.
 -- Assumes nothing.
 use Prim.Native.Nat.{◌-◌}
-use borrow.Author.Rules.{rules}
 use Rattle.replay.proofs.answers.fill.Given as goal
 
 abbrev pub invariant-loop-i : goal.invariant-loop-i

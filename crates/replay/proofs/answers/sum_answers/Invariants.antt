@@ -1,7 +1,6 @@
 -- `replay::answers::sum_answers` is safe and ends: the measure is how many answers are left.
 -- Assumes nothing.
 use Prim.Native.Nat.{◌-◌}
-use borrow.Author.Rules.{rules}
 use Rattle.replay.proofs.answers.sum_answers.Given as goal
 
 abbrev pub invariant-loop-i : goal.invariant-loop-i

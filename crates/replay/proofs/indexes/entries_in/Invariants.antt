@@ -1,7 +1,6 @@
 -- `replay::indexes::entries_in` is safe and ends: the measure is how many entries have yet to come.
 -- Assumes nothing.
 use Prim.Native.Nat.{◌-◌}
-use borrow.Author.Rules.{rules}
 use Rattle.replay.proofs.indexes.entries_in.Given as goal
 
 abbrev pub invariant-loop-i : goal.invariant-loop-i

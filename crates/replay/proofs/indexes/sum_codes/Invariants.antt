@@ -1,7 +1,6 @@
 -- `replay::indexes::sum_codes` is safe and ends: the measure is how many codes are left.
 -- Assumes nothing.
 use Prim.Native.Nat.{◌-◌}
-use borrow.Author.Rules.{rules}
 use Rattle.replay.proofs.indexes.sum_codes.Given as goal
 
 abbrev pub invariant-loop-i : goal.invariant-loop-i

@@ -1,6 +1,5 @@
 -- `replay::input::numbers_in` is safe and ends: the measure is how many numbers have yet to come.
 -- Assumes nothing.
-use borrow.Author.Rules.{rules}
 use Rattle.replay.proofs.input.numbers_in.Given as goal
 
 abbrev pub invariant-loop-left : goal.invariant-loop-left

@@ -1,7 +1,6 @@
 -- `replay::pieces::take_in` is safe and ends: the measure is how many pieces may still come.
 -- Assumes nothing.
 use Prim.Native.Nat.{◌-◌}
-use borrow.Author.Rules.{rules}
 use Rattle.replay.proofs.pieces.take_in.Given as goal
 
 abbrev pub invariant-loop-k : goal.invariant-loop-k

@@ -1,6 +1,5 @@
 -- `replay::walking::walk` is safe and ends: the measure is how many calls it may still make.
 -- Assumes nothing.
-use borrow.Author.Rules.{rules}
 use Rattle.replay.proofs.walking.walk.Given as goal
 
 abbrev pub invariant-loop-left : goal.invariant-loop-left

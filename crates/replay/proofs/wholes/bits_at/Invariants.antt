@@ -1,6 +1,5 @@
 -- `replay::wholes::bits_at` is safe and ends: the measure is how many bytes are left to take in.
 -- Assumes nothing.
-use borrow.Author.Rules.{rules}
 use Rattle.replay.proofs.wholes.bits_at.Given as goal
 
 abbrev pub invariant-loop-i : goal.invariant-loop-i

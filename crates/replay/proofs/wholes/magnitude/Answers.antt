@@ -1,6 +1,5 @@
 -- `replay::wholes::magnitude` is safe: the bits of a number below 0, turned over, say a number that has a next one.
 -- Assumes nothing.
-use borrow.Author.Rules.{rules}
 use Rattle.value.proofs.Signs.{turned_casts, turned-adds, bits_cast}
 use Rattle.replay.proofs.wholes.magnitude.Goals as goal
 

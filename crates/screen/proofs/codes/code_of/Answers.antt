@@ -4,7 +4,6 @@ use mathlib.Core.List.{List}
 use mathlib.Core.Path.{sym, ◌∙◌}
 use Prim.Native.Nat.{ℕ}
 use native.Mathlib.Omega.{arith}
-use borrow.Author.Rules.{rules}
 use Rattle.laws.specs.Texts.{bytes}
 use Rattle.screen.specs.Rules.{codes}
 use Rattle.screen.proofs.RowCodes.{CodesTried, tried-none, other-code, this_code, no_code}

@@ -1,14 +1,13 @@
 -- `screen::codes::count_codes` meets its contract. The loop's invariant: no patient came yet, and what is counted with what is left gives the
 -- whole. The measure is the rows that are left. Assumes nothing.
-use Prim.Native.Nat.{◌+◌, ◌*◌, ◌-◌, ◌≤◌, ◌<◌}
+use Prim.Native.Nat.{◌+◌, ◌*◌, ◌≤◌, ◌<◌}
 use native.Mathlib.Omega.{arith}
-use borrow.Author.Rules.{rules}
 use lib.ListN.{length}
 use Rattle.table.specs.Lent.{Lent, lent}
 use Rattle.table.specs.Rows.{segment_row_size}
 use Rattle.tested.proofs.NamedLeaves.{row_inside}
 use Rattle.screen.proofs.RowCodes.{few-codes}
-use Rattle.screen.proofs.CodesCounted.{CountingCodes, counting-begins, counting_on, counted_patient, counted-all, count_small}
+use Rattle.screen.proofs.CodesCounted.{counting-begins, counting_on, counted_patient, counted-all, count_small}
 use Rattle.screen.proofs.codes.count_codes.Goals as goal
 use Rattle.screen.proofs.codes.count_codes.Goals.{After-code_in-code, In-loop-row, Start}
 

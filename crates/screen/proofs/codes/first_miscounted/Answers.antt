@@ -1,9 +1,8 @@
 -- `screen::codes::first_miscounted` meets its contract. The loop's invariant: of the codes so far there is one each. The measure is the codes that
 -- are left. Assumes nothing.
-use Prim.Native.Nat.{◌-◌}
 use native.Mathlib.Omega.{arith}
 use Rattle.table.specs.Lent.{Lent, lent}
-use Rattle.screen.proofs.CodeRules.{OneEach, one-each-begins, one-each_on, not_one, all_one}
+use Rattle.screen.proofs.CodeRules.{one-each-begins, one-each_on, not_one, all_one}
 use Rattle.screen.proofs.codes.first_miscounted.Goals as goal
 use Rattle.screen.proofs.codes.first_miscounted.Goals.{Start}
 

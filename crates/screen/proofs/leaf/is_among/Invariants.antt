@@ -1,9 +1,8 @@
 -- `screen::leaf::is_among` meets its contract. The loop's invariant: the byte is among all exactly where it is among those that are left.
 -- The measure is the bytes that are left. Assumes nothing.
 use Prim.Native.Nat.{◌-◌}
-use native.Mathlib.Omega.{arith}
 use lib.ListN.{length}
-use Rattle.screen.proofs.Letters.{SeekingByte, seeking_begins, byte_found, byte_on, byte_missing}
+use Rattle.screen.proofs.Letters.{SeekingByte}
 use Rattle.screen.proofs.leaf.is_among.Given as goal
 
 abbrev pub invariant-loop-at : goal.invariant-loop-at

@@ -1,7 +1,6 @@
 -- `screen::leaf::is_letter` meets its contract: the length, and then the byte.
 -- Assumes nothing.
 use mathlib.Core.Path.{◌∙◌}
-use borrow.Author.Rules.{rules}
 use Rattle.screen.proofs.Letters.{no_letter, one_letter}
 use Rattle.screen.proofs.leaf.is_letter.Goals as goal
 

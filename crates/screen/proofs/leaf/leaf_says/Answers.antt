@@ -3,7 +3,6 @@
 use mathlib.Core.List.{List}
 use mathlib.Core.Path.{ap, ◌∙◌}
 use Prim.Native.Nat.{ℕ}
-use borrow.Author.Rules.{rules}
 use Rattle.laws.specs.Lists.{same}
 use Rattle.table.specs.Lent.{lent}
 use Rattle.screen.proofs.LeafTexts.{leaf-says}

@@ -3,7 +3,6 @@
 use mathlib.Core.Path.{◌≡◌, ◌∙◌}
 use Prim.Native.Nat.{ℕ}
 use native.Mathlib.Omega.{arith}
-use borrow.Author.Rules.{rules}
 use Rattle.laws.specs.Texts.{bytes}
 use Rattle.laws.proofs.Passing.{passing_on, passing-found, passing-done}
 use Rattle.table.specs.Lent.{Lent, lent}

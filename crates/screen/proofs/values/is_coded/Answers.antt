@@ -4,8 +4,6 @@ use mathlib.Core.Bool.{Bool, true, ◌||◌}
 use mathlib.Core.List.{List}
 use mathlib.Core.Path.{◌≡◌, sym, ap, ◌∙◌}
 use Prim.Native.Nat.{ℕ}
-use borrow.Author.Rules.{rules}
-use borrow.Author.Tests.{not-true, not-false}
 use Rattle.laws.specs.Texts.{bytes}
 use Rattle.laws.proofs.Tests.{and_fails_first, and_passed, or_first}
 use Rattle.table.specs.Lent.{lent}

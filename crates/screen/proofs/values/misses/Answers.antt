@@ -2,8 +2,6 @@
 -- Assumes nothing.
 use mathlib.Core.Bool.{Bool, not}
 use mathlib.Core.Path.{sym, ap, ◌∙◌}
-use borrow.Author.Rules.{rules}
-use borrow.Author.Tests.{not-true, not-false}
 use Rattle.laws.proofs.Tests.{and_fails_first, and_passed}
 use Rattle.table.specs.Lent.{Lent, lent}
 use Rattle.screen.specs.Meeting.{sought_of, is_letter, says_letter}

@@ -2,7 +2,6 @@
 -- measure is how many rows are left.
 -- Assumes nothing.
 use Prim.Native.Nat.{◌-◌, ◌≤◌}
-use borrow.Author.Rules.{rules}
 use Rattle.screener.proofs.codes.count_coded.Given as goal
 
 abbrev pub invariant-loop-row : goal.invariant-loop-row

@@ -1,10 +1,8 @@
 -- `source::position::position_behind` meets its contract. The loop's invariant: with what is left, the two counts are those of all bytes. The measure
 -- is how many bytes are left.
 -- Assumes nothing.
-use Prim.Native.Nat.{◌-◌}
 use native.Mathlib.Omega.{arith}
-use lib.ListN.{length}
-use Rattle.source.proofs.Positions.{Passed, passed_none, passed-CR, passed-other, passed-all}
+use Rattle.source.proofs.Positions.{passed_none, passed-CR, passed-other, passed-all}
 use Rattle.source.proofs.position.position_behind.Goals as goal
 
 pub loop-at-init : goal.loop-at-init

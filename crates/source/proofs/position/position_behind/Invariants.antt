@@ -2,9 +2,8 @@
 -- is how many bytes are left.
 -- Assumes nothing.
 use Prim.Native.Nat.{◌-◌}
-use native.Mathlib.Omega.{arith}
 use lib.ListN.{length}
-use Rattle.source.proofs.Positions.{Passed, passed_none, passed-CR, passed-other, passed-all}
+use Rattle.source.proofs.Positions.{Passed}
 use Rattle.source.proofs.position.position_behind.Given as goal
 
 abbrev pub invariant-loop-at : goal.invariant-loop-at

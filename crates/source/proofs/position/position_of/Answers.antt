@@ -1,6 +1,5 @@
 -- `source::position::position_of` meets its contract: the bytes before an offset tell its position.
 -- Assumes nothing.
-use borrow.Author.Rules.{rules}
 use mathlib.Core.Path.{sym, ◌∙◌}
 use native.Mathlib.Omega.{arith}
 use lib.Seq.{length-take-le}

@@ -2,11 +2,9 @@
 -- place behind them is the same. The measure is what is left of the message.
 -- Assumes nothing.
 use mathlib.Core.Path.{sym, ◌∙◌}
-use Prim.Native.Nat.{◌-◌}
 use native.Mathlib.Omega.{arith}
-use lib.ListN.{length}
 use Rattle.form.specs.Forms.{small_form}
-use Rattle.source.proofs.Going.{one, AddendumHere, Ahead, ahead-begins, ahead_goes, ahead_stops, ahead-ends, step-taken, step_left}
+use Rattle.source.proofs.Going.{one, AddendumHere, ahead-begins, ahead_goes, ahead_stops, ahead-ends, step-taken, step_left}
 use Rattle.source.proofs.row.addenda_at.Goals as goal
 use Rattle.source.proofs.row.addenda_at.Goals.{Else-behind-next}
 

@@ -1,12 +1,10 @@
 -- `source::row::addenda_at` meets its contract. The loop's invariant: with those from here on, the addenda that have passed are all of them, and the
 -- place behind them is the same. The measure is what is left of the message.
 -- Assumes nothing.
-use mathlib.Core.Path.{sym, ◌∙◌}
 use Prim.Native.Nat.{◌-◌}
-use native.Mathlib.Omega.{arith}
 use lib.ListN.{length}
 use Rattle.form.specs.Forms.{small_form}
-use Rattle.source.proofs.Going.{one, AddendumHere, Ahead, ahead-begins, ahead_goes, ahead_stops, ahead-ends, step-taken, step_left}
+use Rattle.source.proofs.Going.{one, Ahead}
 use Rattle.source.proofs.row.addenda_at.Given as goal
 
 abbrev pub invariant-loop-next : goal.invariant-loop-next

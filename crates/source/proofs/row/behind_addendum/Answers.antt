@@ -1,6 +1,5 @@
 -- `source::row::behind_addendum` meets its contract: by what `line_at` finds, and by whether that line is an addendum.
 -- Assumes nothing.
-use borrow.Author.Rules.{rules}
 use mathlib.Core.Path.{sym, ap, ◌∙◌}
 use Prim.Native.Nat.{◌<◌, ◌≤◌}
 use native.Mathlib.Omega.{arith}

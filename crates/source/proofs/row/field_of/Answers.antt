@@ -1,6 +1,5 @@
 -- `source::row::field_of` meets its contract: past a list's end stands 0.
 -- Assumes nothing.
-use borrow.Author.Rules.{rules}
 use Rattle.source.proofs.Addenda.{no_separator}
 use Rattle.source.proofs.row.field_of.Goals as goal
 

@@ -1,6 +1,5 @@
 -- `source::row::is_addendum` meets its contract: the first two bytes tell.
 -- Assumes nothing.
-use borrow.Author.Rules.{rules}
 use mathlib.Core.Path.{sym}
 use Rattle.source.proofs.Addenda.{too_short, other_letter, told_by_second}
 use Rattle.source.proofs.row.is_addendum.Goals as goal

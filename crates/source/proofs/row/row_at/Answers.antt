@@ -1,6 +1,5 @@
 -- `source::row::row_at` meets its contract: it is `row_from` by the message's own field separator.
 -- Assumes nothing.
-use borrow.Author.Rules.{rules}
 use mathlib.Core.Path.{ap, ◌∙◌}
 use Prim.Native.Nat.{ℕ}
 use Rattle.form.specs.Forms.{small_form}

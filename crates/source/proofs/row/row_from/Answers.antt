@@ -1,6 +1,5 @@
 -- `source::row::row_from` meets its contract: by what `line_at` finds, and the addenda behind it.
 -- Assumes nothing.
-use borrow.Author.Rules.{rules}
 use mathlib.Core.Path.{sym, ap, ◌∙◌}
 use Prim.Native.Nat.{◌+◌}
 use native.Mathlib.Omega.{arith}

@@ -1,7 +1,6 @@
 -- `source::row::row_place` meets its contract. The loop's invariant: the row that is sought is so many rows on from here, where no addendum stands. The
 -- measure is how many rows it is on.
 -- Assumes nothing.
-use borrow.Author.Rules.{rules}
 use mathlib.Core.Path.{◌≡◌, sym, ap, ◌∙◌, subst}
 use Prim.Native.Nat.{ℕ, ◌-◌}
 use native.Mathlib.Omega.{arith}

@@ -1,11 +1,10 @@
 -- `table::class::set_classes` meets its contract: what is left to store from byte b on gives the whole.
 -- Assumes nothing.
 use mathlib.Core.Path.{◌≡◌, refl, ap, sym, ◌∙◌}
-use Prim.Native.Nat.{ℕ, ◌≤◌, ◌-◌}
+use Prim.Native.Nat.{ℕ, ◌-◌}
 use native.Mathlib.Omega.{arith}
 use lib.ListN.{replicate}
 use lib.Seq.{sets}
-use borrow.Author.Rules.{rules}
 use Rattle.table.specs.inner.Classes.{classes_over}
 use Rattle.table.proofs.Classes.{lows_more}
 use Rattle.table.proofs.class.set_classes.Goals as goal

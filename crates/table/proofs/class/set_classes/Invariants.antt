@@ -1,13 +1,9 @@
 -- `table::class::set_classes` meets its contract: what is left to store from byte b on gives the whole.
 -- Assumes nothing.
-use mathlib.Core.Path.{◌≡◌, refl, ap, sym, ◌∙◌}
-use Prim.Native.Nat.{ℕ, ◌≤◌, ◌-◌}
-use native.Mathlib.Omega.{arith}
+use mathlib.Core.Path.{◌≡◌}
+use Prim.Native.Nat.{◌≤◌, ◌-◌}
 use lib.ListN.{replicate}
 use lib.Seq.{sets}
-use borrow.Author.Rules.{rules}
-use Rattle.table.specs.inner.Classes.{classes_over}
-use Rattle.table.proofs.Classes.{lows_more}
 use Rattle.table.proofs.class.set_classes.Given as goal
 
 abbrev pub invariant-loop-b : goal.invariant-loop-b

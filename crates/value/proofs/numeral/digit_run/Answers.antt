@@ -2,13 +2,10 @@
 -- The measure is the bytes that are left. Assumes nothing.
 use mathlib.Core.Bool.{true}
 use mathlib.Core.Path.{◌≡◌, sym, ◌∙◌}
-use Prim.Native.Nat.{◌-◌}
 use native.Mathlib.Omega.{arith}
-use borrow.Author.Rules.{rules}
-use borrow.Author.Tests.{not-true, not-false}
-use lib.ListN.{length, get_or}
+use lib.ListN.{get_or}
 use Rattle.value.specs.Numerals.{most_digits, is_digit}
-use Rattle.value.proofs.Runs.{Running, running_begins, running_stops, running_ends, running_on}
+use Rattle.value.proofs.Runs.{running_begins, running_stops, running_ends, running_on}
 use Rattle.value.proofs.numeral.digit_run.Goals as goal
 use Rattle.value.proofs.numeral.digit_run.Goals.{Else-not-is_digit}
 

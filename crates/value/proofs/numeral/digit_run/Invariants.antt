@@ -1,14 +1,9 @@
 -- `value::numeral::digit_run` meets its contract. The loop's invariant: the digits from here on give the whole run.
 -- The measure is the bytes that are left. Assumes nothing.
-use mathlib.Core.Bool.{true}
-use mathlib.Core.Path.{◌≡◌, sym, ◌∙◌}
 use Prim.Native.Nat.{◌-◌}
-use native.Mathlib.Omega.{arith}
-use borrow.Author.Rules.{rules}
-use borrow.Author.Tests.{not-true, not-false}
-use lib.ListN.{length, get_or}
-use Rattle.value.specs.Numerals.{most_digits, is_digit}
-use Rattle.value.proofs.Runs.{Running, running_begins, running_stops, running_ends, running_on}
+use lib.ListN.{length}
+use Rattle.value.specs.Numerals.{most_digits}
+use Rattle.value.proofs.Runs.{Running}
 use Rattle.value.proofs.numeral.digit_run.Given as goal
 
 abbrev pub invariant-loop-end : goal.invariant-loop-end

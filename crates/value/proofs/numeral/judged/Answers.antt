@@ -1,7 +1,6 @@
 -- `value::numeral::judged` meets its contract: the tests in their order.
 -- Assumes nothing.
 use mathlib.Core.Path.{sym, ◌∙◌}
-use borrow.Author.Rules.{rules}
 use Rattle.value.specs.Numerals.{most_digits}
 use Rattle.value.proofs.NumberParts.{judged-none, judged_many, judged-number}
 use Rattle.value.proofs.numeral.judged.Goals as goal

@@ -2,7 +2,6 @@
 -- Assumes nothing.
 use mathlib.Core.List.{List}
 use native.Mathlib.Omega.{arith}
-use borrow.Author.Rules.{rules}
 use Rattle.value.specs.Numerals.{most_digits}
 use Rattle.value.proofs.TextsRead.{WholeRead, sign-inside, end-behind-sign, byte_inside, all-behind, said-whole, said-stopped, said-pointed, said-pointed-stopped}
 use Prim.Native.Nat.{ℕ}

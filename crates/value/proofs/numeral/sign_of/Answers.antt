@@ -1,6 +1,5 @@
 -- `value::numeral::sign_of` meets its contract: the first byte decides.
 -- Assumes nothing.
-use borrow.Author.Rules.{rules}
 use Rattle.value.proofs.Runs.{sign_of_none, sign_of_minus, sign_of_plus, sign_of_other}
 use Rattle.value.proofs.numeral.sign_of.Goals as goal
 

@@ -1,7 +1,6 @@
 -- `value::numeral::with_digit` meets its contract: a number below the bound has room for a digit more.
 -- Assumes nothing.
 use mathlib.Core.Path.{sym}
-use borrow.Author.Rules.{rules}
 use Rattle.value.specs.Numerals.{most_digits}
 use Rattle.value.proofs.DigitTexts.{digit_from, with_digit_small}
 use Rattle.value.proofs.Runs.{digit_dropped}

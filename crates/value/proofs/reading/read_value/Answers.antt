@@ -1,6 +1,5 @@
 -- `value::reading::read_value` meets its contract: what the text says, with its sign put on.
 -- Assumes nothing.
-use borrow.Author.Rules.{rules}
 use Rattle.value.proofs.SignedValues.{said_small, value-said}
 use Rattle.value.proofs.reading.read_value.Goals as goal
 

@@ -1,9 +1,9 @@
 -- `value::result::first_of_field` meets its contract. The loop's invariant: what is left of the rows gives the first of all.
 -- The measure is the rows that are left. Assumes nothing.
 use mathlib.Core.Bool.{Bool}
-use Prim.Native.Nat.{ℕ, ◌-◌}
+use Prim.Native.Nat.{ℕ}
 use native.Mathlib.Omega.{arith}
-use Rattle.laws.proofs.Passing.{Passing, passing_begins, passing-found, passing_on, passing-done}
+use Rattle.laws.proofs.Passing.{passing_begins, passing-found, passing_on, passing-done}
 use Rattle.value.specs.Results.{value_field, of_field}
 use Rattle.value.proofs.FieldLeaves.{of_the_field, other_field, other-segment}
 use Rattle.value.proofs.result.first_of_field.Goals as goal

@@ -1,6 +1,5 @@
 -- `value::result::is_type` meets its contract: the length and the two bytes.
 -- Assumes nothing.
-use borrow.Author.Rules.{rules}
 use Rattle.value.proofs.NumericRows.{other_length, other-first, second_decides}
 use Rattle.value.proofs.result.is_type.Goals as goal
 

@@ -1,9 +1,7 @@
 -- `value::result::leaf_says` meets its contract: the text between the row's start and its end.
 -- Assumes nothing.
 use mathlib.Core.Path.{ap, ◌∙◌}
-use Prim.Native.Nat.{◌-◌}
 use native.Mathlib.Omega.{arith}
-use borrow.Author.Rules.{rules}
 use lib.ListN.{take, drop}
 use Rattle.look.proofs.TextParts.{part_long}
 use Rattle.value.specs.Numerals.{most_digits, numeral_of}

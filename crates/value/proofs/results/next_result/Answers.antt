@@ -2,10 +2,10 @@
 -- an earlier one ends the order. The measure is the rows that are left. Assumes nothing.
 use mathlib.Core.Bool.{Bool}
 use mathlib.Core.Path.{sym, ◌∙◌}
-use Prim.Native.Nat.{ℕ, ◌-◌, ◌+◌, ◌*◌, ◌≤◌, ◌<◌}
+use Prim.Native.Nat.{ℕ, ◌+◌, ◌*◌, ◌≤◌, ◌<◌}
 use native.Mathlib.Omega.{arith}
 use lib.ListN.{length}
-use Rattle.laws.proofs.Passing.{Passing, passing_begins, passing-found, passing_on, passing-ends, passing-done}
+use Rattle.laws.proofs.Passing.{passing_begins, passing-found, passing_on, passing-ends, passing-done}
 use Rattle.table.specs.Lent.{Lent, lent}
 use Rattle.table.specs.Rows.{segment_row_size}
 use Rattle.tested.proofs.NamedLeaves.{row_inside}

@@ -1,9 +1,8 @@
 -- `value::results::put_values` meets its contract. The loop's invariant: what is left to put gives the whole, in each of the three buffers.
 -- The measure is the rows that are left. Assumes nothing.
 use mathlib.Core.Path.{subst⁻¹}
-use Prim.Native.Nat.{ℕ, suc, ◌-◌, ◌≤◌}
+use Prim.Native.Nat.{ℕ, suc, ◌≤◌}
 use native.Mathlib.Omega.{arith}
-use borrow.Author.Rules.{rules}
 use lib.ListN.{length}
 use Rattle.laws.proofs.Passing.{FirstPassed, found_first, found_none}
 use Rattle.table.specs.Lent.{Lent, lent}

@@ -1,18 +1,9 @@
 -- `value::results::put_values` meets its contract. The loop's invariant: what is left to put gives the whole, in each of the three buffers.
 -- The measure is the rows that are left. Assumes nothing.
-use mathlib.Core.Path.{subst⁻¹}
-use Prim.Native.Nat.{ℕ, suc, ◌-◌, ◌≤◌}
-use native.Mathlib.Omega.{arith}
-use borrow.Author.Rules.{rules}
-use lib.ListN.{length}
-use Rattle.laws.proofs.Passing.{FirstPassed, found_first, found_none}
-use Rattle.table.specs.Lent.{Lent, lent}
+use Prim.Native.Nat.{◌-◌}
+use Rattle.table.specs.Lent.{lent}
 use Rattle.value.specs.Numerals.{most_digits}
-use Rattle.value.specs.Results.{is_numeric, numeric_rows}
-use Rattle.value.proofs.NumberParts.{Small}
-use Rattle.value.proofs.ResultsPut.{Answering, answering_begins, answering_on, answering_done, result_small, one_left}
-use Rattle.value.proofs.SignedValues.{small_signs}
-use Rattle.value.proofs.Signs.{bits_signed}
+use Rattle.value.proofs.ResultsPut.{Answering}
 use Rattle.value.proofs.results.put_values.Given as goal
 
 abbrev pub invariant-loop-card : goal.invariant-loop-card

@@ -1,6 +1,5 @@
 -- `value::sign::signed` meets its contract: a magnitude below the half has its number with either sign.
 -- Assumes nothing.
-use borrow.Author.Rules.{rules}
 use Rattle.value.proofs.Signs.{negated_fits, signed_minus, signed_plain}
 use Rattle.value.proofs.sign.signed.Goals as goal
 

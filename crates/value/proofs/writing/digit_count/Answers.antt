@@ -3,7 +3,7 @@
 use native.Mathlib.Omega.{arith}
 use Rattle.value.specs.Numerals.{most_digits}
 use Rattle.value.proofs.DigitsBack.{count_most}
-use Rattle.value.proofs.DigitStores.{Counting, counting-begins, counting_on, counting-done}
+use Rattle.value.proofs.DigitStores.{counting-begins, counting_on, counting-done}
 use Rattle.value.proofs.writing.digit_count.Goals as goal
 
 pub loop-left-init : goal.loop-left-init

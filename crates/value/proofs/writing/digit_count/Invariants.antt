@@ -1,9 +1,7 @@
 -- `value::writing::digit_count` meets its contract. The loop's invariant: what is left gives the whole count.
 -- The measure is the number that is left. Assumes nothing.
-use native.Mathlib.Omega.{arith}
 use Rattle.value.specs.Numerals.{most_digits}
-use Rattle.value.proofs.DigitsBack.{count_most}
-use Rattle.value.proofs.DigitStores.{Counting, counting-begins, counting_on, counting-done}
+use Rattle.value.proofs.DigitStores.{Counting}
 use Rattle.value.proofs.writing.digit_count.Given as goal
 
 abbrev pub invariant-loop-left : goal.invariant-loop-left

@@ -2,7 +2,6 @@
 -- Assumes nothing.
 use mathlib.Core.Path.{ap, ◌∙◌}
 use Prim.Native.Nat.{ℕ}
-use borrow.Author.Rules.{rules}
 use Rattle.value.specs.inner.Shortening.{greater_of, digits_for}
 use Rattle.value.proofs.writing.digits_for.Goals as goal
 

@@ -1,8 +1,7 @@
 -- `value::writing::put_digits` meets its contract. The loop's invariant: what is left to store gives the whole.
 -- The measure is the digits that are left. Assumes nothing.
 use Prim.Native.Nat.{◌-◌}
-use native.Mathlib.Omega.{arith}
-use Rattle.value.proofs.DigitStores.{Storing, storing_begins, storing_on, storing_done, storing_number}
+use Rattle.value.proofs.DigitStores.{Storing}
 use Rattle.value.proofs.writing.put_digits.Given as goal
 
 abbrev pub invariant-loop-end : goal.invariant-loop-end

@@ -1,7 +1,6 @@
 -- `value::writing::put_pointed` meets its contract: the decimals, the point in front of them, and in front of that what is left.
 -- Assumes nothing.
 use native.Mathlib.Omega.{arith}
-use borrow.Author.Rules.{rules}
 use mathlib.Core.Path.{refl, ◌∙◌}
 use lib.ListN.{length-set}
 use Prim.Native.Nat.{◌+◌, ◌-◌}

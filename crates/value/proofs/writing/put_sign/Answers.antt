@@ -1,6 +1,5 @@
 -- `value::writing::put_sign` meets its contract: a minus, or nothing.
 -- Assumes nothing.
-use borrow.Author.Rules.{rules}
 use Rattle.value.proofs.DigitStores.{minus-put, no_minus_put}
 use Rattle.value.proofs.writing.put_sign.Goals as goal
 

@@ -2,7 +2,6 @@
 -- Assumes nothing.
 use Prim.Native.Nat.{◌+◌, ◌≤◌}
 use native.Mathlib.Omega.{arith}
-use borrow.Author.Rules.{rules}
 use lib.ListN.{length}
 use Rattle.value.specs.Numerals.{most_digits}
 use Rattle.value.proofs.TextsPut.{decimals_fit, room-left, plain-put, pointed-put}

@@ -3,7 +3,6 @@
 use mathlib.Core.Path.{◌≡◌, ap, ◌∙◌}
 use mir.Syntax.{w64}
 use mir.ValLaws.{to_z-of_z}
-use borrow.Author.Rules.{rules}
 use Rattle.value.specs.Numerals.{most_digits}
 use Rattle.value.specs.inner.Signs.{apart}
 use Rattle.value.proofs.ValuesWritten.{wrote_large, wrote_decimals, wrote_narrow, wrote_text}

@@ -1,6 +1,5 @@
 -- `write::leaf_rows::first_in_field` meets its contract.
 -- Assumes nothing.
-use borrow.Author.Rules.{rules}
 use mathlib.Core.List.{[], ◌∷◌}
 use Rattle.laws.specs.Tables.{values}
 use Rattle.write.specs.inner.Tests.{finer}

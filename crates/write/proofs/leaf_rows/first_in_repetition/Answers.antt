@@ -1,6 +1,5 @@
 -- `write::leaf_rows::first_in_repetition` meets its contract.
 -- Assumes nothing.
-use borrow.Author.Rules.{rules}
 use mathlib.Core.List.{[], ◌∷◌}
 use lib.ListN.{get_or}
 use Prim.Native.Nat.{◌+◌}

@@ -1,6 +1,5 @@
 -- `write::leaf_rows::go_on_from` meets its contract: the third row's field, and then the bytes from its start on.
 -- Assumes nothing.
-use borrow.Author.Rules.{rules}
 use native.Mathlib.Omega.{arith}
 use mathlib.Core.Path.{refl, ◌∙◌}
 use Prim.Native.Nat.{◌≤◌, ◌*◌}

@@ -1,11 +1,9 @@
 -- `write::leaf_rows::header_leaves` meets its contract: one law a return.
 -- Assumes nothing.
-use borrow.Author.Rules.{rules}
 use native.Mathlib.Omega.{arith}
 use mathlib.Core.Path.{sym, ◌∙◌}
 use Prim.Native.Nat.{◌≤◌, ◌*◌}
 use lib.ListN.{length}
-use borrow.Author.Tests.{not-true, not-false}
 use Rattle.write.proofs.LaidRows.{in_text_fits}
 use Rattle.write.proofs.HeaderTest.{not_segment_one, not_first, not_one_byte, not_letter, not_field_two, four_decides}
 use Rattle.table.specs.Rows.{leaf_row_size}

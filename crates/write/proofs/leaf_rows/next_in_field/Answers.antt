@@ -1,8 +1,6 @@
 -- `write::leaf_rows::next_in_field` meets its contract: the repetitions decide, and what is left of the places where they are the same.
 -- Assumes nothing.
-use borrow.Author.Rules.{rules}
 use mathlib.Core.Path.{sym, ◌∙◌}
-use borrow.Author.Tests.{not-true, not-false}
 use Rattle.laws.specs.Tables.{values}
 use Rattle.table.specs.inner.Flat.{ones}
 use Rattle.write.proofs.PlaceTests.{next-left, next_goes_on, next-fails, next-rises}

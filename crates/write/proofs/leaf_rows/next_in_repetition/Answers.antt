@@ -1,10 +1,8 @@
 -- `write::leaf_rows::next_in_repetition` meets its contract: the subfields decide, and the last numbers where they are the same.
 -- Assumes nothing.
-use borrow.Author.Rules.{rules}
 use mathlib.Core.Path.{sym, ◌∙◌}
 use Prim.Native.Nat.{◌+◌}
 use lib.ListN.{get_or}
-use borrow.Author.Tests.{not-true, not-false}
 use Rattle.laws.specs.Tables.{values}
 use Rattle.table.specs.inner.Flat.{ones}
 use Rattle.write.proofs.PlaceTests.{one_left, next-left, next_goes_on, next-fails, next-rises, next_last}

@@ -1,8 +1,6 @@
 -- `write::leaf_rows::next_place` meets its contract: the segments decide, then the fields, then what is left of the places.
 -- Assumes nothing.
-use borrow.Author.Rules.{rules}
 use mathlib.Core.Path.{sym, ◌∙◌}
-use borrow.Author.Tests.{not-true, not-false}
 use Rattle.laws.specs.Tables.{values}
 use Rattle.table.specs.inner.Flat.{ones}
 use Rattle.write.proofs.PlaceTests.{next-numbers, next_goes_on, next-fails, next-rises}

@@ -1,6 +1,5 @@
 -- `write::leaf_rows::separators_at` meets its contract: the second leaf is of four bytes, and its row says where they lie.
 -- Assumes nothing.
-use borrow.Author.Rules.{rules}
 use Rattle.write.proofs.HeaderTest.{separators_read}
 use Rattle.write.proofs.leaf_rows.separators_at.Goals as goal
 

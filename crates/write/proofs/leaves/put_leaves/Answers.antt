@@ -1,11 +1,8 @@
 -- `write::leaves::put_leaves` meets its contract: each turn puts a leaf and the separator after it, and what is left of the rows gives the
 -- whole.
 -- Assumes nothing.
-use borrow.Author.Rules.{rules}
 use native.Mathlib.Omega.{arith}
-use Prim.Native.Nat.{◌-◌, ◌<◌}
-use Rattle.write.specs.inner.Filling.{stand}
-use Rattle.write.proofs.LeavesLeft.{LeavesLeft, leaves_begin, leaf-fits, last_fits, last_turn, leading-fits, leading_turn, leaves-written}
+use Rattle.write.proofs.LeavesLeft.{leaves_begin, leaf-fits, last_fits, last_turn, leading-fits, leading_turn, leaves-written}
 use Rattle.write.proofs.leaves.put_leaves.Goals as goal
 
 pub loop-row-init : goal.loop-row-init

@@ -1,6 +1,5 @@
 -- `write::leaves::put_separator` meets its contract: CR where the segment ends, and else a separator that is none.
 -- Assumes nothing.
-use borrow.Author.Rules.{rules}
 use mathlib.Core.List.{[], ◌∷◌}
 use mathlib.Core.Path.{◌≡◌, sym, ap, ◌∙◌, subst}
 use Prim.Native.Nat.{ℕ}

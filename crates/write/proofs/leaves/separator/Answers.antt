@@ -1,6 +1,5 @@
 -- `write::leaves::separator` meets its contract: number by number, the coarsest first.
 -- Assumes nothing.
-use borrow.Author.Rules.{rules}
 use Rattle.write.proofs.RowPlaces.{inside-same, other_field, other_repetition, other_subfield, other_subsubfield}
 use Rattle.write.proofs.leaves.separator.Goals as goal
 

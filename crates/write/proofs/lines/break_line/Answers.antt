@@ -1,6 +1,5 @@
 -- `write::lines::break_line` meets its contract: three stores in a row, all within.
 -- Assumes nothing.
-use borrow.Author.Rules.{rules}
 use native.Mathlib.Omega.{arith}
 use native.Mathlib.Numerals.{towards_suc}
 use lib.ListN.{length-set}

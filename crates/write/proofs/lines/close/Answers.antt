@@ -1,6 +1,5 @@
 -- `write::lines::close` meets its contract: one store within.
 -- Assumes nothing.
-use borrow.Author.Rules.{rules}
 use mathlib.Core.Path.{refl}
 use Rattle.write.specs.inner.Filling.{segment_closed}
 use Rattle.write.proofs.lines.close.Goals as goal

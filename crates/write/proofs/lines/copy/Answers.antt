@@ -1,8 +1,7 @@
 -- `write::lines::copy` meets its contract: what is left to copy gives the whole.
 -- Assumes nothing.
 use native.Mathlib.Omega.{arith}
-use Prim.Native.Nat.{◌-◌}
-use Rattle.write.proofs.TextLeft.{Copying, copying_begins, copying_more, copying_done}
+use Rattle.write.proofs.TextLeft.{copying_begins, copying_more, copying_done}
 use Rattle.write.proofs.lines.copy.Goals as goal
 
 pub loop-i-init : goal.loop-i-init

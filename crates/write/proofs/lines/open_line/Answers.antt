@@ -1,6 +1,5 @@
 -- `write::lines::open_line` meets its contract: only a full line is broken.
 -- Assumes nothing.
-use borrow.Author.Rules.{rules}
 use mathlib.Core.Path.{sym, ◌∙◌}
 use borrow.Author.Tests.{eq-eqb, ne_eqb}
 use Rattle.write.specs.inner.Filling.{stand}

@@ -1,6 +1,5 @@
 -- `write::lines::place` meets its contract: one store within.
 -- Assumes nothing.
-use borrow.Author.Rules.{rules}
 use mathlib.Core.Path.{refl}
 use Rattle.write.specs.inner.Filling.{placed}
 use Rattle.write.proofs.lines.place.Goals as goal

@@ -1,6 +1,5 @@
 -- `write::lines::put_inside` meets its contract: the byte goes into a line opened for it.
 -- Assumes nothing.
-use borrow.Author.Rules.{rules}
 use Rattle.write.proofs.Filling.{inside_opens, place-fits, placed_one}
 use Rattle.write.proofs.lines.put_inside.Goals as goal
 

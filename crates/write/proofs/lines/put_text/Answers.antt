@@ -2,9 +2,7 @@
 -- Assumes nothing.
 use native.Mathlib.Omega.{arith}
 use mathlib.Core.Path.{refl}
-use Prim.Native.Nat.{◌+◌, ◌-◌, ◌*◌}
-use Rattle.write.specs.inner.Filling.{stand}
-use Rattle.write.proofs.TextLeft.{TextLeft, part, text-fits, text-room, text-broken, text_less, text_turn, rest-fits, rest-room, text-kept, text-done}
+use Rattle.write.proofs.TextLeft.{text-fits, text-room, text-broken, text_less, text_turn, rest-fits, rest-room, text-kept, text-done}
 use Rattle.write.proofs.lines.put_text.Goals as goal
 
 pub loop-going-init : goal.loop-going-init

@@ -1,10 +1,8 @@
 -- `write::lines::put_text` meets its contract: each turn fills a line and breaks it, and what is left of the text gives the whole.
 -- Assumes nothing.
-use native.Mathlib.Omega.{arith}
-use mathlib.Core.Path.{refl}
 use Prim.Native.Nat.{◌+◌, ◌-◌, ◌*◌}
 use Rattle.write.specs.inner.Filling.{stand}
-use Rattle.write.proofs.TextLeft.{TextLeft, part, text-fits, text-room, text-broken, text_less, text_turn, rest-fits, rest-room, text-kept, text-done}
+use Rattle.write.proofs.TextLeft.{TextLeft, part}
 use Rattle.write.proofs.lines.put_text.Given as goal
 
 abbrev pub invariant-loop-going : goal.invariant-loop-going

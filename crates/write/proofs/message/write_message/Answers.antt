@@ -1,6 +1,5 @@
 -- `write::message::write_message` meets its contract: a table that passed the test is one that the pass may go over.
 -- Assumes nothing.
-use borrow.Author.Rules.{rules}
 use Rattle.write.proofs.Answers.{tested-four, tested_writable, tested-answer}
 use Rattle.write.proofs.message.write_message.Goals as goal
 

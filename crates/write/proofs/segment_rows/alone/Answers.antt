@@ -1,6 +1,5 @@
 -- `write::segment_rows::alone` meets its contract. One law a return.
 -- Assumes nothing.
-use borrow.Author.Rules.{rules}
 use native.Mathlib.Omega.{arith}
 use Rattle.write.proofs.SegmentTests.{field_last, field_alone, field_twice}
 use Rattle.write.proofs.segment_rows.alone.Goals as goal

@@ -1,6 +1,5 @@
 -- `write::segment_rows::context_of` meets its contract. The text of the first segment's leaf of field 7 names the context.
 -- Assumes nothing.
-use borrow.Author.Rules.{rules}
 use native.Mathlib.Omega.{arith}
 use mathlib.Core.Path.{ap, ◌∙◌}
 use Prim.Native.Nat.{◌<◌}

@@ -1,8 +1,7 @@
 -- `write::segment_rows::field_leaf` meets its contract. The loop's invariant: the leaves that are left give the field.
 -- Assumes nothing.
-use native.Mathlib.Omega.{arith}
 use Prim.Native.Nat.{◌-◌}
-use Rattle.write.proofs.SegmentTests.{Seeking, seeking_begins, seeking_found, seeking_on, seeking_done}
+use Rattle.write.proofs.SegmentTests.{Seeking}
 use Rattle.write.proofs.segment_rows.field_leaf.Given as goal
 
 abbrev pub invariant-loop-i : goal.invariant-loop-i

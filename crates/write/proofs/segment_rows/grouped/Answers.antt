@@ -1,13 +1,11 @@
 -- `write::segment_rows::grouped` meets its contract. The loop's invariant: the rows that are left give the whole, and the next segment begins in
 -- field 1.
 -- Assumes nothing.
-use borrow.Author.Rules.{rules}
 use native.Mathlib.Omega.{arith}
-use Prim.Native.Nat.{◌+◌, ◌-◌}
-use borrow.Author.Tests.{not-true, not-false}
+use Prim.Native.Nat.{◌+◌}
 use Rattle.write.specs.inner.Tests.{SegmentEnd}
 use Rattle.write.proofs.Rising.{segment-head}
-use Rattle.write.proofs.Groups.{Grouping, FieldOne, grouping_begins, grouping_otherwise, stated_wrong, stated_right, grouping_done}
+use Rattle.write.proofs.Groups.{grouping_begins, grouping_otherwise, stated_wrong, stated_right, grouping_done}
 use Rattle.write.proofs.segment_rows.grouped.Goals as goal
 use Rattle.write.proofs.segment_rows.grouped.Goals.{Else-not-has_leaves}
 

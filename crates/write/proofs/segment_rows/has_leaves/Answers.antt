@@ -1,6 +1,5 @@
 -- `write::segment_rows::has_leaves` meets its contract. One law a return.
 -- Assumes nothing.
-use borrow.Author.Rules.{rules}
 use native.Mathlib.Omega.{arith}
 use mathlib.Core.Bool.{false≢true, true≢false}
 use Prim.Native.Nat.{◌+◌, ◌-◌}

@@ -1,6 +1,5 @@
 -- `write::segment_rows::kind_of` meets its contract. The text of the leaf of field 1 names the kind.
 -- Assumes nothing.
-use borrow.Author.Rules.{rules}
 use native.Mathlib.Omega.{arith}
 use mathlib.Core.Path.{ap, ◌∙◌}
 use Rattle.form.specs.Names.{kind_names, kind_of}

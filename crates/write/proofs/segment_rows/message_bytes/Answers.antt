@@ -1,11 +1,10 @@
 -- `write::segment_rows::message_bytes` meets its contract. The loop's invariant: the rows so far state the segments of the leaves so far, and
 -- the bytes counted and those of the segments left are all.
 -- Assumes nothing.
-use borrow.Author.Rules.{rules}
 use native.Mathlib.Omega.{arith}
-use Prim.Native.Nat.{◌+◌, ◌-◌}
-use Rattle.write.proofs.Groups.{Grouping, StatedEnd, grouping_begins, grouping_ends, grouping_all}
-use Rattle.write.proofs.WrittenCount.{Counting, counting-begins, counting_on, counting-done, all-written}
+use Prim.Native.Nat.{◌+◌}
+use Rattle.write.proofs.Groups.{StatedEnd, grouping_begins, grouping_ends, grouping_all}
+use Rattle.write.proofs.WrittenCount.{counting-begins, counting_on, counting-done, all-written}
 use Rattle.write.proofs.segment_rows.message_bytes.Goals as goal
 use Rattle.write.proofs.segment_rows.message_bytes.Goals.{After-wide-leaves}
 

@@ -1,12 +1,10 @@
 -- `write::segment_rows::ordered` meets its contract. The loop's invariant: the watcher has said yes to the kinds so far.
 -- Assumes nothing.
-use borrow.Author.Rules.{rules}
 use native.Mathlib.Omega.{arith}
 use mathlib.Core.Path.{refl, ◌∙◌}
-use Prim.Native.Nat.{◌-◌}
 use borrow.Author.Tests.{not-true, not-false}
 use Rattle.order.proofs.Watching.{by_this_table}
-use Rattle.write.proofs.Columns.{Ordering, ordering_begins, ordered_on, ordered-fails, ordered-done}
+use Rattle.write.proofs.Columns.{ordering_begins, ordered_on, ordered-fails, ordered-done}
 use Rattle.write.proofs.segment_rows.ordered.Goals as goal
 
 pub loop-i-init : goal.loop-i-init

@@ -1,11 +1,9 @@
 -- `write::segment_rows::owned` meets its contract. The loop's invariant: what is known of the rows so far, and their owners are right.
 -- Assumes nothing.
-use borrow.Author.Rules.{rules}
 use native.Mathlib.Omega.{arith}
 use mathlib.Core.Path.{refl}
-use Prim.Native.Nat.{◌-◌}
 use Rattle.order.specs.inner.Levels.{level_in}
-use Rattle.write.proofs.Columns.{Owning, owning_begins, owning_fails, owning_on, owning_done}
+use Rattle.write.proofs.Columns.{owning_begins, owning_fails, owning_on, owning_done}
 use Rattle.write.proofs.segment_rows.owned.Goals as goal
 
 pub loop-i-init : goal.loop-i-init

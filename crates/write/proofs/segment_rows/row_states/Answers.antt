@@ -1,6 +1,5 @@
 -- `write::segment_rows::row_states` meets its contract. One law a return.
 -- Assumes nothing.
-use borrow.Author.Rules.{rules}
 use mathlib.Core.Path.{sym, ap, ◌∙◌}
 use Prim.Native.Nat.{ℕ}
 use lib.Dec.{eqb}

@@ -1,6 +1,5 @@
 -- `write::segment_rows::segment_bytes` meets its contract. The lines of lawful limits are no more than the bytes and one.
 -- Assumes nothing.
-use borrow.Author.Rules.{rules}
 use native.Mathlib.Omega.{arith}
 use mathlib.Core.Path.{◌≡◌, ◌∙◌}
 use Prim.Native.Nat.{◌+◌, ◌-◌, ◌≤◌}

@@ -1,9 +1,8 @@
 -- `write::segment_rows::text_bytes` meets its contract: from the start of the first text up to the end of the last.
 -- Assumes nothing.
-use borrow.Author.Rules.{rules}
 use native.Mathlib.Omega.{arith}
 use mathlib.Core.Path.{◌≡◌}
-use Prim.Native.Nat.{◌+◌, ◌-◌}
+use Prim.Native.Nat.{◌+◌}
 use lib.ListN.{length}
 use Rattle.table.specs.Rows.{text_of}
 use Rattle.write.specs.inner.Tests.{leaves_between}

@@ -1,6 +1,5 @@
 -- `write::segment_rows::text_of` meets its contract.
 -- Assumes nothing.
-use borrow.Author.Rules.{rules}
 use mathlib.Core.Path.{ap}
 use Prim.Native.Nat.{ℕ, ◌+◌}
 use Rattle.write.proofs.segment_rows.text_of.Goals as goal

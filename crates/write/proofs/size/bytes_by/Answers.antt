@@ -1,6 +1,5 @@
 -- `write::size::bytes_by` meets its contract: each form's limits fit the rows, and either levels are low.
 -- Assumes nothing.
-use borrow.Author.Rules.{rules}
 use mathlib.Core.Path.{◌∙◌}
 use Rattle.table.specs.Lent.{lent}
 use Rattle.write.proofs.LentTest.{form_asked, form_size}

@@ -1,6 +1,5 @@
 -- `write::size::written_bytes` meets its contract: its owners are those in force.
 -- Assumes nothing.
-use borrow.Author.Rules.{rules}
 use Rattle.write.specs.inner.EitherOwners.{levels_by}
 use Rattle.write.proofs.size.written_bytes.Goals as goal
 

@@ -1,6 +1,5 @@
 -- `write::test::in_order` meets its contract. One law a return.
 -- Assumes nothing.
-use borrow.Author.Rules.{rules}
 use native.Mathlib.Omega.{arith}
 use mathlib.Core.Path.{sym, ◌∙◌}
 use Rattle.write.proofs.Groups.{FirstStated, first-stated}

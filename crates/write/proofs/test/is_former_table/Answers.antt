@@ -1,6 +1,5 @@
 -- `write::test::is_former_table` meets its contract: the same by the former owners.
 -- Assumes nothing.
-use borrow.Author.Rules.{rules}
 use Rattle.form.specs.Forms.{limits_of}
 use Rattle.form.proofs.TwoForms.{form_lawful}
 use Rattle.order.specs.Owners.{former_level}

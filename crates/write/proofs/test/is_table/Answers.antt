@@ -1,6 +1,5 @@
 -- `write::test::is_table` meets its contract: some message reads to a table exactly where it has bytes.
 -- Assumes nothing.
-use borrow.Author.Rules.{rules}
 use Rattle.form.specs.Forms.{limits_of}
 use Rattle.form.proofs.TwoForms.{form_lawful}
 use Rattle.order.specs.Owners.{level}

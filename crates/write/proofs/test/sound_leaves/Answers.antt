@@ -1,6 +1,5 @@
 -- `write::test::sound_leaves` meets its contract. One law a return.
 -- Assumes nothing.
-use borrow.Author.Rules.{rules}
 use mathlib.Core.Bool.{true}
 use mathlib.Core.Path.{◌≡◌, ◌∙◌}
 use Rattle.write.specs.inner.Tests.{header_leaves_at}

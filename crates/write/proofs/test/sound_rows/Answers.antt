@@ -1,16 +1,13 @@
 -- `write::test::sound_rows` meets its contract. Each test that fails refuses the table, and the last decides.
 -- Assumes nothing.
-use borrow.Author.Rules.{rules}
 use native.Mathlib.Omega.{arith}
 use mathlib.Core.Bool.{true, false, false≢true}
-use mathlib.Core.Path.{◌≡◌, sym, ap, ◌∙◌}
+use mathlib.Core.Path.{◌≡◌, sym, ◌∙◌}
 use Prim.Native.Nat.{ℕ}
-use borrow.Author.Tests.{not-true, not-false}
 use Rattle.laws.proofs.Tests.{never_both}
-use Rattle.laws.specs.Lists.{same}
 use Rattle.order.specs.inner.Levels.{level_in}
 use Rattle.table.specs.Rows.{Table}
-use Rattle.write.specs.inner.Tests.{groups_in, table_with, InText, Laid, KindsStated, sound_leaves, groups_stated, kind_column, owner_column, Decides, SoundRows}
+use Rattle.write.specs.inner.Tests.{groups_in, table_with, InText, Laid, KindsStated, sound_leaves, groups_stated, Decides, SoundRows}
 use Rattle.write.proofs.GoingOn.{sound-first}
 use Rattle.write.proofs.Said.{answered_no, answered_yes}
 use Rattle.write.proofs.TableTest.{sound-laid, laid_in_text, narrow_kinds}

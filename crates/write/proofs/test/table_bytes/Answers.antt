@@ -1,6 +1,5 @@
 -- `write::test::table_bytes` meets its contract. The counts, and then the counted entries.
 -- Assumes nothing.
-use borrow.Author.Rules.{rules}
 use native.Mathlib.Omega.{arith}
 use mathlib.Core.Bool.{true}
 use mathlib.Core.Path.{◌≡◌, sym, ◌∙◌}

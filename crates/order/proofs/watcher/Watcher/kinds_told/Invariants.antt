@@ -1,19 +1,13 @@
 -- `Watcher::kinds_told` meets its contract. The loop's invariant: with the entries that are still to come, the array is the table of all of them.
 -- The measure is how many are left.
 -- Assumes nothing.
-use borrow.Author.Rules.{rules}
-use mathlib.Core.Path.{◌≡◌, refl, sym, ap, ◌∙◌}
-use Prim.Native.Nat.{ℕ, ◌+◌, ◌-◌, ◌≤◌}
-use native.Mathlib.Omega.{arith}
-use lib.ListN.{set, replicate}
+use mathlib.Core.Path.{◌≡◌}
+use Prim.Native.Nat.{ℕ, ◌-◌, ◌≤◌}
 use lib.Seq.{sets}
 use Rattle.laws.specs.Tables.{values}
 use Rattle.order.specs.inner.Telling.{tell_of, kinds_told}
 use Rattle.order.specs.inner.Followers.{as_entry}
 use Rattle.order.specs.declared.watcher.Watcher.{Watcher}
-use Rattle.order.specs.declared.watcher.Told.{Told}
-use Rattle.order.proofs.NextKinds.{entries_begin, entries_turn, entries-end}
-use Rattle.order.proofs.Watching.{by_this_table}
 use Rattle.order.proofs.watcher.Watcher.kinds_told.Given as goal
 
 -- what the entry of a kind says

@@ -1,7 +1,5 @@
 -- `Watcher::next_kinds` meets its contract: after a kind that the context has it is what the watcher says to each kind, and else nothing comes.
 -- Assumes nothing.
-use borrow.Author.Rules.{rules}
-use borrow.Author.Tests.{not-true, not-false}
 use mathlib.Core.Path.{sym, ◌∙◌}
 use Rattle.order.proofs.NextKinds.{told-next, none-next}
 use Rattle.order.proofs.watcher.Watcher.next_kinds.Goals as goal

@@ -1,6 +1,5 @@
 -- `Watcher::tell` meets its contract: the table is the one that the grammar gives.
 -- Assumes nothing.
-use borrow.Author.Rules.{rules}
 use mathlib.Core.Path.{◌∙◌}
 use Rattle.order.proofs.Watching.{by_this_table}
 use Rattle.order.proofs.watcher.Watcher.tell.Goals as goal

@@ -1,6 +1,5 @@
 -- `Watcher::tell_by` meets its contract: it says yes where the kind may come, and changes only then.
 -- Assumes nothing.
-use borrow.Author.Rules.{rules}
 use mathlib.Core.Path.{sym, ap, ◌∙◌}
 use Rattle.order.specs.inner.Telling.{follows_by}
 use Rattle.order.specs.declared.watcher.Watcher.{Watcher}

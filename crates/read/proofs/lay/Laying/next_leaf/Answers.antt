@@ -1,6 +1,5 @@
 -- `read::lay::Laying::next_leaf` meets its contract: each return is one branch of `next_leaf`.
 -- Assumes nothing.
-use borrow.Author.Rules.{rules}
 use borrow.Author.Tests.{eq-eqb, ne_eqb}
 use Rattle.read.specs.inner.Laying.{next_leaf}
 use Rattle.read.proofs.lay.Laying.next_leaf.Goals as goal

@@ -1,7 +1,6 @@
 -- `Survey::begin` meets its contract: the watcher begins with no context, and the name in field 7 of the first segment with no letter.
 -- Assumes nothing.
 use mathlib.Core.Path.{ap₂}
-use borrow.Author.Rules.{rules}
 use Rattle.order.specs.declared.watcher.Watcher.{Watcher}
 use Rattle.read.specs.declared.name.Name.{Name}
 use Rattle.read.specs.declared.survey.Survey.{Survey}

@@ -3,7 +3,6 @@
 use mathlib.Core.Path.{ap, ◌∙◌}
 use Prim.Native.Nat.{ℕ, ◌-◌}
 use lib.ListN.{set}
-use borrow.Author.Rules.{rules}
 use Rattle.order.specs.inner.Telling.{follows_by}
 use Rattle.read.proofs.Seeing.{closed_as}
 use Rattle.read.proofs.survey.Survey.closed.Goals as goal

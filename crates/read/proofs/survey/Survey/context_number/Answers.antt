@@ -1,7 +1,6 @@
 -- `Survey::context_number` meets its contract: nothing has come of field 7, or its letters tell the context.
 -- Assumes nothing.
 use mathlib.Core.Path.{sym, ap, ◌∙◌}
-use borrow.Author.Rules.{rules}
 use Rattle.form.specs.Names.{context_of}
 use Rattle.read.proofs.Naming.{no_context_text, gathered-nothing, gathered-name}
 use Rattle.read.proofs.survey.Survey.context_number.Goals as goal

@@ -1,7 +1,6 @@
 -- `Survey::kind_number` meets its contract: the first segment is an H, and the letters gathered tell any other's kind.
 -- Assumes nothing.
 use mathlib.Core.Path.{sym, ◌∙◌}
-use borrow.Author.Rules.{rules}
 use Rattle.read.proofs.Seeing.{kind-first, kind-later}
 use Rattle.read.proofs.survey.Survey.kind_number.Goals as goal
 

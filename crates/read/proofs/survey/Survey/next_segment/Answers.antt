@@ -1,6 +1,5 @@
 -- `Survey::next_segment` meets its contract: one segment more, and no letter of its name yet.
 -- Assumes nothing.
-use borrow.Author.Rules.{rules}
 use mathlib.Core.Path.{ap}
 use Prim.Native.Nat.{◌+◌}
 use Rattle.read.specs.declared.name.Name.{Name}

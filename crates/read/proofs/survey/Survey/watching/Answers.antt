@@ -1,7 +1,6 @@
 -- `Survey::watching` meets its contract: only the first segment begins the watcher.
 -- Assumes nothing.
 use mathlib.Core.Path.{sym, ap, ◌∙◌}
-use borrow.Author.Rules.{rules}
 use Rattle.order.specs.Watcher.{begun}
 use Rattle.read.proofs.Seeing.{watching-first, watching-later}
 use Rattle.read.proofs.survey.Survey.watching.Goals as goal
