@@ -4,6 +4,9 @@ ghost use Rattle.read.specs.inner.Scanning.{run, marks};
 
 use table::class::index;
 
+// The class of a byte below 32.
+const CONTROL: u8 = 5;
+
 #[derive(Clone, Copy)]
 pub struct Scanned {
     pub end: usize,
@@ -22,7 +25,7 @@ pub(crate) fn scan(class: &[u8; 256], message: &[u8], from: usize, stop: usize) 
     while i < stop {
         let sort = class[index(message[i])];
         if sort > 0 {
-            if sort == 5 {
+            if sort == CONTROL {
                 return Scanned { end: i, separators };
             }
             separators += 1;

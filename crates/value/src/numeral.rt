@@ -125,6 +125,7 @@ fn with_digit(magnitude: u64, digit: u8) -> u64
 }
 
 // What so many digits say, the last `last` of which are those that one at least must stand among: those behind the point, or all.
+#[tactic(auto, unfolding(crate::specs::inner::Runs::judged_digits))]
 fn judged(negative: bool, digits: usize, last: usize, magnitude: u64, decimals: usize) -> Numeral
     ensures { result ≡ judged_digits most_digits negative digits last magnitude decimals }
 {

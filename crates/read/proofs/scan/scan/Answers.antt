@@ -5,7 +5,7 @@ use Prim.Native.Nat.{◌+◌}
 use native.Mathlib.Omega.{arith}
 use Rattle.read.proofs.Scanning.{Scanning, scan_begins, scan_stops, scan_marks, scan_passes, scan_ends}
 use Rattle.read.proofs.scan.scan.Goals as goal
-use Rattle.read.proofs.scan.scan.Goals.{then-sort-gt0+else-sort-eq5, else-sort-gt0}
+use Rattle.read.proofs.scan.scan.Goals.{then-sort-gt0+else-sort-eq-CONTROL, else-sort-gt0}
 
 pub loop-i-init : goal.loop-i-init
 loop-i-init c = scan_begins (omega arith)
@@ -13,9 +13,9 @@ loop-i-init c = scan_begins (omega arith)
 pub bounds-message-i : goal.bounds-message-i
 bounds-message-i c = omega arith
 
-pub returns-then-sort-eq5 : goal.returns-then-sort-eq5
-returns-then-sort-eq5 c =
-    let scanned = scan_stops c.loop-i.invariant (omega arith) (omega arith) c.index.ensures.0 c.if-sort-eq5.true in
+pub returns-then-sort-eq-CONTROL : goal.returns-then-sort-eq-CONTROL
+returns-then-sort-eq-CONTROL c =
+    let scanned = scan_stops c.loop-i.invariant (omega arith) (omega arith) c.index.ensures.0 c.if-sort-eq-CONTROL.true in
     (scanned.end, scanned.marked)
 
 pub overflow_add-separators : goal.overflow_add-separators
@@ -31,9 +31,9 @@ pub loop-i-preserved : goal.loop-i-preserved
 loop-i-preserved c =
     let a = c.args in
     elim c.if-sort-gt0.branch [
-      | then-sort-gt0+else-sort-eq5 w ↦
+      | then-sort-gt0+else-sort-eq-CONTROL w ↦
           subst⁻¹ (Scanning a.class.now a.message.now a.from a.stop (c.loop-i.i + 1)) w.separators-is
-          (scan_marks c.loop-i.invariant (omega arith) (omega arith) c.index.ensures.0 w.if-sort-eq5.false w.if-sort-gt0.true)
+          (scan_marks c.loop-i.invariant (omega arith) (omega arith) c.index.ensures.0 w.if-sort-eq-CONTROL.false w.if-sort-gt0.true)
       | else-sort-gt0 w ↦
           subst⁻¹ (Scanning a.class.now a.message.now a.from a.stop (c.loop-i.i + 1)) w.separators-is
           (scan_passes c.loop-i.invariant (omega arith) (omega arith) c.index.ensures.0 w.if-sort-gt0.false)
