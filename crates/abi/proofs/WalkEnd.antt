@@ -14,7 +14,7 @@ use Rattle.form.specs.Forms.{small_form}
 use Rattle.line.specs.declared.finder.Found.{Found}
 use Rattle.line.specs.declared.finder.Found.TheVariants.{Line, End, Fault}
 use Rattle.line.specs.Finding.{text_run, found_at, next_of}
-use Rattle.line.proofs.Finding.{found-cases, textEnded-cases}
+use Rattle.line.proofs.Finding.{found_cases, text_ended_cases}
 use Rattle.line.proofs.Handing.{Within, found_within}
 use Rattle.abi.specs.Lines.{number_of, end_of, number_for, FoundLine}
 use Rattle.abi.proofs.Puts.{put_whole}
@@ -27,12 +27,12 @@ FaultNumber (Fault number place) = (4 ≤ number) × (number ≤ 6)
 
 pub fault-number : (L : Limits) (message : List ℕ) (at : ℕ) → FaultNumber (found_at L message at)
 fault-number L message at =
-    found-cases FaultNumber L.line at (drop at message)
+    found_cases FaultNumber L.line at (drop at message)
     (λ e. tt)
     (λ b r e low. (lit≤ tt, lit≤ tt))
     (λ some long. (lit≤ tt, lit≤ tt))
     (λ some fits.
-    textEnded-cases FaultNumber (at + text_run (drop at message)) (drop (text_run (drop at message)) (drop at message))
+    text_ended_cases FaultNumber (at + text_run (drop at message)) (drop (text_run (drop at message)) (drop at message))
     (λ e. (lit≤ tt, lit≤ tt))
     (λ b r e other. (lit≤ tt, lit≤ tt))
     (λ r e. tt))

@@ -146,10 +146,10 @@ module _ (c : List ℕ) (p n : ℕ) (codes counts : List ℕ) (asked : Insertabl
       ∙ ap (λ (k : ℕ). take (p * place_size) codes ++ (place_of_code c ++ take k (drop (p * place_size) codes)))
       (let e : (n - p) * place_size ≡ n * place_size - p * place_size = omega arith in e)
 
-  pub new-codes :
+  pub new_codes :
       sets (sets codes (p * place_size + place_size) (take (n * place_size - p * place_size) (drop (p * place_size) codes))) (p * place_size) (place_of_code c)
       ≡ sets codes 0 (codes_put (inserted c p es))
-  new-codes =
+  new_codes =
       let behind = take (n * place_size - p * place_size) (drop (p * place_size) codes) in
       let long = (roomy_parts codes counts asked.room).codes_room in
       sym
@@ -175,10 +175,10 @@ module _ (c : List ℕ) (p n : ℕ) (codes counts : List ℕ) (asked : Insertabl
       (ap (λ (s : List Entry). map count_in s) last-entries
       ∙ counts-there codes counts (n - p) p (omega (arith, r.counts_room, asked.within, asked.free))))
 
-  pub new-counts :
+  pub new_counts :
       set (set (sets counts (p + 1 + 1) (take (n + 1 - (p + 1)) (drop (p + 1) counts))) (p + 1) 1) 0 (n + 1)
       ≡ sets counts 0 (counts_put (inserted c p es))
-  new-counts =
+  new_counts =
       let long = (roomy_parts codes counts asked.room).counts_room in
       let behind = take (n - p) (drop (suc p) counts) in
       sym

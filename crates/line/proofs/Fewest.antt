@@ -21,7 +21,7 @@ use Rattle.line.specs.Cutting.{cuts, unlines}
 use Rattle.line.specs.inner.Sound.{SoundLine}
 use Rattle.line.proofs.Joining.{addendum-long, carried-addendum, carried-segment, joined-addendum, joined-segment}
 use Rattle.line.proofs.Cutting.{length-unlines, length-cuts, length-unlines-cuts}
-use Rattle.line.proofs.Steps.{inside_nil, between_nil, walk_from_nil, inside_both, between-both, walkFrom-both}
+use Rattle.line.proofs.Steps.{inside_nil, between_nil, walk_from_nil, inside_both, between_both, walk_from_both}
 use Rattle.line.proofs.Walking.{texts-sound}
 
 -- how many addenda some lines begin with
@@ -137,7 +137,7 @@ module _ (L : Limits) where
         (λ n h. omega arith)
         (λ text room. omega (arith, length-append t (b ∷ []), (kept s).0 (suc at) (t ++ (b ∷ []))))),
     (λ at.
-        between-both L (λ (x y : Lines). written x ≤ suc (length s)) at at b s s
+        between_both L (λ (x y : Lines). written x ≤ suc (length s)) at at b s s
         (omega (arith, (kept s).1 (suc at)))
         (λ text. omega (arith, (kept s).0 (suc at) (b ∷ [])))),
   )
@@ -146,7 +146,7 @@ module _ (L : Limits) where
   unfolding written texts unlines
   unlines-texts at [] = rw (walk_from_nil L at) (omega arith)
   unlines-texts at (b ∷ m) =
-      walkFrom-both L (λ (x y : Lines). written x ≤ suc (length m)) at at b m m
+      walk_from_both L (λ (x y : Lines). written x ≤ suc (length m)) at at b m m
       (λ n h. omega arith)
       (λ text. omega (arith, (kept m).0 (suc at) (b ∷ [])))
 

@@ -211,29 +211,29 @@ module _ (most : ℕ) (m : List ℕ) (at : ℕ) where
 
 -- An answer is one of these ways. What holds of each holds of what is found.
 module _ (P : Found → Type 0) where
-  pub textEnded-cases :
+  pub text_ended_cases :
       (at : ℕ) (s : List ℕ)
       → (s ≡ [] → P (Fault open_line at))
       → ((b : ℕ) (r : List ℕ) → s ≡ b ∷ r → (b ≡ CR → ⊥) → P (Fault control_byte at))
       → ((r : List ℕ) → s ≡ CR ∷ r → P (Line at (suc at + low_run r)))
       → P (text_ended at s)
-  textEnded-cases at [] none other cr = subst⁻¹ P (text_ended_nil at) (none refl)
-  textEnded-cases at (b ∷ s) none other cr =
+  text_ended_cases at [] none other cr = subst⁻¹ P (text_ended_nil at) (none refl)
+  text_ended_cases at (b ∷ s) none other cr =
       ⊎_elim
       (λ (e : b ≡ CR).
       subst⁻¹ P (ap (λ (c : ℕ). text_ended at (c ∷ s)) e ∙ text_ended_cr at s) (cr s (ap (λ (c : ℕ). c ∷ s) e)))
       (λ (o : b ≡ CR → ⊥). subst⁻¹ P (text_ended-other at b s o) (other b s refl o))
       (equal_or_not b CR)
 
-  pub found-cases :
+  pub found_cases :
       (most at : ℕ) (s : List ℕ)
       → (s ≡ [] → P End)
       → ((b : ℕ) (r : List ℕ) → s ≡ b ∷ r → b < space → P (Fault control_byte at))
       → (1 ≤ text_run s → most < text_run s → P (Fault long_line (at + most)))
       → (1 ≤ text_run s → text_run s ≤ most → P (text_ended (at + text_run s) (drop (text_run s) s)))
       → P (found_from most at s)
-  found-cases most at [] none low long text = subst⁻¹ P (found_from_nil most at) (none refl)
-  found-cases most at (b ∷ s) none low long text =
+  found_cases most at [] none low long text = subst⁻¹ P (found_from_nil most at) (none refl)
+  found_cases most at (b ∷ s) none low long text =
       ⊎_elim
       (λ (l : b < space). subst⁻¹ P (found_from_low most at b s l) (low b s refl l))
       (λ (t : space ≤ b).

@@ -29,14 +29,14 @@ after_suc (suc k) (line t ls) = after_suc k ls
 
 module _ (L : Limits) (m : List ℕ) where
   -- what is found at a place tells the walk from the next place
-  next-walked :
+  next_walked :
       (at : ℕ) (f : Found)
       → walk_from L at (drop at m) ≡ handed_out L m at f
       → walk_from L (next_of at f) (drop (next_of at f) m) ≡ after 1 (walk_from L at (drop at m))
   unfolding handed_out next_of after
-  next-walked at (Line e n) h = sym (ap (after 1) h)
-  next-walked at End h = h ∙ sym (ap (after 1) h)
-  next-walked at (Fault n p) h = h ∙ sym (ap (after 1) h)
+  next_walked at (Line e n) h = sym (ap (after 1) h)
+  next_walked at End h = h ∙ sym (ap (after 1) h)
+  next_walked at (Fault n p) h = h ∙ sym (ap (after 1) h)
 
   -- what a found thing hands out shows what it is
   handed_end : (at : ℕ) (f : Found) → handed_out L m at f ≡ end → f ≡ End
@@ -57,7 +57,7 @@ module _ (L : Limits) (m : List ℕ) where
     unfolding place_after after walk
     going_on zero = refl
     going_on (suc k) =
-        next-walked (place_after L m k) (found_at L m (place_after L m k)) (walk_from-found m (place_after L m k) L one)
+        next_walked (place_after L m k) (found_at L m (place_after L m k)) (walk_from-found m (place_after L m k) L one)
         ∙ ap (after 1) (going_on k)
         ∙ sym (after_suc k (walk L m))
 
@@ -90,12 +90,12 @@ module _ (L : Limits) (s : Bor (List ℕ)) where
   handed_line at End t ls h = let z : ◌≡◌ {A = ℕ} 0 1 = cc in absurd (omega arith)
   handed_line at (Fault k r) t ls h = let z : ◌≡◌ {A = ℕ} 0 1 = cc in absurd (omega arith)
 
-  pub part-after-line :
+  pub part_after_line :
       1 ≤ L.line
       → (k : ℕ) (t : List ℕ) (ls : Lines)
       → after k (walk L s.now) ≡ line t ls
       → part_at L s (place_after L s.now k) ≡ standing s (place_after L s.now k) t
-  part-after-line one k t ls h =
+  part_after_line one k t ls h =
       let at = place_after L s.now k in
       handed_line at (found_at L s.now at) t ls (handed_after L s.now one k ∙ h)
 
@@ -113,9 +113,9 @@ module _ (s : Bor (List ℕ)) where
       ap₂ (λ (x : Bor (List ℕ)) (p : ℕ). next_of p (found_at small_form x.now p)) (walk_after-message k) (walk_after-place k)
 
   -- Opening and going on k times gives the k-th line of the message, and then its end or fault for ever: `look` and `part` answer so.
-  pub walkAfter-lines :
+  pub walk_after-lines :
       (k : ℕ)
       → handed_out small_form s.now (walk_after s k).at (found_at small_form (walk_after s k).message.now (walk_after s k).at) ≡ after k (walk small_form s.now)
-  walkAfter-lines k =
+  walk_after-lines k =
       ap₂ (λ (x : Bor (List ℕ)) (p : ℕ). handed_out small_form s.now p (found_at small_form x.now p)) (walk_after-message k) (walk_after-place k)
       ∙ handed_after small_form s.now (lit≤ tt) k

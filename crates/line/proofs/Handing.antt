@@ -17,7 +17,7 @@ use Rattle.line.specs.declared.finder.Found.{Found}
 use Rattle.line.specs.declared.finder.Found.TheVariants.{Line, End, Fault}
 use Rattle.line.proofs.Steps.{inside_nil, inside_cr, inside_control, inside-long, inside-more, between_nil, between-low, between-text, walk_from_nil, walk_from-low, walk_from-text}
 use Rattle.line.proofs.Runs.{text_run_nil, text_run-more, text_run_stop, low_run_nil, low_run-more, low_run_stop, text_run-length, low_run-length, text_run-inside, text_run-next}
-use Rattle.line.proofs.Finding.{textEnded-cases, found-cases}
+use Rattle.line.proofs.Finding.{text_ended_cases, found_cases}
 
 -- runs of a walk
 
@@ -74,13 +74,13 @@ module _ (L : Limits) where
       (between-text L at b s h ∙ sym (walk_from-text L at b s h) ∙ ap (λ (p : ℕ). walk_from L p (b ∷ s)) (omega arith)))
       (less_or_not b space)
 
-  pub walkFrom-run :
+  pub walk_from-run :
       (at : ℕ) (s : List ℕ)
       → 1 ≤ text_run s
       → text_run s ≤ L.line
       → walk_from L at s ≡ inside L (at + text_run s) (take (text_run s) s) (drop (text_run s) s)
-  walkFrom-run at [] some fits = absurd (omega (arith, text_run_nil))
-  walkFrom-run at (b ∷ s) some fits =
+  walk_from-run at [] some fits = absurd (omega (arith, text_run_nil))
+  walk_from-run at (b ∷ s) some fits =
       let h : space ≤ b = text_run-inside (b ∷ s) 0 some in
       let e : text_run (b ∷ s) ≡ suc (text_run s) = text_run-more b s h in
       rw e
@@ -126,20 +126,20 @@ module _ (m : List ℕ) (at : ℕ) where
   pub walk_from-found : (L : Limits) → 1 ≤ L.line → walk_from L at (drop at m) ≡ handed_out L m at (found_at L m at)
   unfolding handed_out
   walk_from-found L one =
-      found-cases (λ (f : Found). walk_from L at s ≡ handed_out L m at f) L.line at s
+      found_cases (λ (f : Found). walk_from L at s ≡ handed_out L m at f) L.line at s
       (λ e. ap (walk_from L at) e ∙ walk_from_nil L at)
       (λ b r e low. ap (walk_from L at) e ∙ walk_from-low L at b r low)
       (λ some long. walk_from-run-long L at s one some long)
       (λ some fits.
-      textEnded-cases (λ (f : Found). walk_from L at s ≡ handed_out L m at f) (at + n) (drop n s)
-      (λ e. walkFrom-run L at s some fits ∙ ap (inside L (at + n) (take n s)) e ∙ inside_nil L (at + n) (take n s))
+      text_ended_cases (λ (f : Found). walk_from L at s ≡ handed_out L m at f) (at + n) (drop n s)
+      (λ e. walk_from-run L at s some fits ∙ ap (inside L (at + n) (take n s)) e ∙ inside_nil L (at + n) (take n s))
       (λ b r e other.
-      walkFrom-run L at s some fits
+      walk_from-run L at s some fits
       ∙ ap (inside L (at + n) (take n s)) e
       ∙ inside_control L (at + n) (take n s) b r other (text_run-next s b r e))
       (λ r e.
       let whole : n ≡ at + n - at = omega arith in
-      walkFrom-run L at s some fits
+      walk_from-run L at s some fits
       ∙ ap (inside L (at + n) (take n s)) e
       ∙ inside_cr L (at + n) (take n s) r
       ∙ ap₂ line (ap (λ (k : ℕ). take k s) whole) (between_run L (suc (at + n)) r ∙ ap (walk_from L (suc (at + n) + low_run r)) (left r e))))
@@ -147,12 +147,12 @@ module _ (m : List ℕ) (at : ℕ) where
   -- A line lies behind its place, its CR before the next place, and all of it in the message; a fault lies there or at the message's end.
   pub found_within : (L : Limits) → Within at (length m) (found_at L m at)
   found_within L =
-      found-cases (Within at (length m)) L.line at s
+      found_cases (Within at (length m)) L.line at s
       (λ e. tt)
       (λ b r e low. omega (arith, ap length e, length-drop at m))
       (λ some long. omega (arith, text_run-length s, length-drop at m))
       (λ some fits.
-      textEnded-cases (Within at (length m)) (at + n) (drop n s)
+      text_ended_cases (Within at (length m)) (at + n) (drop n s)
       (λ e. omega (arith, text_run-length s, length-drop at m))
       (λ b r e other. omega (arith, text_run-length s, length-drop at m))
       (λ r e. omega (arith, low_run-length r, ap length e, length-drop n s, length-drop at m)))

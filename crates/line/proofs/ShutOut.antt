@@ -54,7 +54,7 @@ module _ (f : List ℕ → ℕ → Found) (meets : (m : List ℕ) (at : ℕ) →
   pub full_line_refused : (place : ℕ) → f full 0 ≡ Fault long_line place → ⊥
   full_line_refused place e = let z : ◌≡◌ {A = ℕ} 0 1 = cc (meets full 0, full_found) in omega arith
 
--- what meets the contract of `next_place_lem`, and so of the walk's `go_on`
+-- what meets the contract of `next_place`, and so of the walk's `go_on`
 module _ (g : List ℕ → ℕ → ℕ) (meets : (m : List ℕ) (at : ℕ) → g m at ≡ next_of at (found_at small_form m at)) where
   pub stays_at_the_cr : g two 0 ≡ 2 → ⊥
   unfolding next_of

@@ -21,7 +21,7 @@ use Rattle.line.specs.inner.Ending.{handed_out}
 use Rattle.line.specs.declared.finder.Found.{Found}
 use Rattle.line.specs.declared.finder.Found.TheVariants.{Line}
 use Rattle.line.proofs.Runs.{text_run_nil, text_run-more, text_run_stop}
-use Rattle.line.proofs.Finding.{textEnded-cases, found-cases}
+use Rattle.line.proofs.Finding.{text_ended_cases, found_cases}
 use Rattle.line.proofs.Handing.{walk_from-found}
 
 -- a run of text from one of its bytes on
@@ -88,12 +88,12 @@ module _ (L : Limits) (m : List ℕ) (at : ℕ) (one : 1 ≤ L.line) (h : at < l
   pub line_here : fault_number (walk_from L at (drop at m)) ≡ 0 → LineHere L m at
   unfolding Here handed_out fault_number
   line_here sound =
-      found-cases Here L.line at s
+      found_cases Here L.line at s
       (λ e is z. absurd (omega (arith, ap length e, length-drop at m)))
       (λ b r e low is z. absurd (omega arith))
       (λ some long is z. absurd (omega arith))
       (λ some fits.
-      textEnded-cases Here (at + n) (drop n s)
+      text_ended_cases Here (at + n) (drop n s)
       (λ e is z. absurd (omega arith))
       (λ b r e other is z. absurd (omega arith))
       (λ r e is z. ends_in_CR some r e is))

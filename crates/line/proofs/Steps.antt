@@ -92,21 +92,21 @@ module _ (L : Limits) (R : Lines → Lines → Type 0) (at at' : ℕ) (b : ℕ) 
       (less_or_not (length t) L.line)))
       (byte_cases b)
 
-  pub between-both :
+  pub between_both :
       R (between L (suc at) s) (between L (suc at') s')
       → (space ≤ b → R (inside L (suc at) (b ∷ []) s) (inside L (suc at') (b ∷ []) s'))
       → R (between L at (b ∷ s)) (between L at' (b ∷ s'))
-  between-both stays goes =
+  between_both stays goes =
       ⊎_elim
       (λ (h : b < space). subst₂ R (sym (between-low L at b s h)) (sym (between-low L at' b s' h)) stays)
       (λ (h : space ≤ b). subst₂ R (sym (between-text L at b s h)) (sym (between-text L at' b s' h)) (goes h))
       (less_or_not b space)
 
-  pub walkFrom-both :
+  pub walk_from_both :
       ((n : ℕ) → 1 ≤ n → R (fault n at) (fault n at'))
       → (space ≤ b → R (inside L (suc at) (b ∷ []) s) (inside L (suc at') (b ∷ []) s'))
       → R (walk_from L at (b ∷ s)) (walk_from L at' (b ∷ s'))
-  walkFrom-both faults goes =
+  walk_from_both faults goes =
       ⊎_elim
       (λ (h : b < space). subst₂ R (sym (walk_from-low L at b s h)) (sym (walk_from-low L at' b s' h)) (faults control_byte (lit≤ tt)))
       (λ (h : space ≤ b). subst₂ R (sym (walk_from-text L at b s h)) (sym (walk_from-text L at' b s' h)) (goes h))

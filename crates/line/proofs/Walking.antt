@@ -15,7 +15,7 @@ use Rattle.form.specs.Numbers.{open_line}
 use Rattle.line.specs.Lines.{Lines, end, fault, line, CR, space, inside, between, walk_from, walk, texts, fault_number, fault_place}
 use Rattle.line.specs.Cutting.{unlines}
 use Rattle.line.specs.inner.Sound.{Text, SoundLine, given_lines, shifted}
-use Rattle.line.proofs.Steps.{inside_nil, inside_cr, inside-more, between_nil, between-low, between-text, walk_from_nil, walk_from-low, walk_from-text, inside_both, between-both, walkFrom-both}
+use Rattle.line.proofs.Steps.{inside_nil, inside_cr, inside-more, between_nil, between-low, between-text, walk_from_nil, walk_from-low, walk_from-text, inside_both, between_both, walk_from_both}
 
 -- what was written
 
@@ -43,10 +43,10 @@ module _ (L : Limits) where
       ∙ inside-text (suc at) (b ∷ []) u s (all_rest sound.text) (omega (arith, sound.short))
       ∙ ap (λ (p : ℕ). line (b ∷ u) (between L (suc p) s)) (omega arith)
 
-  pub walkFrom-line :
+  pub walk_from-line :
       (at : ℕ) (t s : List ℕ) → SoundLine L t → walk_from L at (t ++ CR ∷ s) ≡ line t (between L (suc (at + length t)) s)
-  walkFrom-line at [] s sound = absurd (omega (arith, sound.some))
-  walkFrom-line at (b ∷ u) s sound =
+  walk_from-line at [] s sound = absurd (omega (arith, sound.some))
+  walk_from-line at (b ∷ u) s sound =
       walk_from-text L at b (u ++ CR ∷ s) (all_first sound.text)
       ∙ inside-text (suc at) (b ∷ []) u s (all_rest sound.text) (omega (arith, sound.short))
       ∙ ap (λ (p : ℕ). line (b ∷ u) (between L (suc p) s)) (omega arith)
@@ -62,7 +62,7 @@ module _ (L : Limits) where
   unfolding unlines given_lines walk
   walk-unlines [] sound = walk_from_nil L 0
   walk-unlines (l ∷ ls) (also first rest) =
-      walkFrom-line 0 l (unlines ls) first ∙ ap (line l) (between-unlines (suc (0 + length l)) ls rest)
+      walk_from-line 0 l (unlines ls) first ∙ ap (line l) (between-unlines (suc (0 + length l)) ls rest)
 
 pub texts-given : (ls : List (List ℕ)) → texts (given_lines ls) ≡ ls
 unfolding texts given_lines
@@ -93,7 +93,7 @@ module _ (L : Limits) (P : Lines → Type 0) (Q : List ℕ → Type 0)
         (λ n h. faults n at h)
         (λ text room. (along s).0 (suc at) (t ++ (b ∷ [])) (grows t b q text room))),
     (λ at.
-        between-both L (λ (x y : Lines). P x) at at b s s
+        between_both L (λ (x y : Lines). P x) at at b s s
         ((along s).1 (suc at))
         (λ text. (along s).0 (suc at) (b ∷ []) (begins b text))),
   )
@@ -101,7 +101,7 @@ module _ (L : Limits) (P : Lines → Type 0) (Q : List ℕ → Type 0)
   pub walk_from_along : (at : ℕ) (s : List ℕ) → P (walk_from L at s)
   walk_from_along at [] = subst P (sym (walk_from_nil L at)) ends
   walk_from_along at (b ∷ s) =
-      walkFrom-both L (λ (x y : Lines). P x) at at b s s
+      walk_from_both L (λ (x y : Lines). P x) at at b s s
       (λ n h. faults n at h)
       (λ text. (along s).0 (suc at) (b ∷ []) (begins b text))
 
@@ -159,7 +159,7 @@ module _ (L : Limits) (k : ℕ) where
         (λ n h. refl)
         (λ text room. rw (← add-suc k at) ((shifts s).0 (suc at) (t ++ (b ∷ []))))),
     (λ at.
-        between-both L (λ (x y : Lines). x ≡ shifted k y) (k + at) at b s s
+        between_both L (λ (x y : Lines). x ≡ shifted k y) (k + at) at b s s
         (rw (← add-suc k at) ((shifts s).1 (suc at)))
         (λ text. rw (← add-suc k at) ((shifts s).0 (suc at) (b ∷ [])))),
   )
@@ -201,7 +201,7 @@ module _ (L : Limits) (low rest : List ℕ) (h : Low low) where
         (λ n h. alike_same (length low) (fault n at))
         (λ text room. (inserted a).0 (suc at) (t ++ (b ∷ [])))),
     (λ at.
-        between-both L (Alike (length low)) at at b (a ++ CR ∷ (low ++ rest)) (a ++ CR ∷ rest)
+        between_both L (Alike (length low)) at at b (a ++ CR ∷ (low ++ rest)) (a ++ CR ∷ rest)
         ((inserted a).1 (suc at))
         (λ text. (inserted a).0 (suc at) (b ∷ []))),
   )
@@ -211,6 +211,6 @@ module _ (L : Limits) (low rest : List ℕ) (h : Low low) where
   unfolding walk
   walk_lows [] = rw (walk_from-low L 0 CR (low ++ rest) (lit< tt), walk_from-low L 0 CR rest (lit< tt)) (alike_same (length low) _)
   walk_lows (b ∷ a) =
-      walkFrom-both L (Alike (length low)) 0 0 b (a ++ CR ∷ (low ++ rest)) (a ++ CR ∷ rest)
+      walk_from_both L (Alike (length low)) 0 0 b (a ++ CR ∷ (low ++ rest)) (a ++ CR ∷ rest)
       (λ n h. alike_same (length low) (fault n 0))
       (λ text. (inserted a).0 1 (b ∷ []))

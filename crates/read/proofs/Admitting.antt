@@ -31,17 +31,17 @@ use Rattle.read.specs.inner.Census.{carried_in, census_number, CensusOf}
 use Rattle.read.specs.inner.Admitting.{admission, turned_number, turned_place, AdmitsAs}
 
 -- an index copied to the front of buffers of its size is the same index
-pub record Copied (codes counts new-codes new-counts : List ℕ) : Type 0 where
-  pub sound : sound_index new-codes new-counts ≡ true
-  pub entries : entries_in new-codes new-counts ≡ entries_in codes counts
+pub record Copied (codes counts new_codes new_counts : List ℕ) : Type 0 where
+  pub sound : sound_index new_codes new_counts ≡ true
+  pub entries : entries_in new_codes new_counts ≡ entries_in codes counts
 
 module _ {codes counts : List ℕ} (sound : sound_index codes counts ≡ true) where
   pub index_room : Roomy codes counts
   index_room = roomy_parts codes counts (sound-roomy codes counts sound)
 
-  pub index_copied : (empty-codes empty-counts : List ℕ) {new-codes new-counts : List ℕ} {named : ℕ} → codes_most * place_size ≤ length empty-codes
-      → codes_most < length empty-counts → named ≡ named_in counts → new-codes ≡ sets empty-codes 0 (take (named * place_size) codes)
-      → new-counts ≡ sets empty-counts 0 (take (named + 1) counts) → Copied codes counts new-codes new-counts
+  pub index_copied : (empty-codes empty-counts : List ℕ) {new_codes new_counts : List ℕ} {named : ℕ} → codes_most * place_size ≤ length empty-codes
+      → codes_most < length empty-counts → named ≡ named_in counts → new_codes ≡ sets empty-codes 0 (take (named * place_size) codes)
+      → new_counts ≡ sets empty-counts 0 (take (named + 1) counts) → Copied codes counts new_codes new_counts
   unfolding sound_index
   index_copied empty-codes empty-counts {named = named} codes-room counts-room is codes_are_lem counts_are_lem =
       let es : List Entry = entries_in codes counts in
@@ -152,8 +152,8 @@ module _ (L : Limits) (d : Decision) (tally : Tally) (m codes counts : List ℕ)
         counts_are = λ t. sym (ap (front_left counts_put counts) (h t));
       }
 
-  module _ {new-codes new-counts new-codes' new-counts' : List ℕ} {r : Census} (copy : Copied codes counts new-codes new-counts)
-      (census : CensusOf (carried_in L d.separators m) (entries_in new-codes new-counts) r new-codes' new-counts') where
+  module _ {new_codes new_counts new-codes' new-counts' : List ℕ} {r : Census} (copy : Copied codes counts new_codes new_counts)
+      (census : CensusOf (carried_in L d.separators m) (entries_in new_codes new_counts) r new-codes' new-counts') where
     number_is : r.number ≡ census_number (carried_in L d.separators m) E
     number_is = census.number ∙ ap (λ (es : List Entry). census_number (carried_in L d.separators m) (added_all (codes_counted (carried_in L d.separators m)) es)) copy.entries
 

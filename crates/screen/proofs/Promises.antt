@@ -23,7 +23,7 @@ use Rattle.write.specs.inner.ReadsBack.{is_table}
 use Rattle.write.proofs.ReadTables.{filed-table}
 use Rattle.look.specs.Matches.{FirstFit}
 use Rattle.screen.specs.declared.Verdict.{Verdict}
-use Rattle.screen.specs.Refusals.{notAReport, first_rule}
+use Rattle.screen.specs.Refusals.{not_a_report, first_rule}
 use Rattle.screen.specs.Rules.{rules}
 use Rattle.screen.specs.Meeting.{fails}
 use Rattle.screen.specs.Verdicts.{report_context, screened}
@@ -78,16 +78,16 @@ module _ (L : Limits) (levels : ℕ → ℕ → ℕ) (t : Lent) where
       from (kept r k q) w = absurd (never_both r.table w)
       from (broken r k i l below fit q) w = absurd (never_both r.table w)
 
-  other_exactly : (told.number ≡ notAReport) ↔ ((is_table L levels t ≡ true) × (t.card.context ≡ report_context → ⊥))
+  other_exactly : (told.number ≡ not_a_report) ↔ ((is_table L levels t ≡ true) × (t.card.context ≡ report_context → ⊥))
   other_exactly = (to (cases L levels t), from (cases L levels t))
     where
-      to : Cases L levels t → told.number ≡ notAReport → (is_table L levels t ≡ true) × (t.card.context ≡ report_context → ⊥)
+      to : Cases L levels t → told.number ≡ not_a_report → (is_table L levels t ≡ true) × (t.card.context ≡ report_context → ⊥)
       to (untabled e q) h = absurd (omega (arith, h, numbered q))
       to (unreported e n q) h = (e, n)
       to (kept r k q) h = absurd (omega (arith, h, numbered q))
       to (broken r k i l w fit q) h = absurd (omega (arith, h, numbered q))
 
-      from : Cases L levels t → (is_table L levels t ≡ true) × (t.card.context ≡ report_context → ⊥) → told.number ≡ notAReport
+      from : Cases L levels t → (is_table L levels t ≡ true) × (t.card.context ≡ report_context → ⊥) → told.number ≡ not_a_report
       from (untabled e q) w = absurd (never_both w.0 e)
       from (unreported e n q) w = numbered q
       from (kept r k q) w = absurd (w.1 r.context)
@@ -127,7 +127,7 @@ module _ (L : Limits) (levels : ℕ → ℕ → ℕ) (t : Lent) where
             (i, placed q, subst (λ (m : ℕ). FirstFit (fails t (kth_rule m)) 0 t.card.segments i) (let e : j ≡ k = omega (arith, n, numbered q) in e) fit)
 
   abbrev NoRule : Type 0
-  NoRule = (told.number ≡ 0) ⊎ ((told.number ≡ no_table_number) ⊎ (told.number ≡ notAReport))
+  NoRule = (told.number ≡ 0) ⊎ ((told.number ≡ no_table_number) ⊎ (told.number ≡ not_a_report))
 
   one_of : NoRule ⊎ ((k : ℕ) × (k < length rules) × (told.number ≡ first_rule + k))
   one_of = by (cases L levels t)
@@ -141,7 +141,7 @@ module _ (L : Limits) (levels : ℕ → ℕ → ℕ) (t : Lent) where
   unplaced : NoRule → told.place ≡ 0
   unplaced = by (cases L levels t)
     where
-      below : (n k : ℕ) → n ≡ first_rule + k → (n ≡ 0) ⊎ ((n ≡ no_table_number) ⊎ (n ≡ notAReport)) → ⊥
+      below : (n k : ℕ) → n ≡ first_rule + k → (n ≡ 0) ⊎ ((n ≡ no_table_number) ⊎ (n ≡ not_a_report)) → ⊥
       below n k e (inl h) = omega (arith, h, e)
       below n k e (inr (inl h)) = omega (arith, h, e)
       below n k e (inr (inr h)) = omega (arith, h, e)

@@ -12,7 +12,7 @@ use Rattle.table.specs.Lent.{Lent}
 use Rattle.table.specs.Rows.{width}
 use Rattle.write.specs.inner.ReadsBack.{is_table}
 use Rattle.tested.proofs.PassedTables.{searchable, known-owners}
-use Rattle.screen.specs.Refusals.{notAReport, first_rule}
+use Rattle.screen.specs.Refusals.{not_a_report, first_rule}
 use Rattle.screen.specs.Rules.{rules}
 use Rattle.screen.specs.Verdicts.{report_context, refused_with, judged_by, screened}
 use Rattle.screen.specs.inner.Rows.{Report}
@@ -23,7 +23,7 @@ module _ (L : Limits) (levels : ℕ → ℕ → ℕ) (t : Lent) where
   no_table e = rw (e, screened)
 
   module _ (table : is_table L levels t ≡ true) where
-    pub no_report : (t.card.context ≡ report_context → ⊥) → screened L levels t ≡ refused_with notAReport
+    pub no_report : (t.card.context ≡ report_context → ⊥) → screened L levels t ≡ refused_with not_a_report
     unfolding screened
     no_report n = rw (table, ne_eqb t.card.context report_context n, screened)
 

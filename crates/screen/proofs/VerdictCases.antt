@@ -16,7 +16,7 @@ use Rattle.form.specs.Numbers.{no_table_number}
 use Rattle.table.specs.Lent.{Lent}
 use Rattle.write.specs.inner.ReadsBack.{is_table}
 use Rattle.look.specs.Matches.{FirstFit}
-use Rattle.screen.specs.Refusals.{notAReport, first_rule}
+use Rattle.screen.specs.Refusals.{not_a_report, first_rule}
 use Rattle.screen.specs.Rules.{Rule, once, rules}
 use Rattle.screen.specs.Meeting.{fails}
 use Rattle.screen.specs.Verdicts.{report_context, yes, refused_with, screened}
@@ -70,7 +70,7 @@ module _ (t : Lent) where
 module _ (L : Limits) (levels : ℕ → ℕ → ℕ) (t : Lent) where
   pub data Cases : Type 0 where
     untabled : is_table L levels t ≡ false → screened L levels t ≡ refused_with no_table_number → Cases
-    unreported : is_table L levels t ≡ true → (t.card.context ≡ report_context → ⊥) → screened L levels t ≡ refused_with notAReport → Cases
+    unreported : is_table L levels t ≡ true → (t.card.context ≡ report_context → ⊥) → screened L levels t ≡ refused_with not_a_report → Cases
     kept : IsReport L levels t → KeepsFirst t (length rules) → screened L levels t ≡ yes → Cases
     broken : IsReport L levels t → (k i : ℕ) → k < length rules → KeepsFirst t k → FirstFit (fails t (kth_rule k)) 0 t.card.segments i
         → screened L levels t ≡ record { number = first_rule + k; place = suc i } → Cases

@@ -16,12 +16,12 @@ use Rattle.look.specs.Looking.{patient_kind, result_kind, leaf_named}
 use Rattle.look.specs.Matches.{FirstFit, Finds}
 use Rattle.screen.specs.declared.wanted.Field.{Field}
 use Rattle.screen.specs.declared.Verdict.{Verdict}
-use Rattle.screen.specs.Refusals.{notAReport, first_rule}
+use Rattle.screen.specs.Refusals.{not_a_report, first_rule}
 use Rattle.screen.specs.Rules.{About, with_code, in_system, Rule, wants, once, takes, rules}
 use Rattle.screen.specs.Meeting.{patient_of, is_about, fails}
 use Rattle.screen.specs.Verdicts.{report_context, screened}
 
--- the k-th rule, counted from 0, whose number is `firstRule + k`
+-- the k-th rule, counted from 0, whose number is `first_rule + k`
 abbrev pub kth_rule : ℕ → Rule
 kth_rule k = get_or rules k (once [])
 
@@ -43,15 +43,15 @@ pub record VerdictOn (L : Limits) (levels : ℕ → ℕ → ℕ) (t : Lent) (v :
   pub yes_exactly : (v.number ≡ 0) ↔ (IsReport L levels t × KeepsFirst t (length rules))
   -- 13 exactly where no message reads to it, then 30 exactly where its context is another
   pub no_table : (v.number ≡ no_table_number) ↔ (is_table L levels t ≡ false)
-  pub no_report : (v.number ≡ notAReport) ↔ ((is_table L levels t ≡ true) × (t.card.context ≡ report_context → ⊥))
+  pub no_report : (v.number ≡ not_a_report) ↔ ((is_table L levels t ≡ true) × (t.card.context ≡ report_context → ⊥))
   -- a rule's number exactly where the table is a report, that rule is not kept and every lower one is
   pub lowest_rule : (k : ℕ) → k < length rules → (v.number ≡ first_rule + k) ↔ (IsReport L levels t × KeepsFirst t k × (Keeps t (kth_rule k) → ⊥))
   -- and then the place, counted from 1, is the first row that fails it
   pub first-row : (k : ℕ) → k < length rules → v.number ≡ first_rule + k
       → (i : ℕ) × (v.place ≡ suc i) × FirstFit (fails t (kth_rule k)) 0 t.card.segments i
   -- there is no other number, and those that are no rule's have the place 0
-  pub other-number : ((v.number ≡ 0) ⊎ ((v.number ≡ no_table_number) ⊎ (v.number ≡ notAReport))) ⊎ ((k : ℕ) × (k < length rules) × (v.number ≡ first_rule + k))
-  pub no_place : (v.number ≡ 0) ⊎ ((v.number ≡ no_table_number) ⊎ (v.number ≡ notAReport)) → v.place ≡ 0
+  pub other-number : ((v.number ≡ 0) ⊎ ((v.number ≡ no_table_number) ⊎ (v.number ≡ not_a_report))) ⊎ ((k : ℕ) × (k < length rules) × (v.number ≡ first_rule + k))
+  pub no_place : (v.number ≡ 0) ⊎ ((v.number ≡ no_table_number) ⊎ (v.number ≡ not_a_report)) → v.place ≡ 0
 
 -- a leaf of row i, counted from 0, that a name gives (S5) is found with just this text (F1)
 pub record FoundText (t : Lent) (i field subfield : ℕ) (text : List ℕ) : Type 0 where

@@ -3,8 +3,8 @@
 use Rattle.std.specs.Prelude.{ℕ}
 
 -- the message is no ORU
-abbrev pub notAReport : ℕ
-notAReport = 30
+abbrev pub not_a_report : ℕ
+not_a_report = 30
 
 -- the first rule has this number, and each next one the next
 abbrev pub first_rule : ℕ

@@ -7,7 +7,7 @@ use Rattle.form.specs.Numbers.{no_table_number}
 use Rattle.table.specs.Lent.{Lent}
 use Rattle.write.specs.inner.ReadsBack.{is_table}
 use Rattle.screen.specs.declared.Verdict.{Verdict}
-use Rattle.screen.specs.Refusals.{notAReport, first_rule}
+use Rattle.screen.specs.Refusals.{not_a_report, first_rule}
 use Rattle.screen.specs.Rules.{Rule, rules}
 use Rattle.screen.specs.Meeting.{fails}
 
@@ -40,6 +40,6 @@ judged_by t number (r ∷ rs) = at_first number (failing t r) (judged_by t (suc 
 unfoldable pub screened : Limits → (ℕ → ℕ → ℕ) → Lent → Verdict
 screened L levels t =
     elim (is_table L levels t) [
-      | true ↦ elim (eqb t.card.context report_context) [ true ↦ judged_by t first_rule rules | false ↦ refused_with notAReport ]
+      | true ↦ elim (eqb t.card.context report_context) [ true ↦ judged_by t first_rule rules | false ↦ refused_with not_a_report ]
       | false ↦ refused_with no_table_number
     ]

@@ -20,7 +20,7 @@ use Rattle.line.specs.Finding.{text_run, low_run, found_at}
 use Rattle.line.specs.declared.finder.Found.{Found}
 use Rattle.line.specs.declared.finder.Found.TheVariants.{Line, End, Fault}
 use Rattle.line.proofs.Runs.{text_run_nil, text_run-more, text_run_stop, low_run_nil, low_run-more, low_run_stop}
-use Rattle.line.proofs.Finding.{found-cases, textEnded-cases}
+use Rattle.line.proofs.Finding.{found_cases, text_ended_cases}
 use Rattle.source.specs.Places.{lines_from, place_ahead}
 use Rattle.source.specs.Positions.{line_ends, blank_ends, blank_before}
 use Rattle.source.proofs.Positions.{ends-CR, ends-other}
@@ -140,12 +140,12 @@ module _ (L : Limits) (some : 1 ≤ L.line) (m : List ℕ) where
 
   shaped : (at : ℕ) → Shaped at (found_at L m at)
   shaped at =
-      found-cases (Shaped at) L.line at (drop at m)
+      found_cases (Shaped at) L.line at (drop at m)
       (λ e. tt)
       (λ b r e low. tt)
       (λ long over. tt)
       (λ text fits.
-      textEnded-cases (Shaped at) (at + text_run (drop at m)) (drop (text_run (drop at m)) (drop at m))
+      text_ended_cases (Shaped at) (at + text_run (drop at m)) (drop (text_run (drop at m)) (drop at m))
       (λ e. tt)
       (λ b r e o. tt)
       (λ r e. record { rest = r; text = text; ended = e; next = omega arith }))

@@ -18,7 +18,7 @@ use Rattle.table.specs.Rows.{leaf_row_size, first_in, count_in, place_in}
 use Rattle.table.proofs.Lent.{leaves-within, text-within}
 use Rattle.look.specs.Looking.{in_run, is_named}
 use Rattle.tested.specs.inner.Searchable.{Searchable}
-use Rattle.value.specs.Refusals.{notANumber}
+use Rattle.value.specs.Refusals.{not_a_number}
 use Rattle.value.specs.Numerals.{says_none, numeral_of}
 use Rattle.value.specs.Results.{value_field, of_field, leaf_text_in}
 use Rattle.value.specs.inner.Seeking.{leaf_says, result_of, FieldRows, LeafRow}
@@ -108,12 +108,12 @@ module _ (most : ℕ) (t : Lent) (table : Searchable t) (i : ℕ) (here : i < t.
   result_by rows e = ap (leaf_says most t) (sym (all_in_row ∙ e))
 
   -- no leaf, or one with others behind it: no number
-  no_leaf : in_row ≡ [] → says_none notANumber ≡ result_of most t i
+  no_leaf : in_row ≡ [] → says_none not_a_number ≡ result_of most t i
   unfolding leaf_says
   no_leaf e = result_by [] e
 
   more-leaves : (k j : ℕ) → FirstPassed value_leaf (leaves_from t i) (leaves_to t i) k → FirstPassed value_leaf (k + 1) (leaves_to t i) j
-      → says_none notANumber ≡ result_of most t i
+      → says_none not_a_number ≡ result_of most t i
   unfolding leaf_says
   more-leaves k j one other =
       result_by (k ∷ j ∷ passing value_leaf (suc j) (leaves_to t i - suc j))
@@ -164,7 +164,7 @@ module _ (most : ℕ) (t : Lent) (table : Searchable t) (i : ℕ) (here : i < t.
       first_search : one ≡ get_or (passing value_leaf (leaves_from t i) (leaves_to t i - leaves_from t i)) 0 (leaves_to t i)
       first_search = found ∙ same_search from ∙ (λ j. get_or (passing value_leaf (from_is j) (leaves_to t i - from_is j)) 0 (leaves_to t i))
 
-      pub none_found : one ≡ to → says_none notANumber ≡ result_of most t i
+      pub none_found : one ≡ to → says_none not_a_number ≡ result_of most t i
       none_found e = no_leaf (found_none value_leaf (leaves_from t i) (leaves_to t i) one (omega arith) first_search (e ∙ to_is))
 
       module _ (there : one ≡ to → ⊥) where
@@ -193,7 +193,7 @@ module _ (most : ℕ) (t : Lent) (table : Searchable t) (i : ℕ) (here : i < t.
           behind : one + 1 ≤ leaves_to t i
           behind = omega (arith, to_is, one-before)
 
-          pub more-found : (other ≡ to → ⊥) → says_none notANumber ≡ result_of most t i
+          pub more-found : (other ≡ to → ⊥) → says_none not_a_number ≡ result_of most t i
           more-found e =
               more-leaves one other at_one
               (found_first value_leaf (one + 1) (leaves_to t i) other behind (found-behind ∙ same_search (one + 1)) (λ q. e (q ∙ sym to_is)))

@@ -19,7 +19,7 @@ use Rattle.table.specs.Leaves.{split}
 use Rattle.table.specs.inner.Flat.{Without}
 use Rattle.table.proofs.Splitting.{first_part, other_parts, split_parts, split_without, split-joined, split-begun, first_more}
 use Rattle.value.specs.declared.numeral.Numeral.{Numeral}
-use Rattle.value.specs.Refusals.{notANumber, many_digits}
+use Rattle.value.specs.Refusals.{not_a_number, many_digits}
 use Rattle.value.specs.Numerals.{point, all_digits, unsigned_text, is_negative, are_number, made_by, says_none, said_by, numeral_of}
 use Rattle.value.specs.inner.Runs.{digit_run, judged_digits}
 use Rattle.value.proofs.DigitTexts.{
@@ -104,7 +104,7 @@ behind-stopped s rest short = go (equal_or_not (get_or rest (length (digit_run r
 
 -- what parts say: that they are no number, that they have too many digits, or the number
 module _ (most : ℕ) (negative : Bool) (parts : List (List ℕ)) where
-  pub said-none : are_number parts ≡ false → said_by most negative parts ≡ says_none notANumber
+  pub said-none : are_number parts ≡ false → said_by most negative parts ≡ says_none not_a_number
   unfolding said_by
   said-none h = rw (h, said_by)
 
@@ -119,7 +119,7 @@ module _ (most : ℕ) (negative : Bool) (parts : List (List ℕ)) where
 
 -- what digits are judged to say
 module _ (most : ℕ) (negative : Bool) (digits last magnitude decimals : ℕ) where
-  pub judged-none : last ≡ 0 → judged_digits most negative digits last magnitude decimals ≡ says_none notANumber
+  pub judged-none : last ≡ 0 → judged_digits most negative digits last magnitude decimals ≡ says_none not_a_number
   unfolding judged_digits
   judged-none h = rw (eq-eqb last 0 h, judged_digits)
 

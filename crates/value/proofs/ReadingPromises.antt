@@ -14,7 +14,7 @@ use Rattle.laws.proofs.Tests.{Tested, passed, failed, tested, never_both}
 use Rattle.table.specs.Leaves.{split}
 use Rattle.value.specs.declared.numeral.Numeral.{Numeral}
 use Rattle.value.specs.declared.reading.Value.{Value}
-use Rattle.value.specs.Refusals.{notANumber, many_digits}
+use Rattle.value.specs.Refusals.{not_a_number, many_digits}
 use Rattle.value.specs.Numerals.{point, unsigned_text, is_negative, are_number, NumberText, says_none, numeral_of}
 use Rattle.value.specs.Values.{signed_of, with_sign, value_of}
 use Rattle.value.proofs.NumberParts.{said-none, said_many, said-number}
@@ -33,7 +33,7 @@ digits_in n =
 
 -- what a text says, by the tests in their order
 data Said (most : ℕ) (text : List ℕ) : Type 0 where
-  none : (NumberText text → ⊥) → value_of most text ≡ with_sign (says_none notANumber) → Said most text
+  none : (NumberText text → ⊥) → value_of most text ≡ with_sign (says_none not_a_number) → Said most text
   many : NumberText text → most < digits_in_all text → value_of most text ≡ with_sign (says_none many_digits) → Said most text
   some : NumberText text → digits_in_all text ≤ most → (value_of most text).number ≡ 0 → Said most text
 
@@ -57,10 +57,10 @@ module _ (most : ℕ) (text : List ℕ) where
   number-told : {v : Value} → value_of most text ≡ v → (value_of most text).number ≡ v.number
   number-told told = ap (λ (v : Value). v.number) told
 
-  pub no_number : ((value_of most text).number ≡ notANumber) ↔ (NumberText text → ⊥)
+  pub no_number : ((value_of most text).number ≡ not_a_number) ↔ (NumberText text → ⊥)
   no_number = by (said most text)
     where
-      by : Said most text → ((value_of most text).number ≡ notANumber) ↔ (NumberText text → ⊥)
+      by : Said most text → ((value_of most text).number ≡ not_a_number) ↔ (NumberText text → ⊥)
       by (none never told) = (λ is-20. never, λ shapeless. number-told told)
       by (many n more told) = (λ is-20. absurd (omega (arith, is-20, number-told told)), λ shapeless. absurd (shapeless n))
       by (some n few told) = (λ is-20. absurd (omega (arith, is-20, told)), λ shapeless. absurd (shapeless n))

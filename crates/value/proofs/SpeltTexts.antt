@@ -14,7 +14,7 @@ use Rattle.laws.proofs.Tests.{Tested, passed, failed, tested}
 use Rattle.table.specs.Leaves.{split}
 use Rattle.value.specs.declared.numeral.Numeral.{Numeral}
 use Rattle.value.specs.declared.reading.Value.{Value}
-use Rattle.value.specs.Refusals.{notANumber, many_digits}
+use Rattle.value.specs.Refusals.{not_a_number, many_digits}
 use Rattle.value.specs.Numerals.{point, unsigned_text, is_negative, are_number, made_by, says_none, said_by, numeral_of, behind_point}
 use Rattle.value.specs.Values.{signed_of, with_sign, value_of, ReadsTo, Spelt}
 use Rattle.value.proofs.NumberParts.{said-none, said_many, said-number}
@@ -57,7 +57,7 @@ module _ (most : ℕ) (text : List ℕ) where
           }
 
       go : Tested (are_number parts) → (most < length (concat parts)) ⊎ (length (concat parts) ≤ most) → Spelt most z d text
-      go (failed k) few = absurd (no_value 19 z d (value_of_lem (says_none notANumber) (said-none most (is_negative text) parts k)) h)
+      go (failed k) few = absurd (no_value 19 z d (value_of_lem (says_none not_a_number) (said-none most (is_negative text) parts k)) h)
       go (passed k) (inl many) = absurd (no_value 20 z d (value_of_lem (says_none many_digits) (said_many most (is_negative text) parts k many)) h)
       go (passed k) (inr few) = spelt k few
 

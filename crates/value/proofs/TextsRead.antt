@@ -8,7 +8,7 @@ use lib.ListN.{length, get_or, drop, length-drop}
 use Rattle.value.specs.declared.numeral.Numeral.{Numeral}
 use Rattle.value.specs.declared.numeral.Run.{Run}
 use Rattle.value.specs.declared.numeral.Sign.{Sign}
-use Rattle.value.specs.Refusals.{notANumber}
+use Rattle.value.specs.Refusals.{not_a_number}
 use Rattle.value.specs.Numerals.{point, says_none, numeral_of}
 use Rattle.value.specs.inner.Runs.{sign_of, with_digits, run_from, judged_digits}
 use Rattle.value.proofs.TextsSaid.{sign-within, whole_run, whole_end, behind_run, whole-within, read_whole, read-stopped, read-pointed, read-pointed-stopped}
@@ -64,7 +64,7 @@ module _ (most : ℕ) (text : List ℕ) {sign : Sign} {whole : Run} (w : WholeRe
     byte_inside = omega (arith, inside, end_is)
 
     -- digits that end before another byte than a point
-    pub said-stopped : (get_or text whole.end 0 ≡ point → ⊥) → {n : Numeral} → n ≡ says_none notANumber → n ≡ numeral_of most text
+    pub said-stopped : (get_or text whole.end 0 ≡ point → ⊥) → {n : Numeral} → n ≡ says_none not_a_number → n ≡ numeral_of most text
     said-stopped other e =
         e ∙ sym (read-stopped text most inside (λ q. other (ap (λ (k : ℕ). get_or text k 0) end_is ∙ q)))
 
@@ -90,7 +90,7 @@ module _ (most : ℕ) (text : List ℕ) {sign : Sign} {whole : Run} (w : WholeRe
       pub all-behind : whole.end + 1 ≤ all.end
       all-behind = omega (arith, all_end, end_is)
 
-      pub said-pointed-stopped : (all.end ≡ length text → ⊥) → {n : Numeral} → n ≡ says_none notANumber → n ≡ numeral_of most text
+      pub said-pointed-stopped : (all.end ≡ length text → ⊥) → {n : Numeral} → n ≡ says_none not_a_number → n ≡ numeral_of most text
       said-pointed-stopped other e = e ∙ sym (read-pointed-stopped text inside at_point most (λ q. other (all_end ∙ q)))
 
       behind_is : all.end - (whole.end + 1) ≡ length (behind_run text)

@@ -13,7 +13,7 @@ use Rattle.laws.proofs.Parts.{left_cons}
 use Rattle.laws.proofs.Tests.{Tested, passed, failed, tested, or_first, or_second, or_fails}
 use Rattle.table.specs.Leaves.{split}
 use Rattle.table.proofs.Splitting.{first_part, other_parts}
-use Rattle.value.specs.Refusals.{notANumber}
+use Rattle.value.specs.Refusals.{not_a_number}
 use Rattle.value.specs.Numerals.{plus, minus, point, is_digit, all_digits, unsigned_text, is_negative, made_by, says_none, said_by, numeral_of}
 use Rattle.value.specs.inner.Runs.{sign_of, digit_run, with_digits, judged_digits}
 use Rattle.value.proofs.DigitTexts.{digits_append, digits_broken, run_digits, run-ended, run_then_rest, run-whole, run-within, with_append, with_made}
@@ -123,7 +123,7 @@ module _ (text : List ℕ) where
       ∙ run-ended (behind_sign text) (omega (arith, behind-length, sign-within text))
 
   -- digits that end before anything but a point
-  pub read-stopped : (most : ℕ) → whole_end text < length text → (get_or text (whole_end text) 0 ≡ point → ⊥) → numeral_of most text ≡ says_none notANumber
+  pub read-stopped : (most : ℕ) → whole_end text < length text → (get_or text (whole_end text) 0 ≡ point → ⊥) → numeral_of most text ≡ says_none not_a_number
   read-stopped most h other =
       said-behind most _
       (ap (split point) (behind-broken h)
@@ -167,7 +167,7 @@ module _ (text : List ℕ) where
         ∙ ap (made_by 0) (sym joined))
 
     -- digits that end before the end
-    pub read-pointed-stopped : (most : ℕ) → (whole_end text + 1 + length (behind_run text) ≡ length text → ⊥) → numeral_of most text ≡ says_none notANumber
+    pub read-pointed-stopped : (most : ℕ) → (whole_end text + 1 + length (behind_run text) ≡ length text → ⊥) → numeral_of most text ≡ says_none not_a_number
     read-pointed-stopped most h =
         let rest = drop (whole_end text + 1) text in
         said-behind most (whole_run text ∷ split point rest) parts_pointed

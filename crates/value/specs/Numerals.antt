@@ -4,7 +4,7 @@ use Rattle.std.specs.Prelude.{Bool, true, false, ◌&&◌, ◌||◌, List, [], �
 use Rattle.laws.specs.Lists.{concat}
 use Rattle.table.specs.Leaves.{split}
 use Rattle.value.specs.declared.numeral.Numeral.{Numeral}
-use Rattle.value.specs.Refusals.{notANumber, many_digits}
+use Rattle.value.specs.Refusals.{not_a_number, many_digits}
 
 -- how many digits a number has at most
 abbrev pub most_digits : ℕ
@@ -85,7 +85,7 @@ said_by most negative parts =
             | true ↦ says_none many_digits
             | false ↦ record { number = 0; negative = negative; magnitude = made_by 0 (concat parts); decimals = length (get_or parts 1 []) }
           ]
-      | false ↦ says_none notANumber
+      | false ↦ says_none not_a_number
     ]
 
 -- what a text says

@@ -9,7 +9,7 @@ use Rattle.look.specs.Looking.{order_at}
 use Rattle.value.specs.declared.reading.Value.{Value}
 use Rattle.value.specs.declared.results.ValuesRead.{ValuesRead}
 use Rattle.value.specs.declared.writing.ValueWritten.{ValueWritten}
-use Rattle.value.specs.Refusals.{notANumber, many_digits, out_of_range, narrow_output, not_an_order, little_room}
+use Rattle.value.specs.Refusals.{not_a_number, many_digits, out_of_range, narrow_output, not_an_order, little_room}
 use Rattle.value.specs.Numerals.{plus, minus, NumberText}
 use Rattle.value.specs.Values.{value_of, ReadsTo, Spelt, Shortest}
 use Rattle.value.specs.Writing.{longest_text, WroteValue}
@@ -42,7 +42,7 @@ pub record OneValue (most : ℕ) : Type 0 where
   -- a text reads to a whole number and a count of decimals exactly where it is spelt so (D1, D2)
   pub reads_exactly : (whole : ℤ) (decimals : ℕ) (text : List ℕ) → ReadsTo most whole decimals text ↔ Spelt most whole decimals text
   -- 20 exactly where it has not the shape of a number, 21 exactly where it has and there are too many digits, and 0 and 0 beside both (D3)
-  pub no_number : (text : List ℕ) → ((value_of most text).number ≡ notANumber) ↔ (NumberText text → ⊥)
+  pub no_number : (text : List ℕ) → ((value_of most text).number ≡ not_a_number) ↔ (NumberText text → ⊥)
   pub many_digits_lem : (text : List ℕ) → ((value_of most text).number ≡ many_digits) ↔ ((n : NumberText text) × (most < length n.whole + length n.decimals))
   pub none_beside : (text : List ℕ) → ((value_of most text).number ≡ 0 → ⊥) → ((value_of most text).whole ≡ pos 0) × ((value_of most text).decimals ≡ 0)
   -- a minus before zeros gives what they give without it (D2)

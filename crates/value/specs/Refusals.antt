@@ -2,8 +2,8 @@
 -- Assumes nothing.
 use Rattle.std.specs.Prelude.{ℕ}
 
-abbrev pub notANumber : ℕ
-notANumber = 20
+abbrev pub not_a_number : ℕ
+not_a_number = 20
 
 abbrev pub many_digits : ℕ
 many_digits = 21

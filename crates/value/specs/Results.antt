@@ -14,7 +14,7 @@ use Rattle.look.specs.Looking.{result_kind, leaf_named, says_text, has_kind_and_
 use Rattle.look.specs.inner.Searching.{sought_in}
 use Rattle.value.specs.declared.reading.Value.{Value}
 use Rattle.value.specs.declared.results.ValuesRead.{ValuesRead}
-use Rattle.value.specs.Refusals.{notANumber, not_an_order, little_room}
+use Rattle.value.specs.Refusals.{not_a_number, not_an_order, little_room}
 use Rattle.value.specs.Numerals.{says_none}
 use Rattle.value.specs.Values.{with_sign, value_of}
 
@@ -51,7 +51,7 @@ leaf_text_in rows text i = take (length_in rows i) (drop (start_in rows i) text)
 
 -- no value, where there is no number
 abbrev pub no_number : Value
-no_number = with_sign (says_none notANumber)
+no_number = with_sign (says_none not_a_number)
 
 -- the value of a field's leaves, by their rows: that of the one leaf's text; none and several have no number
 unfoldable pub one_leaf : (most : ℕ) → Lent → List ℕ → Value

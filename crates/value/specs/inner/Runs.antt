@@ -4,7 +4,7 @@ use Rattle.std.specs.Prelude.{Bool, true, false, List, [], ◌∷◌, ℕ, ◌+�
 use Rattle.value.specs.declared.numeral.Numeral.{Numeral}
 use Rattle.value.specs.declared.numeral.Run.{Run}
 use Rattle.value.specs.declared.numeral.Sign.{Sign}
-use Rattle.value.specs.Refusals.{notANumber, many_digits}
+use Rattle.value.specs.Refusals.{not_a_number, many_digits}
 use Rattle.value.specs.Numerals.{plus, minus, is_digit, says_none}
 
 -- the sign that a text begins with
@@ -38,7 +38,7 @@ run_from most text from before =
 unfoldable pub judged_digits : (most : ℕ) → Bool → (digits last magnitude decimals : ℕ) → Numeral
 judged_digits most negative digits last magnitude decimals =
     elim (eqb last 0) [
-      | true ↦ says_none notANumber
+      | true ↦ says_none not_a_number
       | false ↦
           elim (ltb most digits) [
             | true ↦ says_none many_digits

@@ -9,15 +9,15 @@ use Rattle.tested.specs.inner.Searchable.{Searchable}
 use Rattle.look.specs.Looking.{result_kind}
 use Rattle.value.specs.declared.numeral.Numeral.{Numeral}
 use Rattle.value.specs.declared.reading.Value.{Value}
-use Rattle.value.specs.Refusals.{notANumber}
+use Rattle.value.specs.Refusals.{not_a_number}
 use Rattle.value.specs.Numerals.{says_none, numeral_of}
 use Rattle.value.specs.Results.{value_field, of_field, leaf_text_in, numeric_rows, values_of}
 
 -- what the leaves of field 10.6 say, and the value of a row, with the sign and the digits still apart
 unfoldable pub leaf_says : (most : ℕ) → Lent → List ℕ → Numeral
-leaf_says most t [] = says_none notANumber
+leaf_says most t [] = says_none not_a_number
 leaf_says most t (i ∷ []) = numeral_of most (leaf_text_in t.leaf_rows t.text i)
-leaf_says most t (i ∷ j ∷ rows) = says_none notANumber
+leaf_says most t (i ∷ j ∷ rows) = says_none not_a_number
 
 unfoldable pub result_of : (most : ℕ) → Lent → ℕ → Numeral
 result_of most t i = leaf_says most t (passing (of_field t.leaf_rows (suc i) value_field) 0 t.card.leaves)

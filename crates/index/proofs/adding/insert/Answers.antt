@@ -8,7 +8,7 @@ use lib.ListN.{set, length-set}
 use lib.Seq.{sets}
 use Rattle.index.specs.Index.{place_size}
 use Rattle.index.specs.Adding.{place_of_code}
-use Rattle.index.proofs.Putting.{new-codes, new-counts}
+use Rattle.index.proofs.Putting.{new_codes, new_counts}
 use Rattle.index.proofs.Sizes.{Roomy, roomy_parts}
 use Rattle.index.proofs.adding.insert.Goals as goal
 use Rattle.index.proofs.adding.insert.Goals.{Start}
@@ -73,8 +73,8 @@ returns c =
       codes_left =
           c.put_code.ensures
           ∙ ap (λ (l : List ℕ). sets l (a.place * place_size) (place_of_code a.code.now)) c.move_codes.ensures
-          ∙ new-codes a.code.now a.place a.named a.codes.now a.counts.now c.requires;
+          ∙ new_codes a.code.now a.place a.named a.codes.now a.counts.now c.requires;
       counts_left =
           ap (λ (l : List ℕ). set (set l (a.place + 1) 1) 0 (a.named + 1)) c.move_counts.ensures
-          ∙ new-counts a.code.now a.place a.named a.codes.now a.counts.now c.requires;
+          ∙ new_counts a.code.now a.place a.named a.codes.now a.counts.now c.requires;
     }
