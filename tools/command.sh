@@ -154,14 +154,15 @@ lock() {
 }
 
 # Has rt prove the crate, with all that it rests on, and compile it. What rt says goes into a log.
-# What an earlier build made is removed first: what stands there afterwards was made now. rt's status
-# does not tell, since `rt run` runs the program, too, and ends with the program's status.
+# What an earlier build made is removed first: what stands there afterwards was made now. Of `rt run`
+# the status does not tell, since it runs the program, too, and ends with the program's status.
 build() { # RT'S-WORD..
     log=target/commands/$of.log
     echo "$name: building, which proves the library and takes some minutes (log: $log)" >&2
     rm -f "$made"
     dirname "$(rt doc)" >"$keep/toolchain"
-    { cd "$repository/crates/$of" && rt "$@" </dev/null 2>&1; } | follow "$repository/$log"
+    { cd "$repository/crates/$of" && rt "$@" </dev/null 2>&1; echo $? >"$keep/$of.ended"; } | follow "$repository/$log"
+    [ "$1" = run ] || [ "$(cat "$keep/$of.ended")" -eq 0 ] || trouble "$of was not built ($log has what rt said)"
     [ -f "$made" ] || trouble "$of was not built ($log has what rt said)"
 }
 

@@ -22,7 +22,7 @@ fn main() {
     if !archive.is_file() {
         refuse(&format!(
             "there is no {} to link.\n\
-             Run ./archive in {}: it proves the library and makes the archive (`rt lib` of the crate `abi`, under the product's name).\n\
+             Run ./archive in {}: it proves the library and makes the archive (`rt lib` of the crate `abi_c`, under the product's name).\n\
              Or let SARGACEU_LIB name the folder that has the archive, by its full path.",
             archive.display(),
             repository.display()
