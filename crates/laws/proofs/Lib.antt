@@ -9,6 +9,7 @@ pub mod LentParts
 pub mod Sums
 pub mod Tables
 pub mod Stores
+pub mod Slices
 pub mod Bytes
 pub mod Searching
 pub mod Comparing
