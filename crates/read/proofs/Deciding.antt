@@ -1,8 +1,9 @@
 -- Deciding: the step equations of `decision_of`, that it stands for the outcome, test by test, and what it says where it accepts.
 -- Assumes nothing.
+use Rattle.std.proofs.Common.{Result, Ok, Err}
 use mathlib.Core.Bool.{Bool, true, false}
 use mathlib.Core.List.{List, []}
-use mathlib.Core.Path.{◌≡◌, refl, sym, ap, ap₂, ◌∙◌, subst⁻¹}
+use mathlib.Core.Path.{◌≡◌, refl, sym, ap, ap₂, ◌∙◌, subst, subst⁻¹}
 use Prim.Native.Nat.{ℕ, ◌+◌, ◌*◌, ◌≤◌, ◌<◌}
 use native.Mathlib.Omega.{arith}
 use lib.Dec.{ltb, eqb}
@@ -21,6 +22,7 @@ use Rattle.table.specs.Rows.{segment_row_size, leaf_row_size, context_in, Table,
 use Rattle.table.specs.inner.Fitting.{FitsRows}
 use Rattle.table.specs.Reading.{Room, Outcome, refused, accepted, refuse_if, refuse_at, short, judged, of_message, reading}
 use Rattle.read.specs.declared.decide.Decision.{Decision}
+use Rattle.read.specs.declared.refused.Refused.{Refused}
 use Rattle.read.specs.declared.survey.Survey.{Survey}
 use Rattle.table.specs.inner.Classes.{class_table}
 use Rattle.read.specs.Sound.{segments_in}
@@ -43,7 +45,7 @@ module _ (s : Survey) where
   place_none h k = rw (eq-eqb s.misplaced 0 h, eq-eqb s.watcher.last 11 k, place_seen)
 
 -- a test that refuses, and one that passes
-module _ (n : ℕ) (d : Decision) where
+module _ (n : ℕ) (d : Result Decision Refused) where
   if_stops : {b : Bool} → b ≡ true → decide_if b n d ≡ refused_at n 0
   unfolding decide_if
   if_stops h = ap (λ (b : Bool). decide_if b n d) h
@@ -65,10 +67,10 @@ module _ (L : Limits) (ps : Separators) (s : Survey) where
   abbrev leaves : ℕ
   leaves = s.separators + s.segments + 2
 
-  abbrev from_11 : Decision
-  from_11 = decide_if (ltb L.leaves leaves) many_leaves (accepted_by ps s)
+  abbrev from_11 : Result Decision Refused
+  from_11 = decide_if (ltb L.leaves leaves) many_leaves (Ok (accepted_by ps s))
 
-  abbrev from_9 : Decision
+  abbrev from_9 : Result Decision Refused
   from_9 = decide_if (eqb s.watcher.context 0) no_context (decide_at (place_seen s) misplaced_kind from_11)
 
   pub decision_7 : L.segments < s.segments → decision_of L ps s ≡ refused_at many_segments 0
@@ -107,7 +109,7 @@ module _ (L : Limits) (ps : Separators) (s : Survey) where
           pub decision_11 : L.leaves < leaves → decision_of L ps s ≡ refused_at many_leaves 0
           decision_11 h = past_9 ∙ at_goes _ _ placed ∙ if_stops _ _ (lt-ltb L.leaves leaves h)
 
-          pub decision_0 : leaves ≤ L.leaves → decision_of L ps s ≡ accepted_by ps s
+          pub decision_0 : leaves ≤ L.leaves → decision_of L ps s ≡ Ok (accepted_by ps s)
           decision_0 h = past_9 ∙ at_goes _ _ placed ∙ if_goes _ _ (le-ltb L.leaves leaves h)
 
 -- the same tests on five numbers, and on those that were seen
@@ -121,95 +123,76 @@ judged_by L count unknown context place leaves t =
 abbrev tests_seen : Limits → Survey → Table → Outcome
 tests_seen L s = judged_by L s.segments s.unknown s.watcher.context (place_seen s) (s.separators + s.segments + 2)
 
--- a decision that refuses stands for its number and its place, one that does not for the table
-module _ (L : Limits) (message : List ℕ) (d : Decision) (levels : ℕ → ℕ → ℕ) where
-  pub decided-refuses : (d.number ≡ 0 → ⊥) → decided L message d levels ≡ refused d.number d.place
-  unfolding decided
-  decided-refuses h = rw (ne_eqb d.number 0 h, decided)
-
-  pub decided-accepts : d.number ≡ 0 → decided L message d levels ≡ accepted (table_of levels d.separators (segments_in L d.separators message))
-  unfolding decided
-  decided-accepts h = rw (eq-eqb d.number 0 h, decided)
-
--- so a refusal decides whatever outcome has its number and its place
-pub refusal_decides : (L : Limits) (message class kinds starts : List ℕ) {outcome : (ℕ → ℕ → ℕ) → Outcome} {number place : ℕ} {d : Decision}
-    → (number ≡ 0 → ⊥) → ((levels : ℕ → ℕ → ℕ) → outcome levels ≡ refused number place) → d ≡ refused_at number place
-    → DecidesAs L message class kinds starts outcome d
-unfolding refused_at
-refusal_decides L message class kinds starts some same e =
-    subst⁻¹ (DecidesAs L message class kinds starts _) e
-    (record { stands = λ levels. same levels ∙ sym (decided-refuses L message _ levels some); accepts = λ z. absurd (some z) })
+-- a refusal decides whatever outcome has its number and its place
+pub refusal_decides : (L : Limits) (message class kinds starts : List ℕ) {outcome : (ℕ → ℕ → ℕ) → Outcome} {number place : ℕ} {r : Refused}
+    → ((levels : ℕ → ℕ → ℕ) → outcome levels ≡ refused number place) → r ≡ record { number = number; place = place }
+    → DecidesAs L message class kinds starts outcome (Err r)
+refusal_decides L message class kinds starts same is =
+    record { stands = λ levels. same levels ∙ ap (λ (q : Refused). refused q.number q.place) (sym is); accepts = λ d q. cc }
 
 -- test by test a decision stands for what the outcome's tests say
 module _ (L : Limits) (message : List ℕ) (levels : ℕ → ℕ → ℕ) where
-  decided_if : (b : Bool) {n : ℕ} (d : Decision) → (n ≡ 0 → ⊥)
+  decided_if : (b : Bool) (n : ℕ) (d : Result Decision Refused)
       → decided L message (decide_if b n d) levels ≡ refuse_if b n (decided L message d levels)
-  unfolding decide_if refuse_if refused_at
-  decided_if true {n} d some = decided-refuses L message (refused_at n 0) levels some
-  decided_if false d some = refl
+  unfolding decide_if refuse_if
+  decided_if true n d = refl
+  decided_if false n d = refl
 
-  decided_at : (place : ℕ) {n : ℕ} (d : Decision) → (n ≡ 0 → ⊥)
+  decided_at : (place n : ℕ) (d : Result Decision Refused)
       → decided L message (decide_at place n d) levels ≡ refuse_at place n (decided L message d levels)
-  unfolding decide_at refuse_at refused_at
-  decided_at place {n} d some = by (eqb place 0)
+  unfolding decide_at refuse_at
+  decided_at place n d = by (eqb place 0)
     where
       by : (b : Bool) → decided L message (elim b [ true ↦ d | false ↦ refused_at n place ]) levels
           ≡ elim b [ true ↦ decided L message d levels | false ↦ refused n place ]
       by true = refl
-      by false = decided-refuses L message (refused_at n place) levels some
+      by false = refl
 
   seen-decided : (ps : Separators) (s : Survey)
       → decided L message (decision_of L ps s) levels ≡ tests_seen L s (table_of levels ps (segments_in L ps message))
-  unfolding decision_of accepted_by
+  unfolding decision_of
   seen-decided ps s =
-      decided_if _ _ (λ z. omega arith)
+      decided_if _ _ _
       ∙ ap (refuse_if (ltb L.segments s.segments) many_segments)
-      (decided_at s.unknown _ (λ z. omega arith)
+      (decided_at s.unknown _ _
       ∙ ap (refuse_at s.unknown unknown_kind)
-      (decided_if _ _ (λ z. omega arith)
+      (decided_if _ _ _
       ∙ ap (refuse_if (eqb s.watcher.context 0) no_context)
-      (decided_at (place_seen s) _ (λ z. omega arith)
+      (decided_at (place_seen s) _ _
       ∙ ap (refuse_at (place_seen s) misplaced_kind)
-      (decided_if _ _ (λ z. omega arith)
-      ∙ ap (refuse_if (ltb L.leaves (s.separators + s.segments + 2)) many_leaves) (decided-accepts L message (accepted_by ps s) levels refl)))))
+      (decided_if _ _ _))))
 
--- a decision that does not refuse has passed each test
-module _ (n : ℕ) (d : Decision) (some : n ≡ 0 → ⊥) where
-  passed_if : (b : Bool) → (decide_if b n d).number ≡ 0 → (b ≡ false) × (decide_if b n d ≡ d)
-  unfolding decide_if refused_at
-  passed_if true e = absurd (some e)
-  passed_if false e = (refl, refl)
+-- a decision that accepts has passed each test
+module _ (n : ℕ) (d : Result Decision Refused) {e : Decision} where
+  passed_if : (b : Bool) → decide_if b n d ≡ Ok e → (b ≡ false) × (d ≡ Ok e)
+  unfolding decide_if
+  passed_if true q = cc
+  passed_if false q = (refl, q)
 
-  passed_at : (place : ℕ) → (decide_at place n d).number ≡ 0 → decide_at place n d ≡ d
-  unfolding decide_at refused_at
+  passed_at : (place : ℕ) → decide_at place n d ≡ Ok e → d ≡ Ok e
+  unfolding decide_at
   passed_at place = by (eqb place 0)
     where
-      by : (b : Bool) → (elim b as (λ x. Decision) [ true ↦ d | false ↦ refused_at n place ]).number ≡ 0
-          → (elim b as (λ x. Decision) [ true ↦ d | false ↦ refused_at n place ]) ≡ d
-      by true e = refl
-      by false e = absurd (some e)
+      by : (b : Bool) → (elim b as (λ x. Result Decision Refused) [ true ↦ d | false ↦ refused_at n place ]) ≡ Ok e → d ≡ Ok e
+      by true q = q
+      by false q = cc
 
-number_same : {d c : Decision} → d ≡ c → c.number ≡ d.number
-number_same q = sym (ap (λ (x : Decision). x.number) q)
-
-record Passed (L : Limits) (ps : Separators) (s : Survey) : Type 0 where
-  is : decision_of L ps s ≡ accepted_by ps s
+record Passed (L : Limits) (ps : Separators) (s : Survey) (d : Decision) : Type 0 where
+  is : accepted_by ps s ≡ d
   segments : s.segments ≤ L.segments
   context : s.watcher.context ≡ 0 → ⊥
   leaves : s.separators + s.segments + 2 ≤ L.leaves
 
-decision_passed : (L : Limits) (ps : Separators) (s : Survey) → (decision_of L ps s).number ≡ 0 → Passed L ps s
+decision_passed : (L : Limits) (ps : Separators) (s : Survey) {d : Decision} → decision_of L ps s ≡ Ok d → Passed L ps s d
 unfolding decision_of
-decision_passed L ps s e =
-    let seven = passed_if many_segments _ (λ z. omega arith) (ltb L.segments s.segments) e in
-    let after = number_same seven.1 ∙ e in
-    let eight = passed_at unknown_kind _ (λ z. omega arith) s.unknown after in
-    let nine = passed_if no_context _ (λ z. omega arith) (eqb s.watcher.context 0) (number_same eight ∙ after) in
-    let then = number_same nine.1 ∙ number_same eight ∙ after in
-    let ten = passed_at misplaced_kind _ (λ z. omega arith) (place_seen s) then in
-    let eleven = passed_if many_leaves _ (λ z. omega arith) (ltb L.leaves (s.separators + s.segments + 2)) (number_same ten ∙ then) in
+decision_passed L ps s q =
+    let seven = passed_if many_segments _ (ltb L.segments s.segments) q in
+    let eight = passed_at unknown_kind _ s.unknown seven.1 in
+    let nine = passed_if no_context _ (eqb s.watcher.context 0) eight in
+    let ten = passed_at misplaced_kind _ (place_seen s) nine.1 in
+    let eleven = passed_if many_leaves _ (ltb L.leaves (s.separators + s.segments + 2)) ten in
     record {
-      is = seven.1 ∙ eight ∙ nine.1 ∙ ten ∙ eleven.1;
+      is = cc;
       segments = ltb-false L.segments s.segments seven.0;
       context = eqb-false s.watcher.context 0 nine.0;
       leaves = ltb-false L.leaves (s.separators + s.segments + 2) eleven.0;
@@ -271,7 +254,7 @@ module _ (L : Limits) (levels : ℕ → ℕ → ℕ) (room : Room) (message : Li
 -- a decision on the message behind its header is one on the message, once the first three tests are passed
 module _ (L : Limits) (room : Room) (message : List ℕ) (text : L.bytes ≤ room.text) (segments : L.segments * segment_row_size ≤ room.segment_rows)
     (leaves : L.leaves * leaf_row_size ≤ room.leaf_rows) (fits : length message ≤ L.bytes) {ps : Separators} (header : header_of message ≡ Sound ps) where
-  pub header_decides : {class kinds starts : List ℕ} {d : Decision} → DecidesAs L message class kinds starts (λ levels. of_message L levels message ps) d
+  pub header_decides : {class kinds starts : List ℕ} {d : Result Decision Refused} → DecidesAs L message class kinds starts (λ levels. of_message L levels message ps) d
       → DecidesAs L message class kinds starts (λ levels. reading L levels room message) d
   header_decides w =
       record {
@@ -286,12 +269,13 @@ header-within ps segments = context-within (get_or (split ps.field (drop 7 (get_
 
 -- what the first pass comes to decides: a fault of the lines refuses, else the tests of what was seen do
 module _ (L : Limits) (ps : Separators) (message class kinds starts : List ℕ) where
-  pub fault_decides : {n p : ℕ} {d : Decision} → (n ≡ fault_number (walk L message)) × (n ≡ 0 → ⊥) × (p ≡ fault_place (walk L message))
-      → d ≡ refused_at n p → DecidesAs L message class kinds starts (λ levels. of_message L levels message ps) d
+  pub fault_decides : {r : Refused} → (r.number ≡ fault_number (walk L message)) × (r.number ≡ 0 → ⊥) × (r.place ≡ fault_place (walk L message))
+      → DecidesAs L message class kinds starts (λ levels. of_message L levels message ps) (Err r)
   fault_decides fault =
-      refusal_decides L message class kinds starts fault.1
+      refusal_decides L message class kinds starts
       (λ levels.
       message-fault L levels message ps (λ e. fault.1 (fault.0 ∙ e)) ∙ ap₂ refused (sym fault.0) (sym fault.2))
+      refl
 
   module _ (fits : FitsRows L) (header : header_of message ≡ Sound ps) (bytes : length message ≤ L.bytes) (notes : L.segments ≤ length kinds)
       (classes : class ≡ class_table ps) (sound : fault_number (walk L message) ≡ 0) {s : Survey} (known : SegmentsKnown ps (segments_in L ps message) s)
@@ -304,15 +288,15 @@ module _ (L : Limits) (ps : Separators) (message class kinds starts : List ℕ) 
         (λ i. judged_by L (known.count i) (known.unknown i) (known.context i) (known.place i) (known.leaves i)
         (table_of levels ps (segments_in L ps message)))
 
-    pub survey_decides : {d : Decision} → d ≡ decision_of L ps s → DecidesAs L message class kinds starts (λ levels. of_message L levels message ps) d
-    unfolding accepted_by
+    pub survey_decides : {r : Result Decision Refused} → r ≡ decision_of L ps s
+        → DecidesAs L message class kinds starts (λ levels. of_message L levels message ps) r
     survey_decides e =
         subst⁻¹ (DecidesAs L message class kinds starts (λ levels. of_message L levels message ps)) e
         (record {
           stands = λ levels. tests_seen_lem levels ∙ sym (seen-decided L message levels ps s);
-          accepts = λ z.
-              let p = decision_passed L ps s z in
-              subst⁻¹ (Accepts L message class kinds starts) p.is
+          accepts = λ d q.
+              let p = decision_passed L ps s q in
+              subst (Accepts L message class kinds starts) p.is
               (record {
                 fillable =
                     record {

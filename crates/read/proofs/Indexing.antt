@@ -1,20 +1,18 @@
 -- Reading with an index (X2 to X5): what comes of a refusal of the index, of the reader and of what is counted, and of a message that is counted.
 -- Assumes nothing.
+use Rattle.std.proofs.Common.{Result, Ok, Err}
 use mathlib.Core.Bool.{Bool, true, false, ◌||◌}
 use mathlib.Core.List.{List}
-use mathlib.Core.Path.{◌≡◌, refl, sym, ap, ◌∙◌, subst⁻¹, subst₂}
+use mathlib.Core.Path.{◌≡◌, refl, sym, ap, ◌∙◌, subst, subst⁻¹}
 use Prim.Native.Nat.{ℕ}
 use lib.Dec.{eqb}
 use native.Mathlib.Omega.{arith}
 use lib.ListN.{length}
 use Rattle.form.specs.declared.limits.Limits.{Limits}
-use Rattle.form.specs.declared.forms.Form.{Form}
 use Rattle.form.specs.declared.separators.Separators.{Separators}
 use Rattle.form.specs.declared.separators.Header.TheVariants.{Sound}
-use Rattle.form.specs.Forms.{limits_of}
 use Rattle.form.specs.Header.{header_of}
-use Rattle.order.specs.Owners.{level}
-use Rattle.order.specs.inner.Levels.{level_in, LevelsBelow}
+use Rattle.order.specs.inner.Levels.{level_in}
 use Rattle.table.specs.Rows.{Table, table_of}
 use Rattle.table.specs.Reading.{Room, room_of, Outcome, refused, accepted, reading}
 use Rattle.index.specs.declared.tally.Tally.{Tally}
@@ -25,14 +23,15 @@ use Rattle.index.specs.Tallying.{with_message, tally_too_large}
 use Rattle.read.specs.declared.admit.Admitted.{Admitted}
 use Rattle.read.specs.declared.decide.Decision.{Decision}
 use Rattle.read.specs.declared.indexed.Indexed.{Indexed}
+use Rattle.read.specs.declared.refused.Refused.{Refused}
 use Rattle.read.specs.Answering.{Gives, answer_of}
 use Rattle.read.specs.Codes.{codes_in, codes_counted, first_long}
 use Rattle.read.specs.Counting.{Counting, turned, counted, Ledger, counted_or, counting_of, counting, as_outcome, tally_left, front_left, Leaves, IndexedAs}
-use Rattle.read.specs.inner.Admitting.{IndexesWithin, Admissible, AdmitsAs, admission, turned_number, turned_place}
+use Rattle.read.specs.inner.Admitting.{Admissible, AdmitsAs, admission, indexed_by, turned_number, turned_place}
 use Rattle.read.specs.inner.Census.{carried_in}
-use Rattle.read.specs.inner.Deciding.{DecidesAs}
+use Rattle.read.specs.inner.Deciding.{DecidesAs, answered}
 use Rattle.read.specs.inner.Filling.{table_in}
-use Rattle.read.proofs.Answering.{gives_refusal, refuses-reading, accepts-table, form_within}
+use Rattle.read.proofs.Answering.{gives_refusal, refuses-reading, accepts-table}
 
 -- what is turned away is a refusal by its number and place, and leaves the tally
 pub turned_outcome : (o : Counting) → (turned_number o ≡ 0 → ⊥) → as_outcome o ≡ refused (turned_number o) (turned_place o)
@@ -103,12 +102,13 @@ module _ (L : Limits) (levels : ℕ → ℕ → ℕ) (room : Room) (l : Ledger) 
 
 -- a refusal of the index leaves all as it was
 pub unsound_indexed : (L : Limits) (table : List ℕ) (tally : Tally) (message text segments leaves codes counts : List ℕ) → sound_index codes counts ≡ false
-    → {r : Indexed} → r ≡ record { answer = answer_of (refused no_index_number 0); tally = tally }
-    → IndexedAs L (level_in table) tally message text segments leaves codes counts r text segments leaves codes counts
+    → {r : Refused} → r ≡ record { number = no_index_number; place = 0 }
+    → IndexedAs L (level_in table) tally message text segments leaves codes counts (indexed_by tally (Err r)) text segments leaves codes counts
+unfolding answer_of
 unsound_indexed L table tally message text segments leaves codes counts e is =
     leaves-turned
     (counting_unsound L (level_in table) (room_of text segments leaves) (record { codes = codes; counts = counts; tally = tally }) message e)
-    is
+    (ap (λ (q : Refused). indexed_by tally (Err q)) is)
 
 -- under the separators of the header, the codes of a message are those that its segments carry
 pub codes-carried : (L : Limits) {ps : Separators} (message : List ℕ) → header_of message ≡ Sound ps → codes_in L message ≡ carried_in L ps message
@@ -116,21 +116,22 @@ unfolding codes_in
 codes-carried L message e = rw (codes_in, e) refl
 
 -- what was decided, by a table of levels, under a sound index
-module _ {L : Limits} {message class kinds starts : List ℕ} {d : Decision} (text segments leaves : List ℕ)
-    (w : DecidesAs L message class kinds starts (λ levels. reading L levels (room_of text segments leaves) message) d) (table : List ℕ)
+module _ {L : Limits} {message class kinds starts : List ℕ} {r : Result Decision Refused} (text segments leaves : List ℕ)
+    (w : DecidesAs L message class kinds starts (λ levels. reading L levels (room_of text segments leaves) message) r) (table : List ℕ)
     (tally : Tally) (codes counts : List ℕ) (sound : sound_index codes counts ≡ true) where
-  pub refusal_indexed : (d.number ≡ 0 → ⊥) → {r : Indexed} → r ≡ record { answer = answer_of (refused d.number d.place); tally = tally }
-      → IndexedAs L (level_in table) tally message text segments leaves codes counts r text segments leaves codes counts
-  refusal_indexed h is =
+  pub refusal_indexed : {e : Refused} → r ≡ Err e
+      → IndexedAs L (level_in table) tally message text segments leaves codes counts (indexed_by tally (Err e)) text segments leaves codes counts
+  unfolding answer_of
+  refusal_indexed q =
       leaves-turned
       (counting-refused L (level_in table) (room_of text segments leaves) (record { codes = codes; counts = counts; tally = tally }) message sound
-      (refuses-reading text segments leaves w table h))
-      is
+      (refuses-reading text segments leaves w table q))
+      refl
 
-  module _ (yes : d.number ≡ 0) where
+  module _ {d : Decision} (yes : r ≡ Ok d) where
     pub accepted_admissible : length starts ≡ L.segments → Admissible L class kinds starts d message codes counts
     accepted_admissible e =
-        let a = w.accepts yes in
+        let a = w.accepts d yes in
         record { accepts = a; room = omega (arith, e, a.segments, a.fillable.few); sound = sound }
 
     pub counting-admission :
@@ -138,7 +139,7 @@ module _ {L : Limits} {message class kinds starts : List ℕ} {d : Decision} (te
         ≡ admission L d tally message codes counts (table_in L table d.separators message)
     unfolding counting_of table_of
     counting-admission =
-        let a = w.accepts yes in
+        let a = w.accepts d yes in
         let t = table_in L table d.separators message in
         let l : Ledger = record { codes = codes; counts = counts; tally = tally } in
         let carried = codes-carried L message a.fillable.header in
@@ -159,16 +160,17 @@ module _ {L : Limits} {message class kinds starts : List ℕ} {d : Decision} (te
 -- what counting gives, filed in a table: a message that is turned away leaves all as it was, one that is counted the table
 module _ {L : Limits} {d : Decision} {tally : Tally} {message codes counts : List ℕ} (t : Table) (text segments leaves : List ℕ)
     {r : Admitted} {codes' counts' : List ℕ} (admits : AdmitsAs L d tally message codes counts r codes' counts') where
-  pub turned_left : (r.number ≡ 0 → ⊥) → {q : Indexed} → q ≡ record { answer = answer_of (refused r.number r.place); tally = tally }
-      → Leaves (admission L d tally message codes counts t) tally text segments leaves codes counts q text segments leaves codes' counts'
-  turned_left h {q} is =
+  pub turned_left : (r.number ≡ 0 → ⊥) → {e : Refused} → e ≡ record { number = r.number; place = r.place }
+      → Leaves (admission L d tally message codes counts t) tally text segments leaves codes counts (indexed_by tally (Err e)) text segments leaves codes' counts'
+  unfolding answer_of
+  turned_left h is =
       let o = admission L d tally message codes counts t in
       let h' : turned_number o ≡ 0 → ⊥ = λ e. h (admits.number t ∙ e) in
       record {
         given =
             gives_refusal (turned_outcome o h')
-            (ap (λ (q : Indexed). q.answer) is ∙ (λ i. answer_of (refused (admits.number t i) (admits.place t i))));
-        tally_is = ap (λ (q : Indexed). q.tally) is ∙ sym (turned-tally o h' tally);
+            (ap (λ (q : Refused). answered (Err q)) is ∙ (λ i. answer_of (refused (admits.number t i) (admits.place t i))));
+        tally_is = sym (turned-tally o h' tally);
         codes_are = admits.codes_are t;
         counts_are = admits.counts_are t;
       }
@@ -189,18 +191,10 @@ module _ {L : Limits} {d : Decision} {tally : Tally} {message codes counts : Lis
         counts_are = admits.counts_are t;
       }
 
--- what reading with an index under any limits asks, at the limits of a form, with kinds and starts for as many segments
-pub form_indexes : (f : Form) {L : Limits} → L ≡ limits_of f → {levels : List ℕ} → LevelsBelow (level_in levels) → {kinds starts : List ℕ}
-    → length kinds ≡ (limits_of f).segments → length starts ≡ (limits_of f).segments → IndexesWithin L levels kinds starts
-form_indexes f e below notes begins =
-    record { reads = form_within f e below notes; begins = begins ∙ ap (λ (M : Limits). M.segments) (sym e) }
-
--- what is read with an index within the limits of a form that is known is read in that form
-pub indexed_form : {f : Form} (g : Form) → f ≡ g → {L : Limits} {levels : ℕ → ℕ → ℕ} → L ≡ limits_of g → levels ≡ level → (tally : Tally) (message : List ℕ)
+-- the contract under the same levels, however these are written
+pub indexed_same : {levels levels' : ℕ → ℕ → ℕ} → levels ≡ levels' → (L : Limits) (tally : Tally) (message : List ℕ)
     {text segments leaves codes counts : List ℕ} {r : Indexed} {text' segments' leaves' codes' counts' : List ℕ}
     → IndexedAs L levels tally message text segments leaves codes counts r text' segments' leaves' codes' counts'
-    → IndexedAs (limits_of f) level tally message text segments leaves codes counts r text' segments' leaves' codes' counts'
-indexed_form g told e made tally message {text} {segments} {leaves} {codes} {counts} {r} {text'} {segments'} {leaves'} {codes'} {counts'} h =
-    subst₂
-    (λ (M : Limits) (lv : ℕ → ℕ → ℕ). IndexedAs M lv tally message text segments leaves codes counts r text' segments' leaves' codes' counts')
-    (e ∙ ap limits_of (sym told)) made h
+    → IndexedAs L levels' tally message text segments leaves codes counts r text' segments' leaves' codes' counts'
+indexed_same same L tally message {text} {segments} {leaves} {codes} {counts} {r} {text'} {segments'} {leaves'} {codes'} {counts'} h =
+    subst (λ (lv : ℕ → ℕ → ℕ). IndexedAs L lv tally message text segments leaves codes counts r text' segments' leaves' codes' counts') same h

@@ -15,6 +15,7 @@ pub mod BegunLaws
 pub mod LeftLaws
 pub mod StandLaws
 pub mod HeaderLaws
+pub mod Refusing
 pub mod Deciding
 pub mod Answering
 pub mod OnlyOne

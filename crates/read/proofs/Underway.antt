@@ -1,6 +1,7 @@
 -- A survey underway: how a line begins that is joined to the open segment or begins the next, what it comes to, and the end.
 -- Assumes nothing.
 use mathlib.Core.Bool.{true, false}
+use Rattle.std.proofs.Common.{Ok}
 use mathlib.Core.List.{List, [], ◌∷◌, ◌++◌}
 use mathlib.Core.Path.{◌≡◌, refl, sym, ap, ◌∙◌, subst, subst⁻¹}
 use Prim.Native.Nat.{ℕ, ◌+◌, ◌-◌, ◌≤◌, ◌<◌, min}
@@ -31,7 +32,6 @@ use Rattle.line.proofs.Handing.{walk_from-found, line-within}
 use Rattle.table.specs.inner.Filed.{header_bytes}
 use Rattle.table.proofs.HeaderBytes.{header-bytes}
 use Rattle.read.specs.declared.survey.Survey.{Survey}
-use Rattle.read.specs.declared.survey.Step.TheVariants.{On}
 use Rattle.table.specs.inner.Classes.{class_table}
 use Rattle.read.specs.inner.Scanning.{run, marks}
 use Rattle.read.specs.inner.Starting.{text_from}
@@ -207,7 +207,7 @@ module _ {L : Limits} {ps : Separators} {m : List ℕ} {at from : ℕ} {s : Surv
 
   -- the survey goes on behind the line
   pub line-seen : (e n : ℕ) → ended_line m at i ≡ Line e n
-      → StepOf L ps m s.segments at (On (text_joined ps.field s (take (e - from) (drop from m)) separators) n)
+      → StepOf L ps m s.segments at (Ok (record { seen = text_joined ps.field s (take (e - from) (drop from m)) separators; next = n }))
   unfolding handed_out
   line-seen e n h =
       let here : e ≡ i = subst (EndedAt i) h (ended_at m at i) in

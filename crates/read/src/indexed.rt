@@ -4,23 +4,22 @@ ghost use Rattle.std.specs.Prelude.{◌≡◌};
 ghost use Rattle.form.specs.Forms.{limits_of};
 ghost use Rattle.order.specs.inner.Levels.{level_in};
 ghost use Rattle.order.specs.Owners.{level};
-ghost use Rattle.table.specs.Reading.{refused};
-ghost use Rattle.read.specs.Answering.{answer_of};
-ghost use Rattle.read.specs.Counting.{IndexedAs, Leaves};
-ghost use Rattle.read.specs.inner.Admitting.{IndexesWithin, Admissible, admission};
-ghost use Rattle.read.specs.inner.Deciding.{Fileable};
-ghost use Rattle.read.specs.inner.Filling.{table_in};
+ghost use Rattle.read.specs.Counting.{IndexedAs};
+ghost use Rattle.read.specs.inner.Admitting.{IndexesWithin, indexed_by};
+ghost use Rattle.read.specs.inner.Deciding.{FormRead};
 
+use crate::Answer;
 use crate::admit::admit;
-use crate::decide::{Decision, decide};
+use crate::decide::decide;
 use crate::fill::fill;
-use crate::{Answer, filed, refusal};
+use crate::refused::Refused;
 use form::forms::{Form, LargeForm, SmallForm};
 use form::limits::Limits;
 use form::number::Number;
 use index::refusal::Refusal;
 use index::soundness::is_sound;
 use index::tally::Tally;
+use table::Card;
 use table::rows::Entry;
 
 // What comes back: what the reader answers, and the tally, which is the one that was given where the message is refused.
@@ -28,6 +27,31 @@ use table::rows::Entry;
 pub struct Indexed {
     pub answer: Answer,
     pub tally: Tally,
+}
+
+// A message that is filed and counted: its card, and the tally with it.
+#[derive(Clone, Copy)]
+struct Counted {
+    card: Card,
+    tally: Tally,
+}
+
+impl Indexed {
+    // What reading with an index comes to, where the tally was this before.
+    fn of(tally: Tally, read: Result<Counted, Refused>) -> Indexed
+        ensures { result ≡ indexed_by tally read }
+    {
+        match read {
+            Ok(counted) => Indexed {
+                answer: Answer::of(Ok(counted.card)),
+                tally: counted.tally,
+            },
+            Err(refused) => Indexed {
+                answer: Answer::of(Err(refused)),
+                tally,
+            },
+        }
+    }
 }
 
 // Reads a message of a form into the three lent buffers, adds the codes of its results to the lent index and the message to the tally: every message,
@@ -47,43 +71,50 @@ pub fn read_indexed(
         codes.old counts.old
         result text.new segments.new leaves.new codes.new counts.new }
 {
-    let levels = order::levels::table();
+    let limits = form.limits();
     match form {
-        Form::Small => {
-            let mut kinds = [0u8; SmallForm::SEGMENTS];
-            let mut starts = [0usize; SmallForm::SEGMENTS];
-            index_within(
-                tally,
-                SmallForm::limits(),
-                &levels,
-                &mut kinds,
-                &mut starts,
-                message,
-                text,
-                segments,
-                leaves,
-                codes,
-                counts,
-            )
-        }
-        Form::Large => {
-            let mut kinds = [0u8; LargeForm::SEGMENTS];
-            let mut starts = [0usize; LargeForm::SEGMENTS];
-            index_within(
-                tally,
-                LargeForm::limits(),
-                &levels,
-                &mut kinds,
-                &mut starts,
-                message,
-                text,
-                segments,
-                leaves,
-                codes,
-                counts,
-            )
-        }
+        Form::Small => index_by::<{ SmallForm::SEGMENTS }>(
+            tally, limits, message, text, segments, leaves, codes, counts,
+        ),
+        Form::Large => index_by::<{ LargeForm::SEGMENTS }>(
+            tally, limits, message, text, segments, leaves, codes, counts,
+        ),
     }
+}
+
+// The same under the limits of a form, with room for the kinds and the starts of as many segments as it has.
+fn index_by<const SEGMENTS: usize>(
+    tally: Tally,
+    limits: Limits,
+    message: &[u8],
+    text: &mut [u8],
+    segments: &mut [Entry],
+    leaves: &mut [Entry],
+    codes: &mut [u8],
+    counts: &mut [u32],
+) -> Indexed
+    requires { FormRead limits SEGMENTS }
+    ensures { IndexedAs limits level tally message.now text.old segments.old leaves.old
+        codes.old counts.old
+        result text.new segments.new leaves.new codes.new counts.new }
+{
+    let levels = order::levels::table();
+    let mut kinds = [0u8; SEGMENTS];
+    let mut starts = [0usize; SEGMENTS];
+    let read = index_within(
+        tally,
+        limits,
+        &levels,
+        &mut kinds,
+        &mut starts,
+        message,
+        text,
+        segments,
+        leaves,
+        codes,
+        counts,
+    );
+    Indexed::of(tally, read)
 }
 
 // The same under any limits whose numbers fit the rows, by any table of levels that are below 8, with lent buffers for the kinds and for where the
@@ -100,14 +131,14 @@ fn index_within(
     leaves: &mut [Entry],
     codes: &mut [u8],
     counts: &mut [u32],
-) -> Indexed
+) -> Result<Counted, Refused>
     requires { IndexesWithin limits levels.now kinds.old starts.old }
     ensures { IndexedAs limits (level_in levels.now) tally message.now text.old segments.old leaves.old
         codes.old counts.old
-        result text.new segments.new leaves.new codes.new counts.new }
+        (indexed_by tally result) text.new segments.new leaves.new codes.new counts.new }
 {
     if !is_sound(codes, counts) {
-        return turned_away(Refusal::NO_INDEX, 0, tally);
+        return Err(Refused::at(Refusal::NO_INDEX, 0));
     }
     let mut class = [0u8; 256];
     let decision = decide(
@@ -119,71 +150,27 @@ fn index_within(
         text.len(),
         segments.len(),
         leaves.len(),
-    );
-    if decision.number != Number::ACCEPTED {
-        return turned_away(decision.number, decision.place, tally);
-    }
-    count_and_file(
-        tally, limits, levels, &class, kinds, starts, decision, message, text, segments, leaves,
-        codes, counts,
-    )
-}
-
-// A message that was decided on and a sound index: the message is counted and filed, or turned away.
-fn count_and_file(
-    tally: Tally,
-    limits: Limits,
-    levels: &[u8; 84],
-    class: &[u8; 256],
-    kinds: &[u8],
-    starts: &[usize],
-    decision: Decision,
-    message: &[u8],
-    text: &mut [u8],
-    segments: &mut [Entry],
-    leaves: &mut [Entry],
-    codes: &mut [u8],
-    counts: &mut [u32],
-) -> Indexed
-    requires { Fileable limits class.now kinds.now levels.now decision message.now text.old segments.old leaves.old
-        × Admissible limits class.now kinds.now starts.now decision message.now codes.old counts.old }
-    ensures { Leaves (admission limits decision tally message.now codes.old counts.old
-        (table_in limits levels.now decision.separators message.now))
-        tally text.old segments.old leaves.old codes.old counts.old
-        result text.new segments.new leaves.new codes.new counts.new }
-{
+    )?;
     let admitted = admit(
-        tally, class, kinds, starts, limits, decision, message, codes, counts,
+        tally, &class, kinds, starts, limits, decision, message, codes, counts,
     );
     if admitted.number != Number::ACCEPTED {
-        return turned_away(admitted.number, admitted.place, tally);
+        return Err(Refused::at(admitted.number, admitted.place));
     }
-    let separators = decision.separators;
     let bytes = fill(
-        class,
+        &class,
         kinds,
         levels,
         decision.context,
         limits,
-        separators,
+        decision.separators,
         message,
         text,
         segments,
         leaves,
     );
-    let after = admitted.tally;
-    Indexed {
-        answer: filed(decision, bytes),
-        tally: after,
-    }
-}
-
-// A refusal, with the tally as it was.
-fn turned_away(number: u8, place: usize, tally: Tally) -> Indexed
-    ensures { result ≡ record { answer = answer_of (refused number place); tally = tally } }
-{
-    Indexed {
-        answer: refusal(number, place),
-        tally,
-    }
+    Ok(Counted {
+        card: decision.card(bytes),
+        tally: admitted.tally,
+    })
 }

@@ -6,15 +6,15 @@ ghost use Rattle.std.specs.Prelude.{◌≡◌};
 ghost use Rattle.form.specs.Forms.{limits_of};
 ghost use Rattle.order.specs.inner.Levels.{level_in};
 ghost use Rattle.order.specs.Owners.{level};
-ghost use Rattle.table.specs.Reading.{refused};
-ghost use Rattle.read.specs.Answering.{ReadAs, answer_of};
-ghost use Rattle.read.specs.inner.Deciding.{ReadsWithin, filed_as};
+ghost use Rattle.read.specs.Answering.{ReadAs};
+ghost use Rattle.read.specs.inner.Deciding.{FormRead, ReadsWithin, answered, card_by};
 
-use decide::{Decision, decide};
+use decide::decide;
 use fill::fill;
 use form::forms::{Form, LargeForm, SmallForm};
 use form::limits::Limits;
 use form::number::Number;
+use refused::Refused;
 use table::Card;
 use table::rows::Entry;
 
@@ -26,6 +26,7 @@ mod fill;
 pub mod indexed;
 mod lay;
 mod name;
+mod refused;
 mod scan;
 mod start;
 mod survey;
@@ -36,6 +37,32 @@ pub struct Answer {
     pub number: u8,
     pub place: usize,
     pub card: Card,
+}
+
+impl Answer {
+    // What reading comes to, as an answer: the card of a message that is accepted, or its refusal, with a card that is all zero (N3).
+    fn of(read: Result<Card, Refused>) -> Answer
+        ensures { result ≡ answered read }
+    {
+        match read {
+            Ok(card) => Answer {
+                number: Number::ACCEPTED,
+                place: 0,
+                card,
+            },
+            Err(Refused { number, place }) => Answer {
+                number,
+                place,
+                card: Card {
+                    separator: 0,
+                    context: 0,
+                    segments: 0,
+                    leaves: 0,
+                    text: 0,
+                },
+            },
+        }
+    }
 }
 
 // Reads a message of a form into the three lent buffers: every message of every length, whatever the buffers hold (N1 to N3). Buffers under
@@ -51,33 +78,28 @@ pub fn read(
     ensures { ReadAs (limits_of form) level message.now text.old segments.old leaves.old
         result text.new segments.new leaves.new }
 {
-    let levels = order::levels::table();
+    let limits = form.limits();
     match form {
-        Form::Small => {
-            let mut kinds = [0u8; SmallForm::SEGMENTS];
-            read_within(
-                SmallForm::limits(),
-                &levels,
-                &mut kinds,
-                message,
-                text,
-                segments,
-                leaves,
-            )
-        }
-        Form::Large => {
-            let mut kinds = [0u8; LargeForm::SEGMENTS];
-            read_within(
-                LargeForm::limits(),
-                &levels,
-                &mut kinds,
-                message,
-                text,
-                segments,
-                leaves,
-            )
-        }
+        Form::Small => read_by::<{ SmallForm::SEGMENTS }>(limits, message, text, segments, leaves),
+        Form::Large => read_by::<{ LargeForm::SEGMENTS }>(limits, message, text, segments, leaves),
     }
+}
+
+// The same under the limits of a form, with room for as many kinds as it has segments.
+fn read_by<const SEGMENTS: usize>(
+    limits: Limits,
+    message: &[u8],
+    text: &mut [u8],
+    segments: &mut [Entry],
+    leaves: &mut [Entry],
+) -> Answer
+    requires { FormRead limits SEGMENTS }
+    ensures { ReadAs limits level message.now text.old segments.old leaves.old
+        result text.new segments.new leaves.new }
+{
+    let levels = order::levels::table();
+    let mut kinds = [0u8; SEGMENTS];
+    Answer::of(read_within(limits, &levels, &mut kinds, message, text, segments, leaves))
 }
 
 // The same under any limits whose numbers fit the rows, by any table of levels that are below 8, with a lent buffer for the kinds: nothing
@@ -90,10 +112,10 @@ fn read_within(
     text: &mut [u8],
     segments: &mut [Entry],
     leaves: &mut [Entry],
-) -> Answer
+) -> Result<Card, Refused>
     requires { ReadsWithin limits levels.now kinds.old }
     ensures { ReadAs limits (level_in levels.now) message.now text.old segments.old leaves.old
-        result text.new segments.new leaves.new }
+        (answered result) text.new segments.new leaves.new }
 {
     let mut class = [0u8; 256];
     // filling asks for no start of a segment
@@ -107,57 +129,18 @@ fn read_within(
         text.len(),
         segments.len(),
         leaves.len(),
-    );
-    if decision.number != Number::ACCEPTED {
-        return refusal(decision.number, decision.place);
-    }
-    let separators = decision.separators;
+    )?;
     let bytes = fill(
         &class,
         kinds,
         levels,
         decision.context,
         limits,
-        separators,
+        decision.separators,
         message,
         text,
         segments,
         leaves,
     );
-    filed(decision, bytes)
-}
-
-// The answer that accepts a message, once it is filled in with so many bytes of text.
-fn filed(decision: Decision, bytes: usize) -> Answer
-    ensures { result ≡ filed_as decision bytes }
-{
-    let separators = decision.separators;
-    Answer {
-        number: Number::ACCEPTED,
-        place: 0,
-        card: Card {
-            separator: separators.field,
-            context: decision.context,
-            segments: decision.segments,
-            leaves: decision.leaves,
-            text: bytes,
-        },
-    }
-}
-
-// A refusal, with a card that is all zero (N3).
-fn refusal(number: u8, place: usize) -> Answer
-    ensures { result ≡ answer_of (refused number place) }
-{
-    Answer {
-        number,
-        place,
-        card: Card {
-            separator: 0,
-            context: 0,
-            segments: 0,
-            leaves: 0,
-            text: 0,
-        },
-    }
+    Ok(decision.card(bytes))
 }

@@ -8,6 +8,7 @@ ghost use Rattle.read.specs.inner.Underway.{Seeable, StepOf};
 ghost use Rattle.read.specs.inner.Surveying.{Ready, SurveyOf};
 
 use crate::name::{Name, gather};
+use crate::refused::Refused;
 use crate::scan::scan;
 use crate::start::text_from;
 use form::context::Context;
@@ -35,18 +36,11 @@ pub struct Survey {
     pub name: Name,
 }
 
-// What one line comes to: the survey with its text and where the next line begins, or a fault.
+// One line seen: the survey with its text, and where the next line begins.
 #[derive(Clone, Copy)]
-pub enum Step {
-    On { seen: Survey, at: usize },
-    Fault { number: u8, place: usize },
-}
-
-// What all lines come to.
-#[derive(Clone, Copy)]
-pub enum Surveyed {
-    Whole(Survey),
-    Fault { number: u8, place: usize },
+pub struct Step {
+    pub seen: Survey,
+    pub next: usize,
 }
 
 impl Survey {
@@ -189,7 +183,7 @@ fn line_stop(line: usize, at: usize, end: usize) -> usize
     if line < end - at { at + line } else { end }
 }
 
-// One line that begins at `at`, whose text is joined from `from` on.
+// One line that begins at `at`, whose text is joined from `from` on, or its fault.
 fn see_line(
     class: &[u8; 256],
     limits: Limits,
@@ -198,24 +192,24 @@ fn see_line(
     at: usize,
     from: usize,
     seen: Survey,
-) -> Step
+) -> Result<Step, Refused>
     requires { Seeable limits separators class.now message.now at from seen }
     ensures { StepOf limits separators message.now seen.segments at result }
 {
     let stop = line_stop(limits.line, at, message.len());
     let scanned = scan(class, message, from, stop);
     match ended_line(message, at, scanned.end) {
-        Found::Line { end, next } => Step::On {
+        Found::Line { end, next } => Ok(Step {
             seen: seen.with_text(separators.field, message, from, end, scanned.separators),
-            at: next,
-        },
+            next,
+        }),
         // not among the answers of `ended_line`
-        Found::End => Step::On { seen, at },
-        Found::Fault { number, place } => Step::Fault { number, place },
+        Found::End => Ok(Step { seen, next: at }),
+        Found::Fault { number, place } => Err(Refused { number, place }),
     }
 }
 
-// All lines of a message whose header is sound. Each line is seen at one place in the code, the first behind its seven header bytes: the
+// All lines of a message whose header is sound, or their first fault. Each line is seen at one place in the code, the first behind its seven header bytes: the
 // compiler then keeps the survey where it is. An addendum carries the open segment on, any other line closes it and begins the next, whose
 // start is noted.
 pub(crate) fn survey_message(
@@ -226,7 +220,7 @@ pub(crate) fn survey_message(
     message: &[u8],
     kinds: &mut [u8],
     starts: &mut [usize],
-) -> Surveyed
+) -> Result<Survey, Refused>
     requires { Ready limits separators class.now followers.now message.now }
     ensures { SurveyOf limits separators message.now kinds.new starts.new result }
 {
@@ -234,23 +228,14 @@ pub(crate) fn survey_message(
     let mut at = 0;
     let mut from = 7;
     loop {
-        match see_line(class, limits, separators, message, at, from, seen) {
-            Step::On {
-                seen: more,
-                at: next,
-            } => {
-                seen = more;
-                at = next;
-            }
-            Step::Fault { number, place } => {
-                return Surveyed::Fault { number, place };
-            }
-        }
+        let step = see_line(class, limits, separators, message, at, from, seen)?;
+        seen = step.seen;
+        at = step.next;
         from = text_from(message, at, separators.field);
         if from == at {
             seen = seen.closed(followers, kinds);
             if message.len() <= at {
-                return Surveyed::Whole(seen);
+                return Ok(seen);
             }
             seen = seen.next_segment();
             note_start(starts, seen.segments, at);

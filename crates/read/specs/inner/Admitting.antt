@@ -1,6 +1,6 @@
 -- What counting an accepted message asks, and what it gives (X3).
 -- Assumes nothing.
-use Rattle.std.specs.Prelude.{true, List, ◌≡◌, ℕ, ◌≤◌, length}
+use Rattle.std.specs.Prelude.{true, List, ◌≡◌, ℕ, ◌≤◌, Result, Ok, Err, length}
 use Rattle.form.specs.declared.limits.Limits.{Limits}
 use Rattle.table.specs.Rows.{Table}
 use Rattle.index.specs.declared.tally.Tally.{Tally}
@@ -9,10 +9,13 @@ use Rattle.index.specs.Adding.{added_all}
 use Rattle.index.specs.Tallying.{with_message}
 use Rattle.read.specs.declared.admit.Admitted.{Admitted}
 use Rattle.read.specs.declared.decide.Decision.{Decision}
+use Rattle.read.specs.declared.indexed.Counted.{Counted}
+use Rattle.read.specs.declared.indexed.Indexed.{Indexed}
+use Rattle.read.specs.declared.refused.Refused.{Refused}
 use Rattle.read.specs.Codes.{codes_counted}
 use Rattle.read.specs.Counting.{Counting, turned, counted, counted_or, tally_left, front_left}
 use Rattle.read.specs.inner.Census.{carried_in}
-use Rattle.read.specs.inner.Deciding.{Accepts, ReadsWithin}
+use Rattle.read.specs.inner.Deciding.{Accepts, ReadsWithin, answered}
 
 -- what reading with an index asks beside what reading asks: a place to note where each segment begins, with none beside
 pub record IndexesWithin (L : Limits) (levels kinds starts : List ℕ) : Type 0 where
@@ -48,3 +51,8 @@ pub record AdmitsAs (L : Limits) (d : Decision) (tally : Tally) (message codes c
   pub tally_is : (t : Table) → r.tally ≡ tally_left tally (admission L d tally message codes counts t)
   pub codes_are : (t : Table) → codes' ≡ front_left codes_put codes (admission L d tally message codes counts t)
   pub counts_are : (t : Table) → counts' ≡ front_left counts_put counts (admission L d tally message codes counts t)
+
+-- what comes back of what reading with an index comes to: a card with the tally, or a refusal with the tally as it was
+abbrev pub indexed_by : Tally → Result Counted Refused → Indexed
+indexed_by tally (Ok c) = record { answer = answered (Ok c.card); tally = c.tally }
+indexed_by tally (Err r) = record { answer = answered (Err r); tally = tally }

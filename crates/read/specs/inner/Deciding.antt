@@ -1,6 +1,6 @@
 -- Deciding, the tests 1 to 11 (N2): what it comes to, which outcome that stands for, and what filling may then count on.
 -- Assumes nothing.
-use Rattle.std.specs.Prelude.{Bool, true, false, List, ◌≡◌, ℕ, ◌+◌, ◌≤◌, ltb, eqb, length, replicate}
+use Rattle.std.specs.Prelude.{Bool, true, false, List, ◌≡◌, ℕ, ◌+◌, ◌≤◌, Result, Ok, Err, ltb, eqb, length, replicate}
 use Rattle.form.specs.declared.limits.Limits.{Limits}
 use Rattle.form.specs.declared.separators.Separators.{Separators}
 use Rattle.form.specs.declared.separators.Header.TheVariants.{Sound}
@@ -10,32 +10,25 @@ use Rattle.order.specs.inner.Levels.{level_in, LevelsBelow}
 use Rattle.table.specs.Rows.{all_leaves, table_of}
 use Rattle.table.specs.inner.Fitting.{FitsRows}
 use Rattle.table.specs.Reading.{Outcome, refused, accepted}
+use Rattle.table.specs.declared.Card.{Card}
 use Rattle.read.specs.declared.Answer.{Answer}
 use Rattle.read.specs.declared.decide.Decision.{Decision}
+use Rattle.read.specs.declared.refused.Refused.{Refused}
 use Rattle.read.specs.declared.survey.Survey.{Survey}
+use Rattle.read.specs.Answering.{no_card}
 use Rattle.read.specs.inner.Filling.{Fillable, Prepared}
 use Rattle.read.specs.inner.Noting.{Started}
 use Rattle.read.specs.Sound.{segments_in}
 use Rattle.read.specs.inner.Surveying.{place_seen}
 
 -- a decision that refuses, by its number and its place
-unfoldable pub refused_at : ℕ → ℕ → Decision
-refused_at number place =
-    record {
-      number = number;
-      place = place;
-      separators = record { field = 0; subfield = 0; repeater = 0; escape = 0; subsubfield = 0 };
-      context = 0;
-      segments = 0;
-      leaves = 0;
-    }
+abbrev pub refused_at : ℕ → ℕ → Result Decision Refused
+refused_at number place = Err (record { number = number; place = place })
 
 -- one that accepts, by what was seen
-unfoldable pub accepted_by : Separators → Survey → Decision
+abbrev pub accepted_by : Separators → Survey → Decision
 accepted_by ps s =
     record {
-      number = 0;
-      place = 0;
       separators = ps;
       context = s.watcher.context;
       segments = s.segments;
@@ -43,29 +36,26 @@ accepted_by ps s =
     }
 
 -- a test that refuses with a number at the place 0; one that refuses at a place, where that is not 0
-unfoldable pub decide_if : Bool → ℕ → Decision → Decision
+unfoldable pub decide_if : Bool → ℕ → Result Decision Refused → Result Decision Refused
 decide_if true number else = refused_at number 0
 decide_if false number else = else
 
-unfoldable pub decide_at : ℕ → ℕ → Decision → Decision
+unfoldable pub decide_at : ℕ → ℕ → Result Decision Refused → Result Decision Refused
 decide_at place number else = elim (eqb place 0) [ true ↦ else | false ↦ refused_at number place ]
 
 -- tests 7 to 11, by what was seen
-unfoldable pub decision_of : Limits → Separators → Survey → Decision
+unfoldable pub decision_of : Limits → Separators → Survey → Result Decision Refused
 decision_of L ps s =
     decide_if (ltb L.segments s.segments) many_segments
     (decide_at s.unknown unknown_kind
     (decide_if (eqb s.watcher.context 0) no_context
     (decide_at (place_seen s) misplaced_kind
-    (decide_if (ltb L.leaves (s.separators + s.segments + 2)) many_leaves (accepted_by ps s)))))
+    (decide_if (ltb L.leaves (s.separators + s.segments + 2)) many_leaves (Ok (accepted_by ps s))))))
 
 -- the outcome that a decision on a message stands for, by any levels
-unfoldable pub decided : Limits → List ℕ → Decision → (ℕ → ℕ → ℕ) → Outcome
-decided L message d levels =
-    elim (eqb d.number 0) [
-      | true ↦ accepted (table_of levels d.separators (segments_in L d.separators message))
-      | false ↦ refused d.number d.place
-    ]
+abbrev pub decided : Limits → List ℕ → Result Decision Refused → (ℕ → ℕ → ℕ) → Outcome
+decided L message (Ok d) levels = accepted (table_of levels d.separators (segments_in L d.separators message))
+decided L message (Err r) levels = refused r.number r.place
 
 -- what a decision that accepts a message says: it can be filled, has so many segments and leaves, and where they begin is noted
 pub record Accepts (L : Limits) (message class kinds starts : List ℕ) (d : Decision) : Type 0 where
@@ -82,19 +72,19 @@ pub record Fileable
   pub segments : d.segments ≡ length (segments_in L d.separators message)
   pub leaves : d.leaves ≡ length (all_leaves d.separators (segments_in L d.separators message))
 
--- the answer that accepts such a message, once it is filled in with so many bytes of text
-abbrev pub filed_as : Decision → ℕ → Answer
-filed_as d bytes =
-    record {
-      number = 0;
-      place = 0;
-      card = record { separator = d.separators.field; context = d.context; segments = d.segments; leaves = d.leaves; text = bytes };
-    }
+-- the card of such a message, once it is filled in with so many bytes of text
+abbrev pub card_by : Decision → ℕ → Card
+card_by d bytes = record { separator = d.separators.field; context = d.context; segments = d.segments; leaves = d.leaves; text = bytes }
 
--- the contract of deciding: the outcome, whose number and place the decision has, and where it accepts, what it says
-pub record DecidesAs (L : Limits) (message class kinds starts : List ℕ) (outcome : (ℕ → ℕ → ℕ) → Outcome) (d : Decision) : Type 0 where
-  pub stands : (levels : ℕ → ℕ → ℕ) → outcome levels ≡ decided L message d levels
-  pub accepts : d.number ≡ 0 → Accepts L message class kinds starts d
+-- the answer that gives what reading comes to: a card, or a refusal with a card that is all zero (N3)
+abbrev pub answered : Result Card Refused → Answer
+answered (Ok card) = record { number = 0; place = 0; card = card }
+answered (Err r) = record { number = r.number; place = r.place; card = no_card }
+
+-- the contract of deciding: the outcome, whose number and place a refusal has, and where it accepts, what it says
+pub record DecidesAs (L : Limits) (message class kinds starts : List ℕ) (outcome : (ℕ → ℕ → ℕ) → Outcome) (r : Result Decision Refused) : Type 0 where
+  pub stands : (levels : ℕ → ℕ → ℕ) → outcome levels ≡ decided L message r levels
+  pub accepts : (d : Decision) → r ≡ Ok d → Accepts L message class kinds starts d
 
 -- what deciding asks: limits that fit the rows, a class table of zeros, and room to note the kinds
 pub record Decidable (L : Limits) (class kinds : List ℕ) : Type 0 where
@@ -114,3 +104,9 @@ pub record ReadsWithin (L : Limits) (levels kinds : List ℕ) : Type 0 where
   pub fits : FitsRows L
   pub below : LevelsBelow (level_in levels)
   pub notes : length kinds ≡ L.segments
+
+-- what reading in a form asks: the limits of one, and room for as many kinds as it has segments, with none beside: so no reading clears the
+-- kinds of a larger form
+pub record FormRead (L : Limits) (segments : ℕ) : Type 0 where
+  pub fits : FitsRows L
+  pub notes : segments ≡ L.segments

@@ -1,6 +1,6 @@
 -- What the first pass comes to (by which the tests 4 to 11 are made): a line's fault, or what is known of the joined segments.
 -- Assumes nothing.
-use Rattle.std.specs.Prelude.{true, false, List, ◌≡◌, ℕ, ◌+◌, eqb, length}
+use Rattle.std.specs.Prelude.{true, false, List, ◌≡◌, ℕ, ◌+◌, Result, Ok, Err, eqb, length}
 use Rattle.form.specs.declared.limits.Limits.{Limits}
 use Rattle.form.specs.declared.separators.Separators.{Separators}
 use Rattle.form.specs.declared.separators.Header.TheVariants.{Sound}
@@ -12,9 +12,8 @@ use Rattle.order.specs.inner.Followers.{followers}
 use Rattle.order.specs.inner.Place.{misplaced}
 use Rattle.table.specs.Rows.{kinds_of, context_in, all_leaves}
 use Rattle.table.specs.Reading.{first_unknown}
+use Rattle.read.specs.declared.refused.Refused.{Refused}
 use Rattle.read.specs.declared.survey.Survey.{Survey}
-use Rattle.read.specs.declared.survey.Surveyed.{Surveyed}
-use Rattle.read.specs.declared.survey.Surveyed.TheVariants.{Whole, Fault}
 use Rattle.table.specs.inner.Classes.{class_table}
 use Rattle.read.specs.inner.Noting.{Noted, Started}
 
@@ -42,11 +41,11 @@ pub record SegmentsKnown (ps : Separators) (joinedSegments : List (List ℕ)) (s
   pub place : place_seen s ≡ misplaced (context_in ps joinedSegments) (kinds_of ps joinedSegments)
 
 -- what the survey of a message is: its first fault, or what is known of its segments, with their kinds and their starts noted
-abbrev pub SurveyOf : Limits → Separators → List ℕ → List ℕ → List ℕ → Surveyed → Type 0
-SurveyOf L ps message kinds starts (Whole s) =
+abbrev pub SurveyOf : Limits → Separators → List ℕ → List ℕ → List ℕ → Result Survey Refused → Type 0
+SurveyOf L ps message kinds starts (Ok s) =
     (fault_number (walk L message) ≡ 0)
     × SegmentsKnown ps (joined ps.field (texts (walk L message))) s
     × Noted ps (joined ps.field (texts (walk L message))) s.segments kinds
     × Started L ps message s.segments starts
-SurveyOf L ps message kinds starts (Fault n p) =
-    (n ≡ fault_number (walk L message)) × (n ≡ 0 → ⊥) × (p ≡ fault_place (walk L message))
+SurveyOf L ps message kinds starts (Err r) =
+    (r.number ≡ fault_number (walk L message)) × (r.number ≡ 0 → ⊥) × (r.place ≡ fault_place (walk L message))

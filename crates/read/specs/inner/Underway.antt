@@ -1,6 +1,6 @@
 -- A survey underway: what it knows of the segments that the lines so far have joined to, and what is left of the lines.
 -- Assumes nothing.
-use Rattle.std.specs.Prelude.{List, [], ◌∷◌, ◌++◌, ◌≡◌, ℕ, suc, ◌+◌, ◌-◌, ◌≤◌, ◌<◌, length, get_or, take, drop}
+use Rattle.std.specs.Prelude.{List, [], ◌∷◌, ◌++◌, ◌≡◌, ℕ, suc, ◌+◌, ◌-◌, ◌≤◌, ◌<◌, Result, Ok, Err, length, get_or, take, drop}
 use Rattle.form.specs.declared.limits.Limits.{Limits}
 use Rattle.form.specs.declared.separators.Separators.{Separators}
 use Rattle.line.specs.Lines.{Lines, line, walk_from, walk, fault_number, fault_place}
@@ -13,9 +13,9 @@ use Rattle.table.specs.inner.Classes.{class_table}
 use Rattle.table.specs.inner.Filed.{header_bytes}
 use Rattle.table.specs.Reading.{first_unknown}
 use Rattle.read.specs.declared.name.Name.{Name}
+use Rattle.read.specs.declared.refused.Refused.{Refused}
 use Rattle.read.specs.declared.survey.Survey.{Survey}
 use Rattle.read.specs.declared.survey.Step.{Step}
-use Rattle.read.specs.declared.survey.Step.TheVariants.{On, Fault}
 use Rattle.read.specs.inner.Naming.{fresh, with_bytes}
 
 -- what has been judged of closed segments: the first of unknown kind, the first that may not stand there, the watcher
@@ -74,6 +74,6 @@ pub record Seeable (L : Limits) (ps : Separators) (class m : List ℕ) (at from 
   pub begun : LineBegun L ps m at from s
 
 -- what the line at `at` comes to: the survey goes on at a later place, in the same segment, or its fault is the message's
-abbrev pub StepOf : Limits → Separators → List ℕ → ℕ → ℕ → Step → Type 0
-StepOf L ps m segments at (On s next) = (at < next) × Underway L ps m next s × (s.segments ≡ segments)
-StepOf L ps m segments at (Fault n p) = (n ≡ fault_number (walk L m)) × (n ≡ 0 → ⊥) × (p ≡ fault_place (walk L m))
+abbrev pub StepOf : Limits → Separators → List ℕ → ℕ → ℕ → Result Step Refused → Type 0
+StepOf L ps m segments at (Ok s) = (at < s.next) × Underway L ps m s.next s.seen × (s.seen.segments ≡ segments)
+StepOf L ps m segments at (Err r) = (r.number ≡ fault_number (walk L m)) × (r.number ≡ 0 → ⊥) × (r.place ≡ fault_place (walk L m))

@@ -1,37 +1,45 @@
 -- `indexed::index_within` meets its contract: an index that is not sound is refused, then what was decided, and what is left is counted and filed.
 -- Assumes nothing.
-use mathlib.Core.Path.{sym, ◌∙◌}
-use Rattle.read.proofs.Answering.{accepted_fileable}
-use Rattle.read.proofs.Indexing.{unsound_indexed, refusal_indexed, accepted_admissible, admitted_indexed}
+use mathlib.Core.Path.{sym, ◌∙◌, refl}
+use Rattle.read.specs.inner.Filling.{table_in}
+use Rattle.read.proofs.Refusing.{passed_on}
+use Rattle.read.proofs.Answering.{accepted_fileable, table-filed}
+use Rattle.read.proofs.Indexing.{unsound_indexed, refusal_indexed, accepted_admissible, admitted_indexed, turned_left, counted-left}
 use Rattle.read.proofs.indexed.index_within.Goals as goal
+use Rattle.read.proofs.indexed.index_within.Goals.{In_ok-decision}
 
 pub returns-then-not-is_sound : goal.returns-then-not-is_sound
 returns-then-not-is_sound c =
     unsound_indexed c.args.limits c.args.levels.now c.args.tally c.args.message.now c.args.text.now c.args.segments.now c.args.leaves.now c.args.codes.now
-    c.args.counts.now (sym c.is_sound.ensures ∙ c.if-not-is_sound.true) c.turned_away.ensures
+    c.args.counts.now (sym c.is_sound.ensures ∙ c.if-not-is_sound.true) c.at.ensures
 
-pub returns-then-decision-ne-ACCEPTED : goal.returns-then-decision-ne-ACCEPTED
-returns-then-decision-ne-ACCEPTED c =
-    refusal_indexed c.args.text.now c.args.segments.now c.args.leaves.now c.decide-decision.ensures c.args.levels.now c.args.tally c.args.codes.now
-    c.args.counts.now (sym c.is_sound.ensures ∙ c.if-not-is_sound.false) c.if-decision-ne-ACCEPTED.true c.turned_away-then-decision-ne-ACCEPTED.ensures
+pub returns-in_err-decision : goal.returns-in_err-decision
+returns-in_err-decision c =
+    rw (passed_on c.from_residual.ensures.1)
+    (refusal_indexed c.args.text.now c.args.segments.now c.args.leaves.now c.decide.ensures c.args.levels.now c.args.tally c.args.codes.now
+    c.args.counts.now (sym c.is_sound.ensures ∙ c.if-not-is_sound.false) c.in_err-decision.was)
 
-pub count_and_file-requires : goal.count_and_file-requires
-count_and_file-requires c = (
-  accepted_fileable c.args.text.now c.args.segments.now c.args.leaves.now c.decide-decision.ensures c.args.levels.now c.if-decision-ne-ACCEPTED.false
-      c.requires.reads.below,
-  accepted_admissible c.args.text.now c.args.segments.now c.args.leaves.now c.decide-decision.ensures c.args.levels.now c.args.tally c.args.codes.now
-      c.args.counts.now (sym c.is_sound.ensures ∙ c.if-not-is_sound.false) c.if-decision-ne-ACCEPTED.false
-      (c.decide-decision.auto.starts ∙ c.requires.begins),
-)
+pub admit-admitted-requires : goal.admit-admitted-requires
+admit-admitted-requires c =
+    accepted_admissible c.args.text.now c.args.segments.now c.args.leaves.now c.decide.ensures c.args.levels.now c.args.tally c.args.codes.now
+    c.args.counts.now (sym c.is_sound.ensures ∙ c.if-not-is_sound.false) c.in_ok-decision.was (c.decide.auto.starts ∙ c.requires.begins)
 
--- the notes are as long as they were
-pub shape_of-kinds : goal.shape_of-kinds
-shape_of-kinds c = c.decide-decision.auto.kinds
+pub returns-then-admitted-ne-ACCEPTED : goal.returns-then-admitted-ne-ACCEPTED
+returns-then-admitted-ne-ACCEPTED c =
+    admitted_indexed c.args.text.now c.args.segments.now c.args.leaves.now c.decide.ensures c.args.levels.now c.args.tally c.args.codes.now
+    c.args.counts.now (sym c.is_sound.ensures ∙ c.if-not-is_sound.false) c.in_ok-decision.was
+    (turned_left (table_in c.args.limits c.args.levels.now c.in_ok-decision.decision.separators c.args.message.now) c.args.text.now c.args.segments.now
+    c.args.leaves.now c.admit-admitted.ensures c.if-admitted-ne-ACCEPTED.true c.at-then-admitted-ne-ACCEPTED.ensures)
 
-pub shape_of-starts : goal.shape_of-starts
-shape_of-starts c = c.decide-decision.auto.starts
+pub fill-bytes-requires : goal.fill-bytes-requires
+fill-bytes-requires c =
+    (accepted_fileable c.args.text.now c.args.segments.now c.args.leaves.now c.decide.ensures c.args.levels.now c.in_ok-decision.was c.requires.reads.below).prepared
 
 pub returns : goal.returns
 returns c =
-    admitted_indexed c.args.text.now c.args.segments.now c.args.leaves.now c.decide-decision.ensures c.args.levels.now c.args.tally c.args.codes.now
-    c.args.counts.now (sym c.is_sound.ensures ∙ c.if-not-is_sound.false) c.if-decision-ne-ACCEPTED.false c.count_and_file.ensures
+    let w = accepted_fileable c.args.text.now c.args.segments.now c.args.leaves.now c.decide.ensures c.args.levels.now c.in_ok-decision.was
+    c.requires.reads.below in
+    admitted_indexed c.args.text.now c.args.segments.now c.args.leaves.now c.decide.ensures c.args.levels.now c.args.tally c.args.codes.now
+    c.args.counts.now (sym c.is_sound.ensures ∙ c.if-not-is_sound.false) c.in_ok-decision.was
+    (counted-left (table_in c.args.limits c.args.levels.now c.in_ok-decision.decision.separators c.args.message.now) c.args.text.now c.args.segments.now
+    c.args.leaves.now c.admit-admitted.ensures c.if-admitted-ne-ACCEPTED.false (table-filed w c.fill-bytes.ensures c.card.ensures) refl)

@@ -8,7 +8,8 @@ use Rattle.laws.proofs.Bytes.{bytes-known}
 use Rattle.line.proofs.Finding.{EndedAt, ended_at}
 use Rattle.read.specs.inner.Scanning.{run, marks}
 use Rattle.read.specs.inner.Underway.{StepOf}
-use Rattle.read.specs.declared.survey.Step.TheVariants.{On}
+use Rattle.std.proofs.Common.{Ok}
+use Rattle.read.specs.declared.survey.Survey.{Survey}
 use Rattle.read.proofs.Underway.{LineScanned, line_part, line-seen, line_faulty}
 use Rattle.read.proofs.survey.see_line.Goals as goal
 use Rattle.read.proofs.survey.see_line.Goals.{After-scan-scanned}
@@ -38,7 +39,7 @@ with_text-requires c = line_part (scanned (goal.at.with_text-requires c).After-s
 pub returns-in-Line : goal.returns-in-Line
 returns-in-Line c =
     let q = scanned (goal.at.returns-in-Line c).After-scan-scanned in
-    subst (λ s. StepOf c.args.limits c.args.separators c.args.message.now c.args.seen.segments c.args.at (On s c.in-Line.next)) (sym c.with_text.ensures)
+    subst (λ (s : Survey). StepOf c.args.limits c.args.separators c.args.message.now c.args.seen.segments c.args.at (Ok (record { seen = s; next = c.in-Line.next }))) (sym c.with_text.ensures)
     (line-seen q c.in-Line.end c.in-Line.next (sym c.ended_line.ensures ∙ c.in-Line.is))
 
 pub returns-in-End : goal.returns-in-End

@@ -7,8 +7,8 @@ use lib.ListN.{length}
 use Rattle.read.proofs.Noting.{Noting}
 use Rattle.read.proofs.survey.survey_message.Given as goal
 
-abbrev pub invariant-loop-more : goal.invariant-loop-more
-invariant-loop-more l = Noting l.limits l.separators l.message l.at l.from l.seen l.initial.kinds l.kinds l.initial.starts l.starts
+abbrev pub invariant-loop-step : goal.invariant-loop-step
+invariant-loop-step l = Noting l.limits l.separators l.message l.at l.from l.seen l.initial.kinds l.kinds l.initial.starts l.starts
 
-abbrev pub decreases-loop-more : goal.decreases-loop-more
-decreases-loop-more l = length l.message - l.at
+abbrev pub decreases-loop-step : goal.decreases-loop-step
+decreases-loop-step l = length l.message - l.at
