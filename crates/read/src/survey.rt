@@ -1,6 +1,6 @@
 // The first pass: lines are judged up to the first fault, segments and separators are counted, kinds, context and order are looked at.
 // Nothing is written but the kinds, which it notes for the second pass, and where the segments begin, for whoever lends room for it.
-ghost use Rattle.std.specs.Prelude.{◌≡◌, ◌+◌, ◌-◌, ◌≤◌, ◌<◌, min, length, set, take, drop};
+ghost use Rattle.std.specs.Prelude.{◌≡◌, ◌+◌, ◌-◌, ◌≤◌, ◌<◌, length, set, take, drop};
 ghost use Rattle.laws.specs.inner.First.{first_held};
 ghost use Rattle.order.specs.inner.Telling.{follows_by};
 ghost use Rattle.read.specs.inner.Seeing.{nothing_seen, text_joined, kind_seen, context_seen, watching, segment_shut, segment_begun};
@@ -71,11 +71,11 @@ impl Survey {
         requires { (from ≤ end) × (end ≤ length message.now) × (self.separators + separators ≤ end) }
         ensures { result ≡ text_joined field self (take (end - from) (drop from message.now)) separators }
     {
-        let name = self.name;
-        let mut next = self;
-        next.separators = self.separators + separators;
-        next.name = gather(name, field, message, from, end);
-        next
+        Survey {
+            separators: self.separators + separators,
+            name: gather(self.name, field, message, from, end),
+            ..self
+        }
     }
 
     // The kind of the open segment by number. The first is an H by its header bytes.
@@ -85,8 +85,7 @@ impl Survey {
         if self.segments == 1 {
             return Kind::H;
         }
-        let name = self.name;
-        let letters = name.letters;
+        let letters = self.name.letters;
         Kind::of(letters.length, letters.first, letters.second, letters.third)
     }
 
@@ -94,11 +93,10 @@ impl Survey {
     fn context_number(self) -> u8
         ensures { result ≡ context_seen self }
     {
-        let name = self.name;
-        if 1 < name.left {
+        if 1 < self.name.left {
             return 0;
         }
-        let letters = name.letters;
+        let letters = self.name.letters;
         Context::of(letters.length, letters.first, letters.second, letters.third)
     }
 
@@ -109,15 +107,14 @@ impl Survey {
             × (kinds.new ≡ set kinds.old (self.segments - 1) (kind_seen self)) }
     {
         let kind = self.kind_number();
-        let watcher = self.watching();
-        let told = watcher.tell_by(followers, kind);
-        let after = told.watcher;
+        let told = self.watching().tell_by(followers, kind);
         note(kinds, self.segments, kind);
-        let mut next = self;
-        next.watcher = after;
-        next.unknown = first_of(self.unknown, kind == 0, self.segments);
-        next.misplaced = first_of(self.misplaced, !told.yes, self.segments);
-        next
+        Survey {
+            unknown: first_of(self.unknown, kind == 0, self.segments),
+            misplaced: first_of(self.misplaced, !told.yes, self.segments),
+            watcher: told.watcher,
+            ..self
+        }
     }
 
     // The watcher, which field 7 of the first segment begins (C1).
@@ -125,9 +122,10 @@ impl Survey {
         ensures { result ≡ watching self }
     {
         if self.segments == 1 {
-            return Watcher::begin(self.context_number());
+            Watcher::begin(self.context_number())
+        } else {
+            self.watcher
         }
-        self.watcher
     }
 
     // The next segment begun behind a closed one.
@@ -135,33 +133,23 @@ impl Survey {
         requires { self.segments + 1 < 18446744073709551616 }
         ensures { result ≡ segment_begun self }
     {
-        let mut next = self;
-        next.segments = self.segments + 1;
-        next.name = Name::fresh(1);
-        next
+        Survey {
+            segments: self.segments + 1,
+            name: Name::fresh(1),
+            ..self
+        }
     }
 }
 
-// The kind of the segment with this number is noted, where there is room for it: a message with more segments is refused.
-fn note(kinds: &mut [u8], segment: usize, kind: u8)
+// The kind of the segment with this number, or where it begins, is noted, where there is room for it: a message with more segments is
+// refused.
+fn note<T: Copy>(list: &mut [T], segment: usize, value: T)
     requires { 1 ≤ segment }
-    ensures { kinds.new ≡ set kinds.old (segment - 1) kind }
+    ensures { list.new ≡ set list.old (segment - 1) value }
 {
-    if kinds.len() < segment {
-        return;
+    if segment <= list.len() {
+        list[segment - 1] = value;
     }
-    kinds[segment - 1] = kind;
-}
-
-// Where the segment with this number begins is noted, where there is room for it.
-fn note_start(starts: &mut [usize], segment: usize, at: usize)
-    requires { 1 ≤ segment }
-    ensures { starts.new ≡ set starts.old (segment - 1) at }
-{
-    if starts.len() < segment {
-        return;
-    }
-    starts[segment - 1] = at;
 }
 
 // The first place at which a test held, 0 standing for none: the earlier one, or this place where the test holds here.
@@ -169,18 +157,12 @@ fn first_of(earlier: usize, holds: bool, place: usize) -> usize
     ensures { result ≡ first_held earlier holds place }
 {
     if earlier != 0 {
-        return earlier;
+        earlier
+    } else if holds {
+        place
+    } else {
+        0
     }
-    if holds { place } else { 0 }
-}
-
-// The last place where the CR of a line that begins at `at` may stand (L3), or the message's end where that comes first. It is `text_stop` of a line
-// that begins within the message.
-fn line_stop(line: usize, at: usize, end: usize) -> usize
-    requires { at ≤ end }
-    ensures { result ≡ at + min line (end - at) }
-{
-    if line < end - at { at + line } else { end }
 }
 
 // One line that begins at `at`, whose text is joined from `from` on, or its fault.
@@ -196,7 +178,8 @@ fn see_line(
     requires { Seeable limits separators class.now message.now at from seen }
     ensures { StepOf limits separators message.now seen.segments at result }
 {
-    let stop = line_stop(limits.line, at, message.len());
+    // the last place where the CR of the line may stand (L3), or the message's end where that comes first
+    let stop = at + limits.line.min(message.len() - at);
     let scanned = scan(class, message, from, stop);
     match ended_line(message, at, scanned.end) {
         Found::Line { end, next } => Ok(Step {
@@ -238,7 +221,7 @@ pub(crate) fn survey_message(
                 return Ok(seen);
             }
             seen = seen.next_segment();
-            note_start(starts, seen.segments, at);
+            note(starts, seen.segments, at);
         }
     }
 }

@@ -17,18 +17,18 @@ use Rattle.read.proofs.survey.see_line.Goals.{After-scan-scanned}
 -- what the scan has come to
 abbrev ScannedAt : After-scan-scanned → Type 0
 ScannedAt c =
-    LineScanned c.args.limits c.args.separators c.args.message.now c.args.at c.args.from c.args.seen c.line_stop-stop.result c.scan-scanned.result.end
+    LineScanned c.args.limits c.args.separators c.args.message.now c.args.at c.args.from c.args.seen (c.args.at + c.min.result) c.scan-scanned.result.end
     c.scan-scanned.result.separators
 
 scanned : (c : After-scan-scanned) → ScannedAt c
 scanned c =
     let at_pre = c.requires in
-    let part : List ℕ = take (c.line_stop-stop.result - c.args.from) (drop c.args.from c.args.message.now) in
+    let part : List ℕ = take (c.args.at + c.min.result - c.args.from) (drop c.args.from c.args.message.now) in
     record {
       one = at_pre.one;
       begun = at_pre.begun;
       bytes = bytes-known c.args.message.now c.shared_slice_known-1.given;
-      stopped = c.line_stop-stop.ensures;
+      stopped = ap (λ (n : ℕ). c.args.at + n) c.min.ensures;
       scanned = c.scan-scanned.ensures.0 ∙ ap (λ (class : List ℕ). c.args.from + run class part) at_pre.classes;
       marked = c.scan-scanned.ensures.1 ∙ ap (λ (class : List ℕ). marks class part) at_pre.classes;
     }

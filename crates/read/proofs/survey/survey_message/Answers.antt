@@ -57,8 +57,8 @@ next_segment-seen-requires c =
     let count = ap (λ (s : Survey). s.segments) c.closed-seen.ensures.0 in
     omega (arith, (c.in_ok-step.ensures).1.few-segments, count, c.if-message-at.false, c.well_formed)
 
-pub note_start-requires : goal.note_start-requires
-note_start-requires c = omega (arith, ap (λ (s : Survey). s.segments) c.next_segment-seen.ensures)
+pub note-requires : goal.note-requires
+note-requires c = omega (arith, ap (λ (s : Survey). s.segments) c.next_segment-seen.ensures)
 
 pub loop-step-smaller-then-from-at : goal.loop-step-smaller-then-from-at
 loop-step-smaller-then-from-at c = omega (arith, (c.in_ok-step.ensures).0, c.loop-step.invariant.begun.some)
@@ -69,7 +69,7 @@ loop-step-preserved-then-from-at c =
     let led = c.in_ok-step.ensures in
     noting_next c.loop-step.invariant led.1 led.2 c.text_from-from.ensures c.if-from-at.true pre.lawful.header c.closed-seen.ensures.1
     (ap (λ (s : Survey). s.segments) c.next_segment-seen.ensures ∙ ap (λ (s : Survey). s.segments + 1) c.closed-seen.ensures.0)
-    c.note_start.ensures
+    c.note.ensures
     (begins-next led.1 c.text_from-from.ensures pre.table c.if-from-at.true c.if-message-at.false c.closed-seen.ensures.0 c.next_segment-seen.ensures)
 
 pub loop-step-smaller : goal.loop-step-smaller

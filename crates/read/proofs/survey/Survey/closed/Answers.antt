@@ -9,7 +9,7 @@ use Rattle.read.proofs.survey.Survey.closed.Goals as goal
 
 pub returns : goal.returns
 returns c = (
-  closed_as c.args.self (follows_by c.args.followers.now) c.kind_number-kind.ensures c.watching-watcher.ensures c.tell_by-told.ensures c.first_of.ensures
+  closed_as c.args.self (follows_by c.args.followers.now) c.kind_number-kind.ensures c.watching.ensures c.tell_by-told.ensures c.first_of.ensures
       c.first_of-2.ensures,
   c.note.ensures ∙ ap (λ (k : ℕ). set c.args.kinds.now (c.args.self.segments - 1) k) c.kind_number-kind.ensures,
 )

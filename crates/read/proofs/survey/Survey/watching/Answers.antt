@@ -11,5 +11,5 @@ returns-then-self-eq1 c =
     ∙ ap begun c.context_number.ensures
     ∙ sym (watching-first c.args.self c.if-self-eq1.true)
 
-pub returns : goal.returns
-returns c = sym (watching-later c.args.self c.if-self-eq1.false)
+pub returns-else-self-eq1 : goal.returns-else-self-eq1
+returns-else-self-eq1 c = sym (watching-later c.args.self c.if-self-eq1.false)
