@@ -98,14 +98,16 @@ pub(crate) fn put_leaf(laying: Laying, leaves: &mut [Entry])
     requires { RowFits laying leaves.old }
     ensures { leaves.new ≡ sets leaves.old laying.row (row_of laying) }
 {
-    let at = laying.row;
-    leaves[at] = laying.segment as Entry;
-    leaves[at + rows::FIELD] = laying.field as Entry;
-    leaves[at + rows::REPETITION] = laying.repetition as Entry;
-    leaves[at + rows::SUBFIELD] = laying.subfield as Entry;
-    leaves[at + rows::SUBSUBFIELD] = laying.subsubfield as Entry;
-    leaves[at + rows::START] = laying.begin as Entry;
-    leaves[at + rows::LENGTH] = (laying.out - laying.begin) as Entry;
+    let row = [
+        laying.segment as Entry,
+        laying.field as Entry,
+        laying.repetition as Entry,
+        laying.subfield as Entry,
+        laying.subsubfield as Entry,
+        laying.begin as Entry,
+        (laying.out - laying.begin) as Entry,
+    ];
+    leaves[laying.row..laying.row + rows::LEAF_ROW].copy_from_slice(&row);
 }
 
 // The pass over a line from `from` on, up to the first byte below 32: of a line without fault its CR. Most leaves end at a field separator, so
