@@ -52,26 +52,35 @@ impl Laying {
         requires { NextFits self }
         ensures { result ≡ next_leaf self sort }
     {
-        let mut next = self;
-        next.row = self.row + rows::LEAF_ROW;
-        next.begin = self.out;
-        if sort == 4 {
-            next.subsubfield = self.subsubfield + 1;
-            return next;
+        let next = Laying {
+            row: self.row + rows::LEAF_ROW,
+            begin: self.out,
+            ..self
+        };
+        match sort {
+            4 => Laying {
+                subsubfield: self.subsubfield + 1,
+                ..next
+            },
+            3 => Laying {
+                subfield: self.subfield + 1,
+                subsubfield: 1,
+                ..next
+            },
+            2 => Laying {
+                repetition: self.repetition + 1,
+                subfield: 1,
+                subsubfield: 1,
+                ..next
+            },
+            _ => Laying {
+                field: self.field + 1,
+                repetition: 1,
+                subfield: 1,
+                subsubfield: 1,
+                ..next
+            },
         }
-        next.subsubfield = 1;
-        if sort == 3 {
-            next.subfield = self.subfield + 1;
-            return next;
-        }
-        next.subfield = 1;
-        if sort == 2 {
-            next.repetition = self.repetition + 1;
-            return next;
-        }
-        next.repetition = 1;
-        next.field = self.field + 1;
-        next
     }
 }
 
