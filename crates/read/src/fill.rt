@@ -45,10 +45,7 @@ fn put_segment(
     ensures { segments.new ≡ sets segments.old (row * segment_row_size) (segment_row kind owner first count) }
 {
     let at = row * rows::SEGMENT_ROW;
-    segments[at] = kind as Entry;
-    segments[at + rows::OWNER] = owner;
-    segments[at + rows::FIRST] = first;
-    segments[at + rows::COUNT] = count;
+    segments[at..at + rows::SEGMENT_ROW].copy_from_slice(&[kind as Entry, owner, first, count]);
 }
 
 // The level of a kind (O1) in a context that is one: a message that is filled has one, so its segments do not ask it again.
@@ -104,11 +101,13 @@ fn put_header(separators: Separators, text: &mut [u8], leaves: &mut [Entry]) -> 
     requires { (5 ≤ length text.old) × (leaf_row_size + leaf_row_size ≤ length leaves.old) }
     ensures { HeaderPut separators text.old leaves.old result text.new leaves.new }
 {
-    text[0] = b'H';
-    text[1] = separators.subfield;
-    text[2] = separators.repeater;
-    text[3] = separators.escape;
-    text[4] = separators.subsubfield;
+    text[..5].copy_from_slice(&[
+        b'H',
+        separators.subfield,
+        separators.repeater,
+        separators.escape,
+        separators.subsubfield,
+    ]);
     let name = Laying {
         row: 0,
         segment: 1,

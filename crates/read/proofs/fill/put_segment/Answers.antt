@@ -1,21 +1,9 @@
--- `read::fill::put_segment` meets its contract: four stores in a row, all within.
+-- `read::fill::put_segment` meets its contract: the four numbers of a row, copied to its place.
 -- Assumes nothing.
-use native.Mathlib.Numerals.{towards_suc}
 use native.Mathlib.Omega.{arith}
-use lib.ListN.{length-set}
+use Rattle.laws.proofs.Slices.{middle_copied}
+use Rattle.table.specs.Rows.{segment_row}
 use Rattle.read.proofs.fill.put_segment.Goals as goal
 
-pub bounds-segments-at-2 : goal.bounds-segments-at-2
-bounds-segments-at-2 c = simp length-set (omega arith)
-
-pub bounds-segments-at-3 : goal.bounds-segments-at-3
-bounds-segments-at-3 c = simp length-set (omega arith)
-
-pub bounds-segments-at-4 : goal.bounds-segments-at-4
-bounds-segments-at-4 c = simp length-set (omega arith)
-
-pub shape_of-segments : goal.shape_of-segments
-shape_of-segments c = simp length-set
-
 pub returns : goal.returns
-returns c = simp towards_suc
+returns c = rw c.copy_from_slice.ensures.after (middle_copied _ (segment_row c.args.kind c.args.owner c.args.first c.args.count) _ _ (omega arith) (omega (arith, c.requires)))
