@@ -54,9 +54,10 @@ fn level_here(levels: &[u8; 84], context: u8, kind: u8) -> u8
     ensures { result ≡ level_in levels.now context kind }
 {
     if Kind::L < kind {
-        return 0;
+        0
+    } else {
+        levels[(context as usize - 1) * PER_CONTEXT + kind as usize]
     }
-    levels[(context as usize - 1) * PER_CONTEXT + kind as usize]
 }
 
 // The open segment is closed: its last leaf and its own row are written. Its kind is the one that the survey noted.
@@ -150,13 +151,11 @@ fn fill_line(
     ensures { LineFilled class.now message.now from filling text.old leaves.old
         result text.new leaves.new }
 {
-    let laying = filling.laying;
-    let laid = lay_line(class, field, message, from, laying, text, leaves);
-    let gone = laid.laying;
+    let laid = lay_line(class, field, message, from, filling.laying, text, leaves);
     Line {
         filling: Filling {
-            laying: gone,
-            first: filling.first,
+            laying: laid.laying,
+            ..filling
         },
         next: low_end(message, laid.end + 1),
     }
@@ -167,10 +166,9 @@ fn next_segment(filling: Filling) -> Filling
     requires { NextFits filling.laying }
     ensures { result ≡ begun_after filling }
 {
-    let laying = filling.laying;
     Filling {
-        laying: laying.next_segment(),
-        first: laying.row / rows::LEAF_ROW + 2,
+        laying: filling.laying.next_segment(),
+        first: filling.laying.row / rows::LEAF_ROW + 2,
     }
 }
 
