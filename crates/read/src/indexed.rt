@@ -152,12 +152,12 @@ fn count_and_file(
         tally text.old segments.old leaves.old codes.old counts.old
         result text.new segments.new leaves.new codes.new counts.new }
 {
-    let admitted = admit(
+    let after = match admit(
         tally, class, kinds, starts, limits, decision, message, codes, counts,
-    );
-    if admitted.number != Number::ACCEPTED {
-        return turned_away(admitted.number, admitted.place, tally);
-    }
+    ) {
+        Ok(after) => after,
+        Err(refused) => return turned_away(refused.number, refused.place, tally),
+    };
     let separators = decision.separators;
     let bytes = fill(
         class,
@@ -171,7 +171,6 @@ fn count_and_file(
         segments,
         leaves,
     );
-    let after = admitted.tally;
     Indexed {
         answer: filed(decision, bytes),
         tally: after,

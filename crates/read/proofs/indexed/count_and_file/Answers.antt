@@ -6,13 +6,13 @@ use Rattle.read.proofs.Answering.{table-filed}
 use Rattle.read.proofs.Indexing.{turned_left, counted-left}
 use Rattle.read.proofs.indexed.count_and_file.Goals as goal
 
-pub admit-admitted-requires : goal.admit-admitted-requires
-admit-admitted-requires c = c.requires.1
+pub admit-requires : goal.admit-requires
+admit-requires c = c.requires.1
 
-pub returns-then-admitted-ne-ACCEPTED : goal.returns-then-admitted-ne-ACCEPTED
-returns-then-admitted-ne-ACCEPTED c =
+pub returns-in-Err : goal.returns-in-Err
+returns-in-Err c =
     turned_left (table_in c.args.limits c.args.levels.now c.args.decision.separators c.args.message.now) c.args.text.now c.args.segments.now c.args.leaves.now
-    c.admit-admitted.ensures c.if-admitted-ne-ACCEPTED.true c.turned_away.ensures
+    c.in-Err.ensures c.turned_away.ensures
 
 pub fill-bytes-requires : goal.fill-bytes-requires
 fill-bytes-requires c = c.requires.0.prepared
@@ -20,4 +20,4 @@ fill-bytes-requires c = c.requires.0.prepared
 pub returns : goal.returns
 returns c =
     counted-left (table_in c.args.limits c.args.levels.now c.args.decision.separators c.args.message.now) c.args.text.now c.args.segments.now c.args.leaves.now
-    c.admit-admitted.ensures c.if-admitted-ne-ACCEPTED.false (table-filed c.requires.0 c.fill-bytes.ensures c.filed.ensures) refl
+    c.in-Ok.ensures (table-filed c.requires.0 c.fill-bytes.ensures c.filed.ensures) refl
