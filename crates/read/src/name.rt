@@ -37,20 +37,17 @@ pub(crate) fn gather(name: Name, field: u8, message: &[u8], from: usize, end: us
 {
     let mut left = name.left;
     let mut letters = name.letters;
-    let mut i = from;
-    while i < end {
+    for b in &message[from..end] {
         if left == 0 {
             break;
         }
-        let b = message[i];
-        i += 1;
-        if b == field {
+        if *b == field {
             left -= 1;
             if left != 0 {
                 letters.length = 0;
             }
         } else {
-            letters = letters.with(b);
+            letters = letters.with(*b);
         }
     }
     Name { left, letters }
