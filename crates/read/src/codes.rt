@@ -11,8 +11,8 @@ use index::CODE;
 use line::finder::low_end;
 use table::class::index;
 
-// How far a segment's code has come: field separators that are to come up to the one that ends field 4, 1 in that field itself, 0 once the code is
-// whole; the bytes of the code; and where the last byte stands that was looked at.
+// A segment's code that may go on: the field separators that are to come up to the one that ends field 4, 1 in that field itself; the bytes of the
+// code so far; and where its line is looked at next.
 #[derive(Clone, Copy)]
 pub struct Taken {
     pub left: usize,
@@ -20,11 +20,11 @@ pub struct Taken {
     pub at: usize,
 }
 
-// Where a line's bytes have been gone over up to, and the field separators that are then to come.
+// How far a line brings the code: it is whole, with so many bytes, or it may go on behind the line, which ends at `at`.
 #[derive(Clone, Copy)]
-pub struct Skipped {
-    pub left: usize,
-    pub at: usize,
+pub enum Reached {
+    Whole(usize),
+    Open(Taken),
 }
 
 // Where the text ends that begins at `from`. A byte that is none lies ahead, so the loop tests no bound.
@@ -33,74 +33,65 @@ fn plain_end(class: &[u8; 256], message: &[u8], from: usize) -> usize
     ensures { result ≡ from + plain_run class.now (drop from message.now) }
 {
     let mut at = from;
+    // kept (plainer): a byte that is no text lies ahead, and `position` over the rest of the message would test a bound at each byte
     while class[index(message[at])] == 0 {
         at += 1;
     }
     at
 }
 
-// From `from` on over the fields before the code, with so many field separators to come up to the one that ends its own, or to the line's end. Most
-// bytes are text: only the others are asked what they are.
-fn skip_fields(class: &[u8; 256], message: &[u8], from: usize, fields: usize) -> Skipped
-    requires { Skips class.now message.now from fields }
-    ensures { FieldsSkipped class.now message.now from fields result.at result.left }
+// Over the fields before the code, up to its own, or to the line's end. Most bytes are text: only the others are asked what they are.
+fn skip_fields(class: &[u8; 256], message: &[u8], taken: Taken) -> Taken
+    requires { Skips class.now message.now taken.at taken.left }
+    ensures { FieldsSkipped class.now message.now taken result }
 {
-    let mut left = fields;
-    let mut at = from;
+    let length = taken.length;
+    let mut left = taken.left;
+    let mut at = taken.at;
+    // kept (plainer): each turn goes on behind a stretch of text, so there is no range to go over
     while left != 1 {
         let stop = plain_end(class, message, at);
         let sort = class[index(message[stop])];
         if sort == 5 {
-            return Skipped { left, at: stop };
+            return Taken {
+                left,
+                length,
+                at: stop,
+            };
         }
         at = stop + 1;
         left = fields_left(left, sort);
     }
-    Skipped { left, at }
+    Taken { left, length, at }
 }
 
-// What a line has of the code, from `from` on: the fields before it are gone over first.
-fn take_from_line(
-    class: &[u8; 256],
-    message: &[u8],
-    from: usize,
-    taken: Taken,
-    code: &mut [u8],
-) -> Taken
-    requires { TakesLine class.now message.now from taken.left taken.length code.old }
-    ensures { LineTaken class.now message.now from taken.left taken.length code.old result code.new }
+// What a line has of the code: the fields before it are gone over first.
+fn take_from_line(class: &[u8; 256], message: &[u8], taken: Taken, code: &mut [u8]) -> Reached
+    requires { TakesLine class.now message.now taken code.old }
+    ensures { LineTaken class.now message.now taken code.old result code.new }
 {
-    let skipped = skip_fields(class, message, from, taken.left);
-    let begun = Taken {
-        left: skipped.left,
-        length: taken.length,
-        at: skipped.at,
-    };
-    take_line(class, message, skipped.at, begun, code)
+    take_line(class, message, skip_fields(class, message, taken), code)
 }
 
 // The same from any field on, byte by byte. Of a code that is too long the first 22 bytes are kept.
-fn take_line(class: &[u8; 256], message: &[u8], from: usize, taken: Taken, code: &mut [u8]) -> Taken
-    requires { TakesLine class.now message.now from taken.left taken.length code.old }
-    ensures { LineTaken class.now message.now from taken.left taken.length code.old result code.new }
+fn take_line(class: &[u8; 256], message: &[u8], taken: Taken, code: &mut [u8]) -> Reached
+    requires { TakesLine class.now message.now taken code.old }
+    ensures { LineTaken class.now message.now taken code.old result code.new }
 {
     let mut left = taken.left;
     let mut length = taken.length;
-    let mut at = from;
+    let mut at = taken.at;
+    // kept (plainer): a byte of class 5 lies ahead, so a `for` would need an answer behind it that never comes
     loop {
         let b = message[at];
         let sort = class[index(b)];
         if sort == 5 {
-            return Taken { left, length, at };
+            return Reached::Open(Taken { left, length, at });
         }
         at += 1;
         if left == 1 {
             if sort != 0 {
-                return Taken {
-                    left: 0,
-                    length,
-                    at,
-                };
+                return Reached::Whole(length);
             }
             keep(code, length, b);
             length += 1;
@@ -149,16 +140,17 @@ pub(crate) fn take_code(
         length: 0,
         at: start,
     };
-    let mut from = start;
+    // kept (plainer): where the next line begins is known only once this one was looked at
     loop {
-        taken = take_from_line(class, message, from, taken, code);
-        if taken.left == 0 {
-            return taken.length;
+        match take_from_line(class, message, taken, code) {
+            Reached::Whole(length) => return length,
+            Reached::Open(open) => taken = open,
         }
         let at = low_end(message, taken.at + 1);
-        from = text_from(message, at, separators.field);
+        let from = text_from(message, at, separators.field);
         if from == at {
             return taken.length;
         }
+        taken.at = from;
     }
 }
