@@ -85,7 +85,7 @@ module _ {L : Limits} {class kinds starts : List ℕ} {ps : Separators} {context
         (less_or_not row 1)
 
     pub code-ahead : CodeAhead L class kinds ps context m row (get_or starts row 0) code
-    code-ahead = record { given = w.given; room = w.code_room; begins = w.begun row behind-first w.within row_started }
+    code-ahead = record { given = w.given; bytes = w.bytes; room = w.code_room; begins = w.begun row behind-first w.within row_started }
 
 -- a code that is not too long, as it is held
 pub code-held : {c : List ℕ} {r : ℕ} {bytes : List ℕ} → CodeTaken c r bytes → code_most ≤ length bytes → r ≤ code_most → take r bytes ≡ c

@@ -3,6 +3,7 @@
 ghost use Rattle.read.specs.inner.Admitting.{Admissible, AdmitsAs, Copyable, IndexCopied};
 
 use crate::census::{Uncounted, count_codes};
+use crate::codes::Accepted;
 use crate::decide::Decision;
 use form::limits::Limits;
 use index::refusal::Refusal;
@@ -28,18 +29,15 @@ pub(crate) fn admit(
     let mut new_codes = [0u8; CODES * PLACE];
     let mut new_counts = [0u32; CODES + 1];
     copy_index(codes, counts, &mut new_codes, &mut new_counts);
-    let results = count_codes(
+    let accepted = Accepted {
         class,
         kinds,
         starts,
-        decision.context,
         limits,
-        decision.separators,
-        decision.segments,
+        decision,
         message,
-        &mut new_codes,
-        &mut new_counts,
-    )?;
+    };
+    let results = count_codes(&accepted, &mut new_codes, &mut new_counts)?;
     let tallied = tally.with_message(decision.segments, results);
     if !tallied.fits {
         return Err(Uncounted {

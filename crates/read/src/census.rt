@@ -3,10 +3,8 @@ ghost use Rattle.std.specs.Prelude.{◌≡◌};
 ghost use Rattle.index.specs.Index.{entries_in};
 ghost use Rattle.read.specs.inner.Census.{carried_in, carried_by, lower_of, Countable, CensusOf, RowAhead, RowCounted};
 
-use crate::codes::take_code;
+use crate::codes::{Accepted, take_code};
 use form::kind::Kind;
-use form::limits::Limits;
-use form::separators::Separators;
 use index::CODE;
 use index::adding::add;
 use index::refusal::Refusal;
@@ -38,37 +36,22 @@ fn lower(earlier: Option<u8>, number: u8) -> Option<u8>
 
 // One row more: where it is a result that has a code, the code is added. One that is too long is refused at once, since no number is lower (50).
 fn count_row(
-    class: &[u8; 256],
-    kinds: &[u8],
-    starts: &[usize],
-    context: u8,
-    limits: Limits,
-    separators: Separators,
-    message: &[u8],
+    accepted: &Accepted,
     row: usize,
     census: Census,
     code: &mut [u8],
     codes: &mut [u8],
     counts: &mut [u32],
 ) -> Result<Census, Uncounted>
-    requires { RowAhead limits class.now kinds.now starts.now separators context message.now row census code.old }
-    ensures { RowCounted (carried_by limits separators message.now row) row census codes.old counts.old
+    requires { RowAhead accepted.now.limits accepted.now.class.now accepted.now.kinds.now accepted.now.starts.now accepted.now.decision.separators
+        accepted.now.decision.context accepted.now.message.now row census code.old }
+    ensures { RowCounted (carried_by accepted.now.limits accepted.now.decision.separators accepted.now.message.now row) row census codes.old counts.old
         result codes.new counts.new }
 {
-    if kinds[row] != Kind::OBX {
+    if accepted.kinds[row] != Kind::OBX {
         return Ok(census);
     }
-    let length = take_code(
-        class,
-        kinds,
-        context,
-        limits,
-        separators,
-        message,
-        row,
-        starts[row],
-        code,
-    );
+    let length = take_code(accepted, row, code);
     if length == 0 {
         return Ok(census);
     }
@@ -86,19 +69,13 @@ fn count_row(
 
 // All rows in their order. A full index (51) or a full count (52) is refused once all are seen, since one of them may be refused with 50.
 pub(crate) fn count_codes(
-    class: &[u8; 256],
-    kinds: &[u8],
-    starts: &[usize],
-    context: u8,
-    limits: Limits,
-    separators: Separators,
-    rows: usize,
-    message: &[u8],
+    accepted: &Accepted,
     codes: &mut [u8],
     counts: &mut [u32],
 ) -> Result<usize, Uncounted>
-    requires { Countable limits class.now kinds.now starts.now separators context message.now rows codes.old counts.old }
-    ensures { CensusOf (carried_in limits separators message.now) (entries_in codes.old counts.old)
+    requires { Countable accepted.now.limits accepted.now.class.now accepted.now.kinds.now accepted.now.starts.now accepted.now.decision.separators
+        accepted.now.decision.context accepted.now.message.now accepted.now.decision.segments codes.old counts.old }
+    ensures { CensusOf (carried_in accepted.now.limits accepted.now.decision.separators accepted.now.message.now) (entries_in codes.old counts.old)
         result codes.new counts.new }
 {
     let mut code = [0u8; CODE];
@@ -106,11 +83,8 @@ pub(crate) fn count_codes(
         refused: None,
         results: 0,
     };
-    for row in 0..rows {
-        census = count_row(
-            class, kinds, starts, context, limits, separators, message, row, census, &mut code,
-            codes, counts,
-        )?;
+    for row in 0..accepted.decision.segments {
+        census = count_row(accepted, row, census, &mut code, codes, counts)?;
     }
     match census.refused {
         Some(number) => Err(Uncounted { number, place: 0 }),

@@ -1,12 +1,12 @@
 // The analysis code of a segment (X2): 10.4.1 in its first repetition, gathered from the lines that the segment takes.
-ghost use Rattle.std.specs.Prelude.{true, false, ◌≡◌, ◌+◌, ◌-◌, ◌≤◌, ◌<◌, eqb, length, drop};
+ghost use Rattle.std.specs.Prelude.{true, false, ◌≡◌, ◌+◌, ◌-◌, ◌≤◌, ◌<◌, eqb, length, get_or, drop};
 ghost use Rattle.index.specs.Index.{code_most};
 ghost use Rattle.read.specs.inner.Scanning.{plain_run};
 ghost use Rattle.read.specs.inner.Coding.{Skips, FieldsSkipped, kept, TakesLine, LineTaken, CodeAhead, CodeTaken, code_of_row};
 
+use crate::decide::Decision;
 use crate::start::text_from;
 use form::limits::Limits;
-use form::separators::Separators;
 use index::CODE;
 use line::finder::low_end;
 use table::class::index;
@@ -18,6 +18,17 @@ pub struct Taken {
     pub left: usize,
     pub length: usize,
     pub at: usize,
+}
+
+// A message that was decided on, with what deciding noted of it: the classes of its bytes, and of each segment its kind and where it begins.
+#[derive(Clone, Copy)]
+pub struct Accepted<'a> {
+    pub class: &'a [u8; 256],
+    pub kinds: &'a [u8],
+    pub starts: &'a [usize],
+    pub limits: Limits,
+    pub decision: Decision,
+    pub message: &'a [u8],
 }
 
 // How far a line brings the code: it is whole, with so many bytes, or it may go on behind the line, which ends at `at`.
@@ -119,35 +130,26 @@ fn fields_left(left: usize, sort: u8) -> usize
     if sort == 1 { left - 1 } else { left }
 }
 
-// The code of the segment that begins at `start`: how many bytes it has, of which the first 22 are kept; 0 where it is absent or empty. `limits` and
-// `row` are there for the contract alone, which names the segment by them.
-pub(crate) fn take_code(
-    class: &[u8; 256],
-    kinds: &[u8],
-    context: u8,
-    limits: Limits,
-    separators: Separators,
-    message: &[u8],
-    row: usize,
-    start: usize,
-    code: &mut [u8],
-) -> usize
-    requires { CodeAhead limits class.now kinds.now separators context message.now row start code.old }
-    ensures { CodeTaken (code_of_row limits separators message.now row) result code.new }
+// The code of a segment by its row: how many bytes it has, of which the first 22 are kept; 0 where it is absent or empty.
+pub(crate) fn take_code(accepted: &Accepted, row: usize, code: &mut [u8]) -> usize
+    requires { CodeAhead accepted.now.limits accepted.now.class.now accepted.now.kinds.now accepted.now.decision.separators accepted.now.decision.context
+        accepted.now.message.now row (get_or accepted.now.starts.now row 0) code.old × (row < length accepted.now.starts.now) }
+    ensures { CodeTaken (code_of_row accepted.now.limits accepted.now.decision.separators accepted.now.message.now row) result code.new }
 {
+    let message = accepted.message;
     let mut taken = Taken {
         left: 4,
         length: 0,
-        at: start,
+        at: accepted.starts[row],
     };
     // kept (plainer): where the next line begins is known only once this one was looked at
     loop {
-        match take_from_line(class, message, taken, code) {
+        match take_from_line(accepted.class, message, taken, code) {
             Reached::Whole(length) => return length,
             Reached::Open(open) => taken = open,
         }
         let at = low_end(message, taken.at + 1);
-        let from = text_from(message, at, separators.field);
+        let from = text_from(message, at, accepted.decision.separators.field);
         if from == at {
             return taken.length;
         }

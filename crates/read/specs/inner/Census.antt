@@ -20,6 +20,7 @@ carried_in L ps message = map (code_carried ps) (segments_in L ps message)
 -- what counting asks: an accepted message of so many segments, whose kinds and starts are noted, and a sound index
 pub record Countable (L : Limits) (class kinds starts : List ℕ) (ps : Separators) (context : ℕ) (message : List ℕ) (rows : ℕ) (codes counts : List ℕ) : Type 0 where
   pub given : Fillable L class kinds ps context message
+  pub bytes : (i : ℕ) → get_or message i 0 < 256
   pub begun : Started L ps message rows starts
   pub rows_are : rows ≡ length (segments_in L ps message)
   pub room : rows ≤ length starts
@@ -45,6 +46,7 @@ carried_by L ps message row = code_carried ps (get_or (segments_in L ps message)
 -- what counting one row asks: it is one of the message's
 pub record RowAhead (L : Limits) (class kinds starts : List ℕ) (ps : Separators) (context : ℕ) (message : List ℕ) (row : ℕ) (census : Census) (code : List ℕ) : Type 0 where
   pub given : Fillable L class kinds ps context message
+  pub bytes : (i : ℕ) → get_or message i 0 < 256
   pub begun : Started L ps message (length (segments_in L ps message)) starts
   pub within : row < length (segments_in L ps message)
   pub room : length (segments_in L ps message) ≤ length starts

@@ -88,6 +88,7 @@ pub data LineTaken (class message : List ℕ) (taken : Taken) (code : List ℕ) 
 -- what taking a segment's code asks: a message that was accepted, in which the segment of the number `row` begins at `start`
 pub record CodeAhead (L : Limits) (class kinds : List ℕ) (ps : Separators) (context : ℕ) (message : List ℕ) (row start : ℕ) (code : List ℕ) : Type 0 where
   pub given : Fillable L class kinds ps context message
+  pub bytes : (i : ℕ) → get_or message i 0 < 256
   pub room : code_most ≤ length code
   pub begins : BeginsAt L ps message row start
 

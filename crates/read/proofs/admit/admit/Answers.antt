@@ -24,6 +24,7 @@ count_codes-requires c =
     let pre = c.requires in
     record {
       given = pre.accepts.fillable;
+      bytes = λ i. omega (arith, c.type_inv.message i);
       begun = pre.accepts.begun;
       rows_are = pre.accepts.segments;
       room = pre.room;

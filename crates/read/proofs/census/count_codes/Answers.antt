@@ -15,15 +15,15 @@ use Rattle.read.proofs.census.count_codes.Goals.{In-loop-row}
 
 -- the message's segments
 abbrev segments_of : In-loop-row → List (List ℕ)
-segments_of c = segments_in c.args.limits c.args.separators c.args.message.now
+segments_of c = segments_in c.args.accepted.now.limits c.args.accepted.now.decision.separators c.args.accepted.now.message.now
 
 -- a row that is left is one of the message's
 row-left : (c : In-loop-row) → c.loop-row.row < length (segments_of c)
 row-left c = omega (arith, c.loop-row-test.true, c.requires.rows_are)
 
-row_listed : (c : In-loop-row) → c.loop-row.row < length (map (code_carried c.args.separators) (segments_of c))
+row_listed : (c : In-loop-row) → c.loop-row.row < length (map (code_carried c.args.accepted.now.decision.separators) (segments_of c))
 row_listed c =
-    omega (arith, row-left c, carried_many c.args.limits c.args.separators c.args.message.now)
+    omega (arith, row-left c, carried_many c.args.accepted.now.limits c.args.accepted.now.decision.separators c.args.accepted.now.message.now)
 
 pub loop-row-init : goal.loop-row-init
 loop-row-init c = (rows_begin c.requires.sound (λ i. omega (arith, c.type_inv.counts i)), refl, refl, refl)
@@ -33,7 +33,8 @@ count_row-requires c =
     let pre = c.requires in
     record {
       given = pre.given;
-      begun = subst (λ (n : ℕ). Started c.args.limits c.args.separators c.args.message.now n c.args.starts.now) pre.rows_are pre.begun;
+      bytes = pre.bytes;
+      begun = subst (λ (n : ℕ). Started c.args.accepted.now.limits c.args.accepted.now.decision.separators c.args.accepted.now.message.now n c.args.accepted.now.starts.now) pre.rows_are pre.begun;
       within = row-left (goal.at.count_row-requires c).In-loop-row;
       room = omega (arith, pre.room, pre.rows_are);
       few = few-results c.loop-row.invariant.0;
@@ -55,7 +56,7 @@ loop-row-preserved c = (
 )
 
 pub returns-in-Some : goal.returns-in-Some
-returns-in-Some c = rows-refused c.loop-row.invariant.0 (omega (arith, carried_many c.args.limits c.args.separators c.args.message.now, c.requires.rows_are, c.loop-row-test.false)) c.in-Some.is
+returns-in-Some c = rows-refused c.loop-row.invariant.0 (omega (arith, carried_many c.args.accepted.now.limits c.args.accepted.now.decision.separators c.args.accepted.now.message.now, c.requires.rows_are, c.loop-row-test.false)) c.in-Some.is
 
 pub returns-in-None : goal.returns-in-None
-returns-in-None c = rows-done c.loop-row.invariant.0 (omega (arith, carried_many c.args.limits c.args.separators c.args.message.now, c.requires.rows_are, c.loop-row-test.false)) c.in-None.is
+returns-in-None c = rows-done c.loop-row.invariant.0 (omega (arith, carried_many c.args.accepted.now.limits c.args.accepted.now.decision.separators c.args.accepted.now.message.now, c.requires.rows_are, c.loop-row-test.false)) c.in-None.is

@@ -11,12 +11,12 @@ use Rattle.read.proofs.codes.take_code.Goals.{At-loop-length}
 -- where a turn begins a line is about to be looked at
 abbrev CodeHere : At-loop-length → Type 0
 CodeHere c =
-    AtCode c.args.limits c.args.class.now c.args.kinds.now c.args.separators c.args.context c.args.message.now c.args.row (length c.args.code.now) c.loop-length.taken.at c.loop-length.taken.left
+    AtCode c.args.accepted.now.limits c.args.accepted.now.class.now c.args.accepted.now.kinds.now c.args.accepted.now.decision.separators c.args.accepted.now.decision.context c.args.accepted.now.message.now c.args.row (length c.args.code.now) c.loop-length.taken.at c.loop-length.taken.left
     c.loop-length.taken.length c.loop-length.code
 
 code_here : (c : At-loop-length) → CodeHere c
 code_here c =
-    c.loop-length.invariant _ (code-begins c.requires (bytes-known c.args.message.now c.type_inv.message))
+    c.loop-length.invariant _ (code-begins c.requires.0 (bytes-known c.args.accepted.now.message.now (λ i. omega (arith, c.requires.0.bytes i))))
 
 pub loop-length-init : goal.loop-length-init
 loop-length-init c = λ L w. w
