@@ -80,7 +80,7 @@ impl Survey {
         let name = self.name;
         let mut next = self;
         next.separators = self.separators + separators;
-        next.name = gather(name, field, message, from, end);
+        next.name = gather(name, field, &message[from..end]);
         next
     }
 
