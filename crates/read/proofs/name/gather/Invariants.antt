@@ -4,4 +4,4 @@ use Rattle.read.proofs.Naming.{Gathering}
 use Rattle.read.proofs.name.gather.Given as goal
 
 abbrev pub invariant-loop-b : goal.invariant-loop-b
-invariant-loop-b l = Gathering l.field l.b-items l.fn.name (record { left = l.left; letters = l.letters }) l.b-index
+invariant-loop-b l = Gathering l.field l.bytes l.fn.name (record { left = l.left; letters = l.letters }) l.b-index
