@@ -5,6 +5,7 @@ use mathlib.Core.List.{List}
 use mathlib.Core.Path.{◌≡◌, refl, sym, ap, ap₂, ◌∙◌}
 use Prim.Native.Nat.{ℕ, suc, ◌+◌, ◌*◌, ◌≤◌, ◌<◌}
 use native.Mathlib.Omega.{arith}
+use Rattle.std.specs.Prelude.{Result, Ok, Err}
 use lib.Dec.{eqb}
 use lib.ListN.{length, take}
 use lib.Seq.{sets}
@@ -15,20 +16,19 @@ use Rattle.table.specs.Rows.{Table}
 use Rattle.index.specs.declared.tally.Tally.{Tally}
 use Rattle.index.specs.declared.tally.Tallied.{Tallied}
 use Rattle.index.specs.Refusals.{long_code, full_index, full_count}
-use Rattle.index.specs.Index.{Entry, codes_most, place_size, named_in, entries_in, rises, sound_index, codes_put, counts_put}
+use Rattle.index.specs.Index.{Entry, codes_most, place_size, named_in, entries_in, roomy, rises, sound_index, codes_put, counts_put}
 use Rattle.index.specs.Adding.{added_all, too_many, too_large}
 use Rattle.index.specs.Tallying.{with_message, tally_too_large, tallied}
 use Rattle.index.proofs.Sizes.{Roomy, roomy_parts}
 use Rattle.index.proofs.Entries.{length-entries, entries-sized, entries-put, roomy-put}
 use Rattle.index.proofs.Putting.{put-codes, put-counts}
 use Rattle.index.proofs.Halved.{sound-roomy, sound-rises}
-use Rattle.read.specs.declared.admit.Admitted.{Admitted}
-use Rattle.read.specs.declared.census.Census.{Census}
+use Rattle.read.specs.declared.refused.Refused.{Refused}
 use Rattle.read.specs.declared.decide.Decision.{Decision}
 use Rattle.read.specs.Codes.{codes_counted, first_long}
-use Rattle.read.specs.Counting.{turned, counted, counted_or, tally_left, front_left}
-use Rattle.read.specs.inner.Census.{carried_in, census_number, CensusOf}
-use Rattle.read.specs.inner.Admitting.{admission, turned_number, turned_place, AdmitsAs}
+use Rattle.read.specs.Counting.{turned, counted, counted_or, front_left}
+use Rattle.read.specs.inner.Census.{carried_in, census_number, CensusOf, uncounted, all_counted}
+use Rattle.read.specs.inner.Admitting.{admission, admitted, AdmitsAs, Copyable, IndexCopied}
 
 -- an index copied to the front of buffers of its size is the same index
 pub record Copied (codes counts new_codes new_counts : List ℕ) : Type 0 where
@@ -39,17 +39,26 @@ module _ {codes counts : List ℕ} (sound : sound_index codes counts ≡ true) w
   pub index_room : Roomy codes counts
   index_room = roomy_parts codes counts (sound-roomy codes counts sound)
 
-  pub index_copied : (empty-codes empty-counts : List ℕ) {new_codes new_counts : List ℕ} {named : ℕ} → codes_most * place_size ≤ length empty-codes
-      → codes_most < length empty-counts → named ≡ named_in counts → new_codes ≡ sets empty-codes 0 (take (named * place_size) codes)
-      → new_counts ≡ sets empty-counts 0 (take (named + 1) counts) → Copied codes counts new_codes new_counts
+  pub index_copyable : (empty-codes empty-counts : List ℕ) → codes_most * place_size ≤ length empty-codes → codes_most < length empty-counts
+      → Copyable codes counts empty-codes empty-counts
+  index_copyable empty-codes empty-counts codes-room counts-room =
+      record {
+        codes_there = omega (arith, index_room.few_named, index_room.codes_room);
+        counts_there = omega (arith, index_room.few_named, index_room.counts_room);
+        codes_fit = omega (arith, index_room.few_named);
+        counts_fit = omega (arith, index_room.few_named);
+      }
+
+  pub index_copied : (empty-codes empty-counts : List ℕ) {new_codes new_counts : List ℕ} → codes_most * place_size ≤ length empty-codes
+      → codes_most < length empty-counts → IndexCopied codes counts empty-codes empty-counts new_codes new_counts → Copied codes counts new_codes new_counts
   unfolding sound_index
-  index_copied empty-codes empty-counts {named = named} codes-room counts-room is codes_are_lem counts_are_lem =
+  index_copied empty-codes empty-counts codes-room counts-room is =
       let es : List Entry = entries_in codes counts in
       let room = sound-roomy codes counts sound in
       let sized = entries-sized codes counts room in
       let few : length es ≤ codes_most = omega (arith, length-entries codes counts, index_room.few_named) in
-      let c = codes_are_lem ∙ ap (λ (n : ℕ). sets empty-codes 0 (take (n * place_size) codes)) is ∙ ap (sets empty-codes 0) (sym (put-codes codes counts room)) in
-      let n = counts_are_lem ∙ ap (λ (k : ℕ). sets empty-counts 0 (take k counts)) (let one : named + 1 ≡ suc (named_in counts) = omega (arith, is) in one)
+      let c = is.codes_are ∙ ap (sets empty-codes 0) (sym (put-codes codes counts room)) in
+      let n = is.counts_are ∙ ap (λ (k : ℕ). sets empty-counts 0 (take k counts)) (let one : named_in counts + 1 ≡ suc (named_in counts) = omega arith in one)
       ∙ ap (sets empty-counts 0) (sym (put-counts codes counts room)) in
       let put = entries-put es empty-codes empty-counts sized few codes-room counts-room in
       record {
@@ -141,59 +150,85 @@ module _ (L : Limits) (d : Decision) (tally : Tally) (m codes counts : List ℕ)
 
   -- refused
   admits_turned : {number place : ℕ} → ((t : Table) → admission L d tally m codes counts t ≡ turned number place)
-      → {a : Admitted} → a ≡ record { number = number; place = place; tally = tally } → AdmitsAs L d tally m codes counts a codes counts
-  unfolding turned_number turned_place tally_left front_left
-  admits_turned h {a} is =
+      → AdmitsAs L d tally m codes counts (Err (record { number = number; place = place })) codes counts
+  unfolding admitted front_left
+  admits_turned h =
       record {
-        number = λ t. ap (λ (a : Admitted). a.number) is ∙ sym (ap turned_number (h t));
-        place = λ t. ap (λ (a : Admitted). a.place) is ∙ sym (ap turned_place (h t));
-        tally_is = λ t. ap (λ (a : Admitted). a.tally) is ∙ sym (ap (tally_left tally) (h t));
+        answer = λ t. sym (ap admitted (h t));
         codes_are = λ t. sym (ap (front_left codes_put codes) (h t));
         counts_are = λ t. sym (ap (front_left counts_put counts) (h t));
       }
 
-  module _ {new_codes new_counts new-codes' new-counts' : List ℕ} {r : Census} (copy : Copied codes counts new_codes new_counts)
-      (census : CensusOf (carried_in L d.separators m) (entries_in new_codes new_counts) r new-codes' new-counts') where
-    number_is : r.number ≡ census_number (carried_in L d.separators m) E
-    number_is = census.number ∙ ap (λ (es : List Entry). census_number (carried_in L d.separators m) (added_all (codes_counted (carried_in L d.separators m)) es)) copy.entries
+  entries_copied : {X : Type 0} (f : List Entry → X) {new_codes new_counts : List ℕ} → Copied codes counts new_codes new_counts
+      → f (added_all (codes_counted (carried_in L d.separators m)) (entries_in new_codes new_counts)) ≡ f E
+  entries_copied f copy = ap (λ (es : List Entry). f (added_all (codes_counted (carried_in L d.separators m)) es)) copy.entries
 
-    pub admits_none : (r.number ≡ 0 → ⊥) → {a : Admitted} → a ≡ record { number = r.number; place = r.place; tally = tally }
-        → AdmitsAs L d tally m codes counts a codes counts
-    admits_none h =
+  module _ {new_codes new_counts new-codes' new-counts' : List ℕ} (copy : Copied codes counts new_codes new_counts) where
+    pub admits_none : {u : Refused} → CensusOf (carried_in L d.separators m) (entries_in new_codes new_counts) (Err u) new-codes' new-counts'
+        → AdmitsAs L d tally m codes counts (Err u) codes counts
+    admits_none (all_counted none is room entries) = cc
+    admits_none {u} (uncounted some is) =
+        let cs = carried_in L d.separators m in
+        let number : census_number cs (added_all (codes_counted cs) (entries_in new_codes new_counts)) ≡ census_number cs E = entries_copied (census_number cs) copy in
+        let same : u ≡ record { number = census_number cs (added_all (codes_counted cs) (entries_in new_codes new_counts)); place = first_long cs } = cc in
         admits_turned
-        (λ t. census_turns (carried_in L d.separators m) t E T (λ z. h (number_is ∙ z)) ∙ ap₂ turned (sym number_is) (sym census.place))
+        (λ t. census_turns cs t E T (λ z. some (number ∙ z))
+        ∙ ap₂ turned (sym number ∙ sym (ap (λ (v : Refused). v.number) same)) (sym (ap (λ (v : Refused). v.place) same)))
 
-    module _ (none : r.number ≡ 0) {tried : Tallied} (is : tried ≡ tallied tally d.segments r.results) where
-      tried_is : tried ≡ tallied tally d.segments (length (codes_counted (carried_in L d.separators m)))
-      tried_is = is ∙ ap (tallied tally d.segments) (census.results none)
+    module _ {results : ℕ} (census : CensusOf (carried_in L d.separators m) (entries_in new_codes new_counts) (Ok results) new-codes' new-counts') where
+      -- what is known of a message that is counted
+      record Known : Type 0 where
+        none : census_number (carried_in L d.separators m) E ≡ 0
+        results_are : results ≡ length (codes_counted (carried_in L d.separators m))
+        room : roomy new-codes' new-counts' ≡ true
+        entries : entries_in new-codes' new-counts' ≡ E
 
-      pub admits_no_more : tried.fits ≡ false → {a : Admitted} → a ≡ record { number = full_count; place = 0; tally = tally }
-          → AdmitsAs L d tally m codes counts a codes counts
-      admits_no_more h =
-          admits_turned (λ t. tally_turns (carried_in L d.separators m) t E T (sym number_is ∙ none) (tally_full tally d.segments _ tried_is h))
+      known : Known
+      known = by census
+        where
+          by : CensusOf (carried_in L d.separators m) (entries_in new_codes new_counts) (Ok results) new-codes' new-counts' → Known
+          by (uncounted some is) = cc
+          by (all_counted none is room entries) =
+              record {
+                none = sym (entries_copied (census_number (carried_in L d.separators m)) copy) ∙ none;
+                results_are = cc;
+                room = room;
+                entries = entries ∙ entries_copied (λ (es : List Entry). es) copy;
+              }
 
-      pub new_room : Roomy new-codes' new-counts'
-      new_room = roomy_parts new-codes' new-counts' (census.room_is none)
-
-      pub admits : tried.fits ≡ true → {more : ℕ} {codes' counts' : List ℕ} → more ≡ named_in new-counts'
-          → codes' ≡ sets codes 0 (take (more * place_size) new-codes') → counts' ≡ sets counts 0 (take (more + 1) new-counts')
-          → AdmitsAs L d tally m codes counts (record { number = 0; place = 0; tally = tried.tally }) codes' counts'
-      unfolding turned_number turned_place tally_left front_left
-      admits h {more} {codes'} {counts'} named codes_are_lem counts_are_lem =
-          let o : (t : Table) → admission L d tally m codes counts t ≡ counted t E T
-          = λ t. all-counted (carried_in L d.separators m) t E T (sym number_is ∙ none) (tally-fits tally d.segments _ tried_is h) in
-          let there : entries_in new-codes' new-counts' ≡ E
-          = census.entries none ∙ ap (added_all (codes_counted (carried_in L d.separators m))) copy.entries in
-          let c : codes' ≡ sets codes 0 (codes_put E)
-          = codes_are_lem ∙ ap (λ (n : ℕ). sets codes 0 (take (n * place_size) new-codes')) named
-          ∙ ap (sets codes 0) (sym (put-codes new-codes' new-counts' (census.room_is none)) ∙ ap codes_put there) in
-          let n : counts' ≡ sets counts 0 (counts_put E)
-          = counts_are_lem ∙ ap (λ (k : ℕ). sets counts 0 (take k new-counts')) (let one : more + 1 ≡ suc (named_in new-counts') = omega (arith, named) in one)
-          ∙ ap (sets counts 0) (sym (put-counts new-codes' new-counts' (census.room_is none)) ∙ ap counts_put there) in
+      pub copied_back : sound_index codes counts ≡ true → Copyable new-codes' new-counts' codes counts
+      copied_back sound =
+          let new = roomy_parts new-codes' new-counts' known.room in
+          let index = index_room sound in
           record {
-            number = λ t. sym (ap turned_number (o t));
-            place = λ t. sym (ap turned_place (o t));
-            tally_is = λ t. tally_is_lem tally d.segments _ tried_is h ∙ sym (ap (tally_left tally) (o t));
-            codes_are = λ t. c ∙ sym (ap (front_left codes_put codes) (o t));
-            counts_are = λ t. n ∙ sym (ap (front_left counts_put counts) (o t));
+            codes_there = omega (arith, new.few_named, new.codes_room);
+            counts_there = omega (arith, new.few_named, new.counts_room);
+            codes_fit = omega (arith, new.few_named, index.codes_room);
+            counts_fit = omega (arith, new.few_named, index.counts_room);
           }
+
+      module _ {tried : Tallied} (is : tried ≡ tallied tally d.segments results) where
+        tried_is : tried ≡ tallied tally d.segments (length (codes_counted (carried_in L d.separators m)))
+        tried_is = is ∙ ap (tallied tally d.segments) known.results_are
+
+        pub admits_no_more : tried.fits ≡ false → AdmitsAs L d tally m codes counts (Err (record { number = full_count; place = 0 })) codes counts
+        admits_no_more h =
+            admits_turned (λ t. tally_turns (carried_in L d.separators m) t E T known.none (tally_full tally d.segments _ tried_is h))
+
+        pub admits : tried.fits ≡ true → {codes' counts' : List ℕ} → IndexCopied new-codes' new-counts' codes counts codes' counts'
+            → AdmitsAs L d tally m codes counts (Ok tried.tally) codes' counts'
+        unfolding admitted front_left
+        admits h {codes'} {counts'} copied =
+            let o : (t : Table) → admission L d tally m codes counts t ≡ counted t E T
+            = λ t. all-counted (carried_in L d.separators m) t E T known.none (tally-fits tally d.segments _ tried_is h) in
+            let c : codes' ≡ sets codes 0 (codes_put E)
+            = copied.codes_are ∙ ap (sets codes 0) (sym (put-codes new-codes' new-counts' known.room) ∙ ap codes_put known.entries) in
+            let n : counts' ≡ sets counts 0 (counts_put E)
+            = copied.counts_are
+            ∙ ap (λ (k : ℕ). sets counts 0 (take k new-counts')) (let one : named_in new-counts' + 1 ≡ suc (named_in new-counts') = omega arith in one)
+            ∙ ap (sets counts 0) (sym (put-counts new-codes' new-counts' known.room) ∙ ap counts_put known.entries) in
+            record {
+              answer = λ t. ap {B = Result Tally Refused} (λ (y : Tally). Ok y) (tally_is_lem tally d.segments _ tried_is h) ∙ sym (ap admitted (o t));
+              codes_are = λ t. c ∙ sym (ap (front_left codes_put codes) (o t));
+              counts_are = λ t. n ∙ sym (ap (front_left counts_put counts) (o t));
+            }

@@ -1,11 +1,12 @@
 -- Putting all entries of a list at the front of a buffer: what is left of them, put from here on, gives what all of them give.
 -- Assumes nothing.
-use mathlib.Core.List.{List, [], ◌∷◌}
+use mathlib.Core.List.{List, [], ◌∷◌, ◌++◌}
 use mathlib.Core.Path.{◌≡◌, refl, sym, ap, ◌∙◌}
 use Prim.Native.Nat.{ℕ, ◌+◌, ◌<◌, ◌≤◌}
 use native.Mathlib.Omega.{arith}
-use lib.ListN.{length, get_or, set, drop, length-set}
-use lib.Seq.{sets, drop-length}
+use lib.ListN.{length, get_or, set, take, drop, length-set}
+use lib.Seq.{sets, drop-length, length-take-le}
+use Rattle.laws.proofs.Slices.{front_copied}
 use Rattle.laws.proofs.Parts.{left_cons}
 use Rattle.laws.proofs.Stores.{sets_first}
 
@@ -35,3 +36,9 @@ module _ {buffer entries stands : List ℕ} {at : ℕ} (u : Putting buffer entri
       let all : at ≡ length entries = omega (arith, u.within) in
       let none : drop at entries ≡ [] = rw all (drop-length entries) in
       sym (ap (λ (s : List ℕ). sets stands at s) none) ∙ u.rest
+
+-- the first n entries of a list, copied to the front of a buffer
+pub front_taken : (entries buffer : List ℕ) (n : ℕ) → n ≤ length entries → n ≤ length buffer → take n entries ++ drop n buffer ≡ sets buffer 0 (take n entries)
+front_taken entries buffer n there room =
+    let many = length-take-le n entries there in
+    ap (λ (k : ℕ). take n entries ++ drop k buffer) (sym many) ∙ front_copied buffer (take n entries) (omega (arith, many))

@@ -19,6 +19,7 @@ use Rattle.line.specs.Finding.{low_run}
 use Rattle.line.specs.inner.Left.{LeftAt}
 use Rattle.table.specs.inner.Classes.{class_table}
 use Rattle.index.specs.Index.{code_most}
+use Rattle.read.specs.declared.codes.Reached.TheVariants.{Whole, Open}
 use Rattle.read.specs.declared.codes.Taken.{Taken}
 use Rattle.read.specs.Codes.{leaf_code}
 use Rattle.read.specs.Sound.{segments_in}
@@ -26,7 +27,7 @@ use Rattle.read.specs.inner.Filling.{Fillable}
 use Rattle.read.specs.inner.Scanning.{run}
 use Rattle.read.specs.inner.Segments.{line_text, line_after}
 use Rattle.read.specs.inner.Starting.{text_from}
-use Rattle.read.specs.inner.Coding.{Gathered, nothing_gathered, gather_bytes, HeldCode, TakesLine, LineTaken, CodeAhead, CodeTaken, code_of_row}
+use Rattle.read.specs.inner.Coding.{Gathered, nothing_gathered, gather_bytes, HeldCode, TakesLine, LineHeld, LineTaken, made_whole, left_open, CodeAhead, CodeTaken, code_of_row}
 use Rattle.read.proofs.Coding.{Shown, gathered-ends, gathered-whole, gather_append}
 use Rattle.read.proofs.LeftLaws.{addendum-within, segment-within, addendum-left, segment-left}
 use Rattle.read.proofs.Noting.{nothing-carried}
@@ -92,7 +93,7 @@ code-begins {start = start} w bytes =
 
 module _ {L : Limits} {class kinds : List ℕ} {ps : Separators} {context : ℕ} {m : List ℕ} {row long from left size : ℕ} {code : List ℕ}
     (w : AtCode L class kinds ps context m row long from left size code) where
-  pub line-takes : TakesLine class m from left size code
+  pub line-takes : TakesLine class m (record { left = left; length = size; at = from }) code
   line-takes = record { room = w.room; inside = w.inside; begun = w.begun; short = w.short }
 
   -- the segment with the text of this line, and all of it
@@ -115,72 +116,91 @@ module _ {L : Limits} {class kinds : List ℕ} {ps : Separators} {context : ℕ}
       all_append w.shown
       (subst⁻¹ (λ (c : List ℕ). All (Shown ps) (line_text c m from)) w.given.classes (run-shown ps (drop from m) (all_drop from w.bytes)))
 
-  -- once the line is looked at
-  module _ {r : Taken} {code' : List ℕ} (t : LineTaken class m from left size code r code') where
-    held_so_far : HeldCode (gather_bytes (class_table ps) nothing_gathered so_far) r.left r.length code'
-    held_so_far =
-        subst (λ (c : List ℕ). HeldCode (gather_bytes c nothing_gathered so_far) r.left r.length code') w.given.classes
-        (subst⁻¹ (λ (g : Gathered). HeldCode g r.left r.length code') (gather_append class nothing_gathered w.last (line_text class m from))
-        (t.gathered (gather_bytes class nothing_gathered w.last) w.held))
+  -- the line that is looked at
+  abbrev looked : Taken
+  looked = record { left = left; length = size; at = from }
 
-    -- the code is whole
-    pub code-whole : r.left ≡ 0 → CodeTaken (code_of_row L ps m row) r.length code'
-    code-whole e =
-        code-taken held_so_far
-        (gathered-whole ps so_far shown_so_far rest (sym held_so_far.left_is ∙ e) ∙ ap (leaf_code ps) (sym segment_is))
+  held_so_far : {left' size' : ℕ} {code' : List ℕ} → LineHeld class m looked code left' size' code'
+      → HeldCode (gather_bytes (class_table ps) nothing_gathered so_far) left' size' code'
+  held_so_far {left'} {size'} {code'} t =
+      subst (λ (c : List ℕ). HeldCode (gather_bytes c nothing_gathered so_far) left' size' code') w.given.classes
+      (subst⁻¹ (λ (g : Gathered). HeldCode g left' size' code') (gather_append class nothing_gathered w.last (line_text class m from))
+      (t (gather_bytes class nothing_gathered w.last) w.held))
 
-    module _ (open-yet : r.left ≡ 0 → ⊥) {at : ℕ} (low : at ≡ r.at + 1 + low_run (drop (r.at + 1) m)) {on : ℕ} (e : on ≡ text_from ps.field at (drop at m)) where
-      at_next : at ≡ next
-      at_next = low ∙ ap (λ (n : ℕ). n + 1 + low_run (drop (n + 1) m)) (t.ends open-yet)
+  -- the code is whole
+  pub code-whole : {n : ℕ} {code' : List ℕ} → LineTaken class m looked code (Whole n) code' → CodeTaken (code_of_row L ps m row) n code'
+  code-whole {n} {code'} (made_whole size is t) =
+      let same : n ≡ size = cc in
+      let held = held_so_far t in
+      subst⁻¹ (λ (k : ℕ). CodeTaken (code_of_row L ps m row) k code') same
+      (code-taken held (gathered-whole ps so_far shown_so_far rest (sym held.left_is) ∙ ap (leaf_code ps) (sym segment_is)))
+  code-whole (left_open t is held ends begun short) = cc
 
-      -- the segment ends
-      pub code-ends : on ≡ at → CodeTaken (code_of_row L ps m row) r.length code'
-      code-ends here =
-          let other = begins-segment ps.field at (drop at m) (sym e ∙ here) in
-          let nothing : rest ≡ []
-          = subst (λ (n : ℕ). carried ps.field (texts (walk_from L n (drop n m))) ≡ []) at_next
-          (nothing-carried L ps.field m at other (omega (arith, w.given.fits.lawful.header))) in
-          code-taken held_so_far
-          (gathered-ends ps so_far shown_so_far
-          ∙ ap (leaf_code ps) (sym (segment_is ∙ ap (λ (t : List ℕ). so_far ++ t) nothing ∙ append-nil so_far)))
+  -- it may go on behind the line
+  pub record OpenYet (r : Taken) (code' : List ℕ) : Type 0 where
+    pub held : HeldCode (gather_bytes (class_table ps) nothing_gathered so_far) r.left r.length code'
+    pub ends : r.at ≡ from + run class (drop from m)
+    pub begun : 1 ≤ r.left
+    pub short : r.length ≤ r.at
 
-      -- an addendum goes on with it
-      module _ (past : on ≡ at → ⊥) where
-        not_at : text_from ps.field at (drop at m) ≡ at → ⊥
-        not_at z = past (e ∙ z)
+  pub code-open : {r : Taken} {code' : List ℕ} → LineTaken class m looked code (Open r) code' → OpenYet r code'
+  code-open (made_whole size is t) = cc
+  code-open {r} {code'} (left_open t is held ends begun short) =
+      let same : t ≡ r = cc in
+      subst (λ (k : Taken). OpenYet k code') same (record { held = held_so_far held; ends = ends; begun = begun; short = short })
 
-        on_is : on ≡ at + 2
-        on_is = e ∙ carried_from ps.field at (drop at m) not_at
+  module _ {r : Taken} {code' : List ℕ} (o : OpenYet r code') {at : ℕ} (low : at ≡ r.at + 1 + low_run (drop (r.at + 1) m)) {on : ℕ} (e : on ≡ text_from ps.field at (drop at m)) where
+    at_next : at ≡ next
+    at_next = low ∙ ap (λ (n : ℕ). n + 1 + low_run (drop (n + 1) m)) o.ends
 
-        within : at < length m
-        within = ⊎_elim (λ less. less) (λ none_left. absurd (not_at (from_past ps.field at m none_left))) (less_or_not at (length m))
+    -- the segment ends
+    pub code-ends : on ≡ at → CodeTaken (code_of_row L ps m row) r.length code'
+    code-ends here =
+        let other = begins-segment ps.field at (drop at m) (sym e ∙ here) in
+        let nothing : rest ≡ []
+        = subst (λ (n : ℕ). carried ps.field (texts (walk_from L n (drop n m))) ≡ []) at_next
+        (nothing-carried L ps.field m at other (omega (arith, w.given.fits.lawful.header))) in
+        code-taken o.held
+        (gathered-ends ps so_far shown_so_far
+        ∙ ap (leaf_code ps) (sym (segment_is ∙ ap (λ (t : List ℕ). so_far ++ t) nothing ∙ append-nil so_far)))
 
-        here_left : LeftAt L ps.field m w.done so_far at
-        here_left = subst⁻¹ (LeftAt L ps.field m w.done so_far) at_next w.lines
+    -- an addendum goes on with it
+    module _ (past : on ≡ at → ⊥) where
+      not_at : text_from ps.field at (drop at m) ≡ at → ⊥
+      not_at z = past (e ∙ z)
 
-        pub code_on : length code' ≡ length code → AtCode L class kinds ps context m row long on r.left r.length code'
-        code_on same =
-            let s = readable w.given w.bytes in
-            let marked = carries_on ps.field at (drop at m) not_at in
-            record {
-              given = w.given;
-              bytes = w.bytes;
-              done = w.done;
-              last = so_far;
-              number = w.number;
-              lines =
-                  subst⁻¹ (λ (j : ℕ). LeftAt L ps.field m w.done (so_far ++ line_text class m j) (line_after class m j)) on_is
-                  (addendum-left s at here_left within marked);
-              inside = subst⁻¹ (λ (j : ℕ). j + run class (drop j m) < length m) on_is (addendum-within s at here_left within marked);
-              shown = shown_so_far;
-              held =
-                  subst⁻¹ (λ (c : List ℕ). HeldCode (gather_bytes c nothing_gathered so_far) r.left r.length code') w.given.classes held_so_far;
-              begun = ⊎_elim (λ (z : r.left < 1). absurd (open-yet (omega arith))) (λ (l : 1 ≤ r.left). l) (less_or_not r.left 1);
-              short = omega (arith, t.short, at_next, on_is);
-              room = omega (arith, w.room, same);
-              same = same ∙ w.same;
-            }
+      on_is : on ≡ at + 2
+      on_is = e ∙ carried_from ps.field at (drop at m) not_at
 
-        -- further on in the message
-        pub further : from < on
-        further = omega (arith, at_next, on_is)
+      within : at < length m
+      within = ⊎_elim (λ less. less) (λ none_left. absurd (not_at (from_past ps.field at m none_left))) (less_or_not at (length m))
+
+      here_left : LeftAt L ps.field m w.done so_far at
+      here_left = subst⁻¹ (LeftAt L ps.field m w.done so_far) at_next w.lines
+
+      pub code_on : length code' ≡ length code → AtCode L class kinds ps context m row long on r.left r.length code'
+      code_on same =
+          let s = readable w.given w.bytes in
+          let marked = carries_on ps.field at (drop at m) not_at in
+          record {
+            given = w.given;
+            bytes = w.bytes;
+            done = w.done;
+            last = so_far;
+            number = w.number;
+            lines =
+                subst⁻¹ (λ (j : ℕ). LeftAt L ps.field m w.done (so_far ++ line_text class m j) (line_after class m j)) on_is
+                (addendum-left s at here_left within marked);
+            inside = subst⁻¹ (λ (j : ℕ). j + run class (drop j m) < length m) on_is (addendum-within s at here_left within marked);
+            shown = shown_so_far;
+            held =
+                subst⁻¹ (λ (c : List ℕ). HeldCode (gather_bytes c nothing_gathered so_far) r.left r.length code') w.given.classes o.held;
+            begun = o.begun;
+            short = omega (arith, o.short, low, on_is);
+            room = omega (arith, w.room, same);
+            same = same ∙ w.same;
+          }
+
+      -- further on in the message
+      pub further : from < on
+      further = omega (arith, at_next, on_is)

@@ -4,11 +4,13 @@ use mathlib.Core.Bool.{Bool, true, false}
 use mathlib.Core.List.{List}
 use mathlib.Core.Path.{◌≡◌, sym, ap, ap₂, ◌∙◌, subst}
 use Prim.Native.Nat.{ℕ, suc, ◌≤◌, ◌<◌}
+use Rattle.std.specs.Prelude.{min, Option, None, Some}
+use Rattle.std.specs.Option.{unwrap_or}
 use native.Mathlib.Omega.{arith}
 use lib.Dec.{leb}
 use lib.ListN.{length}
 use lib.Seq.{sets}
-use borrow.Author.Tests.{eq-eqb, ne_eqb, lt-ltb, le-ltb, ltb-true, leb-true, leb-false}
+use borrow.Author.Tests.{eq-eqb, ne_eqb, lt-ltb, ltb-true, leb-true, leb-false}
 use Rattle.laws.proofs.Tests.{Tested, passed, failed, tested, and_both}
 use Rattle.index.specs.Refusals.{full_index, full_count}
 use Rattle.index.specs.Index.{Entry, codes_most, counts_past, entries_in, roomy, sound_index, rises, names, count_of, codes_put, counts_put}
@@ -23,22 +25,29 @@ use Rattle.index.proofs.Halved.{sound-roomy, sound-rises, addition-sound}
 use Rattle.read.specs.inner.Census.{lower_of}
 
 -- the lower of two numbers, step by step
-module _ (n o : ℕ) where
-  pub lower_second : n ≡ 0 → lower_of n o ≡ o
-  unfolding lower_of
-  lower_second h = rw (eq-eqb n 0 h, lower_of)
+pub lower_first : (n : Option ℕ) {o : ℕ} → o ≡ 0 → lower_of n o ≡ n
+unfolding lower_of
+lower_first None {o} k = rw (eq-eqb o 0 k, lower_of)
+lower_first (Some n) {o} k = rw (eq-eqb o 0 k, lower_of)
 
-  pub lower_first : (n ≡ 0 → ⊥) → o ≡ 0 → lower_of n o ≡ n
-  unfolding lower_of
-  lower_first h k = rw (ne_eqb n 0 h, eq-eqb o 0 k, lower_of)
+pub lower_second : {n : Option ℕ} {o : ℕ} → n ≡ None → (o ≡ 0 → ⊥) → lower_of n o ≡ Some o
+unfolding lower_of
+lower_second {o = o} h k = rw (h, ne_eqb o 0 k, lower_of)
 
-  pub lower_less : (n ≡ 0 → ⊥) → (o ≡ 0 → ⊥) → o < n → lower_of n o ≡ o
-  unfolding lower_of
-  lower_less h k l = rw (ne_eqb n 0 h, ne_eqb o 0 k, lt-ltb o n l, lower_of)
+pub lower_both : {n : Option ℕ} {m o : ℕ} → n ≡ Some m → (o ≡ 0 → ⊥) → lower_of n o ≡ Some (min m o)
+unfolding lower_of
+lower_both {o = o} h k = rw (h, ne_eqb o 0 k, lower_of)
 
-  pub lower_not : (n ≡ 0 → ⊥) → (o ≡ 0 → ⊥) → n ≤ o → lower_of n o ≡ n
-  unfolding lower_of
-  lower_not h k l = rw (ne_eqb n 0 h, ne_eqb o 0 k, le-ltb o n l, lower_of)
+lower_less : {n : Option ℕ} {m o k : ℕ} → n ≡ Some m → (o ≡ 0 → ⊥) → o ≡ k → o ≤ m → lower_of n o ≡ Some k
+lower_less {m = m} {o = o} h z e l = lower_both h z ∙ ap {B = Option ℕ} (λ (i : ℕ). Some i) (let least : min m o ≡ o = omega (arith, l) in least ∙ e)
+
+lower_not : {n : Option ℕ} {m o : ℕ} → n ≡ Some m → (o ≡ 0 → ⊥) → m ≤ o → lower_of n o ≡ Some m
+lower_not {m = m} {o = o} h z l = lower_both h z ∙ ap {B = Option ℕ} (λ (i : ℕ). Some i) (let least : min m o ≡ m = omega (arith, l) in least)
+
+pub lower_some : (n : Option ℕ) {o : ℕ} → (o ≡ 0 → ⊥) → lower_of n o ≡ Some (min (unwrap_or n o) o)
+unfolding lower_of
+lower_some None {o} k = rw (ne_eqb o 0 k, lower_of) (ap {B = Option ℕ} (λ (i : ℕ). Some i) (let least : o ≡ min o o = omega arith in least))
+lower_some (Some n) {o} k = rw (ne_eqb o 0 k, lower_of)
 
 -- what comes of adding a code to a sound index: its count is full, the index is full, or it has the code once more
 data Tried (c codes counts : List ℕ) (r : ℕ) (codes' counts' : List ℕ) : Type 0 where
@@ -119,17 +128,17 @@ module _ (c codes counts : List ℕ) (sound : sound_index codes counts ≡ true)
 
 -- the entries E that codes give, and what stands in the buffers, by the number so far: just those, with no count too large; the same places, and a
 -- count too large (52); or entries that are too many (51)
-pub data CountState (E : List Entry) (number : ℕ) (codes counts : List ℕ) : Type 0 where
-  held : number ≡ 0 → entries_in codes counts ≡ E → too_large E ≡ false → CountState E number codes counts
-  large : number ≡ full_count → place_list (entries_in codes counts) ≡ place_list E → too_large E ≡ true → CountState E number codes counts
-  many : number ≡ full_index → too_many E ≡ true → CountState E number codes counts
+pub data CountState (E : List Entry) (number : Option ℕ) (codes counts : List ℕ) : Type 0 where
+  held : number ≡ None → entries_in codes counts ≡ E → too_large E ≡ false → CountState E number codes counts
+  large : number ≡ Some full_count → place_list (entries_in codes counts) ≡ place_list E → too_large E ≡ true → CountState E number codes counts
+  many : number ≡ Some full_index → too_many E ≡ true → CountState E number codes counts
 
 -- one code more: the buffers stay an index, and the number is the lower one
-pub record CountedOn (E : List Entry) (number : ℕ) (codes counts : List ℕ) : Type 0 where
+pub record CountedOn (E : List Entry) (number : Option ℕ) (codes counts : List ℕ) : Type 0 where
   pub sound : sound_index codes counts ≡ true
   pub state : CountState E number codes counts
 
-module _ (E : List Entry) (rise-E : rises E ≡ true) (n : ℕ) (c codes counts : List ℕ) (w : CountedOn E n codes counts) (fit : Fit c)
+module _ (E : List Entry) (rise-E : rises E ≡ true) (n : Option ℕ) (c codes counts : List ℕ) (w : CountedOn E n codes counts) (fit : Fit c)
     {r : ℕ} {codes' counts' : List ℕ} (adds : AddsAs c codes counts r codes' counts') where
   abbrev there : List Entry
   there = entries_in codes counts
@@ -146,12 +155,12 @@ module _ (E : List Entry) (rise-E : rises E ≡ true) (n : ℕ) (c codes counts 
   many_still : too_many E ≡ true → too_many (code_added c E) ≡ true
   many_still h = lt-ltb codes_most (length (code_added c E)) (omega (arith, ltb-true codes_most (length E) h, length_grows c E))
 
-  from-held : n ≡ 0 → there ≡ E → too_large E ≡ false → Tried c codes counts r codes' counts' → CountedOn (code_added c E) (lower_of n r) codes' counts'
+  from-held : n ≡ None → there ≡ E → too_large E ≡ false → Tried c codes counts r codes' counts' → CountedOn (code_added c E) (lower_of n r) codes' counts'
   from-held z e small (full_count_lem u f k cs ns) =
       record {
         sound = sound-kept cs ns;
         state =
-            large (lower_second n r z ∙ k)
+            large (lower_second z (λ y. omega (arith, k, y)) ∙ ap {B = Option ℕ} (λ (i : ℕ). Some i) k)
             (ap place_list (ap₂ entries_in cs ns ∙ e) ∙ sym (named-places c E rise-E (ap (λ (es : List Entry). names es c) (sym e) ∙ u)))
             (large-named c E rise-E (ap (λ (es : List Entry). names es c) (sym e) ∙ u) (subst (λ (es : List Entry). counts_past ≤ suc (count_of es c)) e f));
       }
@@ -159,14 +168,14 @@ module _ (E : List Entry) (rise-E : rises E ≡ true) (n : ℕ) (c codes counts 
       record {
         sound = sound-kept cs ns;
         state =
-            many (lower_second n r z ∙ k)
+            many (lower_second z (λ y. omega (arith, k, y)) ∙ ap {B = Option ℕ} (λ (i : ℕ). Some i) k)
             (many_new (ap (λ (es : List Entry). names es c) (sym e) ∙ u) (subst (λ (es : List Entry). codes_most ≤ length es) e f));
       }
   from-held z e small (once_more u f k cs ns) =
       record {
         sound = put-sound c codes counts w.sound fit adds (few-named c codes counts w.sound fit adds u) cs ns;
         state =
-            held (lower_second n r z ∙ k)
+            held (lower_first n k ∙ z)
             (put_entries c codes counts w.sound fit adds (few-named c codes counts w.sound fit adds u) cs ns ∙ ap (code_added c) e)
             (small_named c E rise-E (ap (λ (es : List Entry). names es c) (sym e) ∙ u) (subst (λ (es : List Entry). suc (count_of es c) < counts_past) e f) small);
       }
@@ -174,21 +183,18 @@ module _ (E : List Entry) (rise-E : rises E ≡ true) (n : ℕ) (c codes counts 
       record {
         sound = put-sound c codes counts w.sound fit adds (few_new c codes counts w.sound fit adds u f) cs ns;
         state =
-            held (lower_second n r z ∙ k)
+            held (lower_first n k ∙ z)
             (put_entries c codes counts w.sound fit adds (few_new c codes counts w.sound fit adds u f) cs ns ∙ ap (code_added c) e)
             (small_new c E (ap (λ (es : List Entry). names es c) (sym e) ∙ u) small);
       }
 
-  not_zero : n ≡ full_count → n ≡ 0 → ⊥
-  not_zero e z = omega (arith, e, z)
-
-  from-large : n ≡ full_count → place_list there ≡ place_list E → too_large E ≡ true → Tried c codes counts r codes' counts'
+  from-large : n ≡ Some full_count → place_list there ≡ place_list E → too_large E ≡ true → Tried c codes counts r codes' counts'
       → CountedOn (code_added c E) (lower_of n r) codes' counts'
   from-large z e big (full_count_lem u f k cs ns) =
       record {
         sound = sound-kept cs ns;
         state =
-            large (lower_not n r (not_zero z) (λ y. omega (arith, k, y)) (omega (arith, z, k)) ∙ z)
+            large (lower_not z (λ y. omega (arith, k, y)) (omega (arith, k)))
             (ap place_list (ap₂ entries_in cs ns) ∙ e ∙ sym (named-places c E rise-E (sym (same_names there E e c) ∙ u)))
             (large-added c E big);
       }
@@ -196,14 +202,14 @@ module _ (E : List Entry) (rise-E : rises E ≡ true) (n : ℕ) (c codes counts 
       record {
         sound = sound-kept cs ns;
         state =
-            many (lower_less n r (not_zero z) (λ y. omega (arith, k, y)) (omega (arith, z, k)) ∙ k)
+            many (lower_less z (λ y. omega (arith, k, y)) k (omega (arith, k)))
             (many_new (sym (same_names there E e c) ∙ u) (omega (arith, f, same_many there E e)));
       }
   from-large z e big (once_more u f k cs ns) =
       record {
         sound = put-sound c codes counts w.sound fit adds (few-named c codes counts w.sound fit adds u) cs ns;
         state =
-            large (lower_first n r (not_zero z) k ∙ z)
+            large (lower_first n k ∙ z)
             (ap place_list (put_entries c codes counts w.sound fit adds (few-named c codes counts w.sound fit adds u) cs ns) ∙ same-added there E e c)
             (large-added c E big);
       }
@@ -211,31 +217,31 @@ module _ (E : List Entry) (rise-E : rises E ≡ true) (n : ℕ) (c codes counts 
       record {
         sound = put-sound c codes counts w.sound fit adds (few_new c codes counts w.sound fit adds u f) cs ns;
         state =
-            large (lower_first n r (not_zero z) k ∙ z)
+            large (lower_first n k ∙ z)
             (ap place_list (put_entries c codes counts w.sound fit adds (few_new c codes counts w.sound fit adds u f) cs ns) ∙ same-added there E e c)
             (large-added c E big);
       }
 
-  from_many : n ≡ full_index → too_many E ≡ true → Tried c codes counts r codes' counts' → CountedOn (code_added c E) (lower_of n r) codes' counts'
+  from_many : n ≡ Some full_index → too_many E ≡ true → Tried c codes counts r codes' counts' → CountedOn (code_added c E) (lower_of n r) codes' counts'
   from_many z h (full_count_lem u f k cs ns) =
       record {
         sound = sound-kept cs ns;
-        state = many (lower_not n r (λ y. omega (arith, z, y)) (λ y. omega (arith, k, y)) (omega (arith, z, k)) ∙ z) (many_still h);
+        state = many (lower_not z (λ y. omega (arith, k, y)) (omega (arith, k))) (many_still h);
       }
   from_many z h (full_index_lem u f k cs ns) =
       record {
         sound = sound-kept cs ns;
-        state = many (lower_not n r (λ y. omega (arith, z, y)) (λ y. omega (arith, k, y)) (omega (arith, z, k)) ∙ z) (many_still h);
+        state = many (lower_not z (λ y. omega (arith, k, y)) (omega (arith, k))) (many_still h);
       }
   from_many z h (once_more u f k cs ns) =
       record {
         sound = put-sound c codes counts w.sound fit adds (few-named c codes counts w.sound fit adds u) cs ns;
-        state = many (lower_first n r (λ y. omega (arith, z, y)) k ∙ z) (many_still h);
+        state = many (lower_first n k ∙ z) (many_still h);
       }
   from_many z h (new u f k cs ns) =
       record {
         sound = put-sound c codes counts w.sound fit adds (few_new c codes counts w.sound fit adds u f) cs ns;
-        state = many (lower_first n r (λ y. omega (arith, z, y)) k ∙ z) (many_still h);
+        state = many (lower_first n k ∙ z) (many_still h);
       }
 
   pub counted_on : CountedOn (code_added c E) (lower_of n r) codes' counts'

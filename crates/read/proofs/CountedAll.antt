@@ -3,9 +3,10 @@
 use mathlib.Core.Bool.{Bool, true, false}
 use mathlib.Core.List.{List, [], ◌∷◌, ◌++◌, append-nil}
 use mathlib.Core.Logic.{⊎_elim}
-use mathlib.Core.Path.{◌≡◌, refl, sym, ap, ◌∙◌, subst, subst⁻¹}
+use mathlib.Core.Path.{◌≡◌, refl, sym, ap, ap₂, ◌∙◌, subst, subst⁻¹}
 use Prim.Native.Nat.{ℕ, zero, suc, ◌+◌, ◌≤◌, ◌<◌}
 use native.Mathlib.Omega.{arith}
+use Rattle.std.specs.Prelude.{None, Some, Result, Ok, Err}
 use lib.Dec.{eqb, ltb}
 use lib.ListN.{length, get_or, take, drop, length-append, length-map, take-append-drop}
 use lib.Seq.{take_all, take-suc, length-take-le}
@@ -27,9 +28,10 @@ use Rattle.index.proofs.SamePlaces.{same_many}
 use Rattle.index.proofs.AddedAll.{added_all-last, all-rises}
 use Rattle.index.proofs.Halved.{sound-roomy, sound-rises}
 use Rattle.read.specs.declared.census.Census.{Census}
+use Rattle.read.specs.declared.refused.Refused.{Refused}
 use Rattle.read.specs.Codes.{code_carried, codes_counted, first_long}
 use Rattle.read.specs.Sound.{segments_in}
-use Rattle.read.specs.inner.Census.{carried_in, carried_by, census_number, CensusOf, RowCounted, passed_over, long, tried}
+use Rattle.read.specs.inner.Census.{carried_in, carried_by, census_number, lower_of, CensusOf, uncounted, all_counted, RowCounted, passed_over, long, tried}
 use Rattle.read.proofs.CountState.{CountState, held, large, many, CountedOn, counted_on}
 
 -- what is present of some codes and one more
@@ -131,11 +133,10 @@ pub record RowsCounted (cs : List (List ℕ)) (es : List Entry) (row : ℕ) (cen
   pub fit : All Fit (codes_counted (take row cs))
   pub rise : rises es ≡ true
   pub results : census.results ≡ length (codes_counted (take row cs))
-  pub place : census.place ≡ 0
-  pub state : CountedOn (added_all (codes_counted (take row cs)) es) census.number codes counts
+  pub state : CountedOn (added_all (codes_counted (take row cs)) es) census.refused codes counts
 
 pub rows_begin : {cs : List (List ℕ)} {codes counts : List ℕ} → sound_index codes counts ≡ true → ((i : ℕ) → get_or counts i 0 < counts_past)
-    → RowsCounted cs (entries_in codes counts) 0 (record { number = 0; place = 0; results = 0 }) codes counts
+    → RowsCounted cs (entries_in codes counts) 0 (record { refused = None; results = 0 }) codes counts
 unfolding first_long first_from codes_counted added_all
 rows_begin {codes = codes} {counts = counts} sound small =
     record {
@@ -143,15 +144,8 @@ rows_begin {codes = codes} {counts = counts} sound small =
       fit = none;
       rise = sound-rises codes counts sound;
       results = refl;
-      place = refl;
       state = record { sound = sound; state = held refl refl (small_entries codes counts small) };
     }
-
--- the number of a state is not that of a code that is too long
-state_number : {E : List Entry} {n : ℕ} {codes counts : List ℕ} → CountState E n codes counts → n ≡ long_code → ⊥
-state_number (held e s t) z = omega (arith, e, z)
-state_number (large e s t) z = omega (arith, e, z)
-state_number (many e t) z = omega (arith, e, z)
 
 module _ {cs : List (List ℕ)} {es : List Entry} {row : ℕ} {census : Census} {codes counts : List ℕ} (w : RowsCounted cs es row census codes counts) where
   -- the results counted are no more than the rows
@@ -169,70 +163,61 @@ module _ {cs : List (List ℕ)} {es : List Entry} {row : ℕ} {census : Census} 
     next-present = ap codes_counted next_row ∙ present-append (take row cs) c
 
     -- one row more
-    pub rows_on : {r : Census} {codes' counts' : List ℕ} → RowCounted c row census codes counts r codes' counts' → (r.number ≡ long_code → ⊥)
-        → RowsCounted cs es (row + 1) r codes' counts'
-    rows_on {r} {codes'} {counts'} (passed_over none-there same-census same_codes same-counts) other =
+    pub rows_on : {q : Census} {codes' counts' : List ℕ} → RowCounted c row census codes counts (Ok q) codes' counts' → RowsCounted cs es (row + 1) q codes' counts'
+    rows_on {q} {codes'} {counts'} (passed_over none-there is same_codes same-counts) =
         let nothing : codes_counted (take (row + 1) cs) ≡ codes_counted (take row cs)
         = next-present ∙ ap (λ (t : List (List ℕ)). codes_counted (take row cs) ++ t) (present-none c none-there) ∙ append-nil (codes_counted (take row cs)) in
+        let same-census : q ≡ census = cc in
         record {
           none-long = ap first_long next_row ∙ not_long_here (take row cs) c w.none-long (omega arith);
           fit = subst⁻¹ (All Fit) nothing w.fit;
           rise = w.rise;
           results = ap (λ (x : Census). x.results) same-census ∙ w.results ∙ ap length (sym nothing);
-          place = ap (λ (x : Census). x.place) same-census ∙ w.place;
           state =
-              subst⁻¹ (λ (t : List (List ℕ)). CountedOn (added_all t es) r.number codes' counts') nothing
-              (subst⁻¹ (λ (x : Census). CountedOn (added_all (codes_counted (take row cs)) es) x.number codes' counts') same-census
-              (subst⁻¹ (λ (s : List ℕ). CountedOn (added_all (codes_counted (take row cs)) es) census.number s counts') same_codes
-              (subst⁻¹ (λ (s : List ℕ). CountedOn (added_all (codes_counted (take row cs)) es) census.number codes s) same-counts w.state)));
+              subst⁻¹ (λ (t : List (List ℕ)). CountedOn (added_all t es) q.refused codes' counts') nothing
+              (subst⁻¹ (λ (x : Census). CountedOn (added_all (codes_counted (take row cs)) es) x.refused codes' counts') same-census
+              (subst⁻¹ (λ (s : List ℕ). CountedOn (added_all (codes_counted (take row cs)) es) census.refused s counts') same_codes
+              (subst⁻¹ (λ (s : List ℕ). CountedOn (added_all (codes_counted (take row cs)) es) census.refused codes s) same-counts w.state)));
         }
-    rows_on (long too_long is) other = absurd (other (ap (λ (x : Census). x.number) is))
-    rows_on {r} {codes'} {counts'} (tried some short number adds is) other =
+    rows_on (long too_long is) = cc
+    rows_on {q} {codes'} {counts'} (tried some short number adds is) =
         let one : codes_counted (take (row + 1) cs) ≡ codes_counted (take row cs) ++ (c ∷ [])
         = next-present ∙ ap (λ (t : List (List ℕ)). codes_counted (take row cs) ++ t) (present-one c some) in
         let fits : Fit c = record { some = some; short = short } in
         let E : List Entry = added_all (codes_counted (take row cs)) es in
+        let more : q ≡ record { refused = lower_of census.refused number; results = census.results + 1 } = cc in
         record {
           none-long = ap first_long next_row ∙ not_long_here (take row cs) c w.none-long short;
           fit = subst⁻¹ (All Fit) one (all_append w.fit (also fits none));
           rise = w.rise;
           results =
-              ap (λ (x : Census). x.results) is ∙ ap (λ (n : ℕ). n + 1) w.results
+              ap (λ (x : Census). x.results) more ∙ ap (λ (n : ℕ). n + 1) w.results
               ∙ sym (ap length one ∙ length-append (codes_counted (take row cs)) (c ∷ []));
-          place = ap (λ (x : Census). x.place) is;
           state =
-              subst⁻¹ (λ (t : List Entry). CountedOn t r.number codes' counts') (ap (λ (t : List (List ℕ)). added_all t es) one ∙ added_all-last (codes_counted (take row cs)) c es)
-              (subst⁻¹ (λ (x : Census). CountedOn (code_added c E) x.number codes' counts') is
-              (counted_on E (all-rises (codes_counted (take row cs)) es w.fit w.rise) census.number c codes counts w.state fits adds));
+              subst⁻¹ (λ (t : List Entry). CountedOn t q.refused codes' counts') (ap (λ (t : List (List ℕ)). added_all t es) one ∙ added_all-last (codes_counted (take row cs)) c es)
+              (subst⁻¹ (λ (x : Census). CountedOn (code_added c E) x.refused codes' counts') more
+              (counted_on E (all-rises (codes_counted (take row cs)) es w.fit w.rise) census.refused c codes counts w.state fits adds));
         }
 
     -- a row whose code is too long
-    pub rows_long : {r : Census} {codes' counts' : List ℕ} → RowCounted c row census codes counts r codes' counts' → r.number ≡ long_code → CensusOf cs es r codes' counts'
-    rows_long (passed_over none-there same-census same_codes same-counts) h =
-        absurd (state_number w.state.state (sym (ap (λ (x : Census). x.number) same-census) ∙ h))
-    rows_long {r} (long too_long is) h =
+    pub rows_long : {u : Refused} {codes' counts' : List ℕ} → RowCounted c row census codes counts (Err u) codes' counts' → CensusOf cs es (Err u) codes' counts'
+    rows_long (passed_over none-there is same_codes same-counts) = cc
+    rows_long {u} (long too_long is) =
         let here : first_long (take (row + 1) cs) ≡ suc (length (take row cs)) = ap first_long next_row ∙ long_here (take row cs) c w.none-long too_long in
         let first : first_long cs ≡ first_long (take (row + 1) cs)
         = ap first_long (sym (take-append-drop (row + 1) cs)) ∙ stays (λ e. omega (arith, here, e)) in
-        record {
-          number = h ∙ sym (census_long cs (added_all (codes_counted cs) es) (λ e. omega (arith, first, here, e)));
-          place = ap (λ (x : Census). x.place) is ∙ sym (first ∙ here ∙ ap suc (length-take-le row cs (omega arith)) ∙ add_one_sym row);
-          results = λ z. absurd (let y : ⊥ = omega (arith, z, h) in y);
-          room_is = λ z. absurd (let y : ⊥ = omega (arith, z, h) in y);
-          entries = λ z. absurd (let y : ⊥ = omega (arith, z, h) in y);
-        }
+        let number = census_long cs (added_all (codes_counted cs) es) (λ e. omega (arith, first, here, e)) in
+        let place : row + 1 ≡ first_long cs = sym (first ∙ here ∙ ap suc (length-take-le row cs (omega arith)) ∙ add_one_sym row) in
+        let same : u ≡ record { number = long_code; place = row + 1 } = cc in
+        uncounted (λ z. let y : ⊥ = omega (arith, z, number) in y)
+        (ap {B = Result ℕ Refused} (λ (v : Refused). Err v) (same ∙ ap₂ {C = Refused} (λ (n k : ℕ). record { number = n; place = k }) (sym number) place))
       where
         stays : (first_long (take (row + 1) cs) ≡ 0 → ⊥) → first_long (take (row + 1) cs ++ drop (row + 1) cs) ≡ first_long (take (row + 1) cs)
         stays = long_stays_first (take (row + 1) cs) (drop (row + 1) cs)
 
         add_one_sym : (n : ℕ) → suc n ≡ n + 1
         add_one_sym n = omega arith
-    rows_long (tried some short number adds is) h =
-        absurd
-        (state_number
-        (counted_on (added_all (codes_counted (take row cs)) es) (all-rises (codes_counted (take row cs)) es w.fit w.rise) census.number c codes counts w.state
-        (record { some = some; short = short }) adds).state
-        (sym (ap (λ (x : Census). x.number) is) ∙ h))
+    rows_long (tried some short number adds is) = cc
 
   -- all rows
   module _ (past : length cs ≤ row) where
@@ -248,34 +233,36 @@ module _ {cs : List (List ℕ)} {es : List Entry} {row : ℕ} {census : Census} 
     few : length (entries_in codes counts) ≤ codes_most
     few = omega (arith, length-entries codes counts, (roomy_parts codes counts (sound-roomy codes counts w.state.sound)).few_named)
 
-    done_by : CountState E census.number codes counts → CensusOf cs es census codes counts
-    done_by (held z same small) =
-        record {
-          number = z ∙ sym (census_held cs E none-long_in (le-ltb codes_most (length E) (subst (λ (t : List Entry). length t ≤ codes_most) same few)) small);
-          place = w.place ∙ sym none-long_in;
-          results = λ o. w.results ∙ ap (λ (t : List (List ℕ)). length (codes_counted t)) all-taken;
-          room_is = λ o. sound-roomy codes counts w.state.sound;
-          entries = λ o. same;
-        }
-    done_by (large z same big) =
-        record {
-          number = z ∙ sym (census_large cs E none-long_in (le-ltb codes_most (length E) (omega (arith, few, same_many (entries_in codes counts) E same))) big);
-          place = w.place ∙ sym none-long_in;
-          results = λ o. absurd (let y : ⊥ = omega (arith, o, z) in y);
-          room_is = λ o. absurd (let y : ⊥ = omega (arith, o, z) in y);
-          entries = λ o. absurd (let y : ⊥ = omega (arith, o, z) in y);
-        }
-    done_by (many z h) =
-        record {
-          number = z ∙ sym (census_many cs E none-long_in h);
-          place = w.place ∙ sym none-long_in;
-          results = λ o. absurd (let y : ⊥ = omega (arith, o, z) in y);
-          room_is = λ o. absurd (let y : ⊥ = omega (arith, o, z) in y);
-          entries = λ o. absurd (let y : ⊥ = omega (arith, o, z) in y);
-        }
+    state_in : CountState E census.refused codes counts
+    state_in = subst (λ (t : List (List ℕ)). CountState (added_all (codes_counted t) es) census.refused codes counts) all-taken w.state.state
 
-    pub rows-done : CensusOf cs es census codes counts
-    rows-done = done_by (subst (λ (t : List (List ℕ)). CountState (added_all (codes_counted t) es) census.number codes counts) all-taken w.state.state)
+    pub rows-done : census.refused ≡ None → CensusOf cs es (Ok census.results) codes counts
+    rows-done n = by state_in
+      where
+        by : CountState E census.refused codes counts → CensusOf cs es (Ok census.results) codes counts
+        by (held z same small) =
+            all_counted (census_held cs E none-long_in (le-ltb codes_most (length E) (subst (λ (t : List Entry). length t ≤ codes_most) same few)) small)
+            (ap {B = Result ℕ Refused} (λ (k : ℕ). Ok k) (w.results ∙ ap (λ (t : List (List ℕ)). length (codes_counted t)) all-taken))
+            (sound-roomy codes counts w.state.sound) same
+        by (large z same big) = cc
+        by (many z h) = cc
+
+    pub rows-refused : {n : ℕ} → census.refused ≡ Some n → CensusOf cs es (Err (record { number = n; place = 0 })) codes counts
+    rows-refused {n} e = by state_in
+      where
+        -- by the number of the census
+        refused_by : {k : ℕ} → census.refused ≡ Some k → census_number cs E ≡ k → (k ≡ 0 → ⊥) → CensusOf cs es (Err (record { number = n; place = 0 })) codes counts
+        refused_by {k} z is some =
+            let same : n ≡ k = cc in
+            uncounted (λ y. some (sym is ∙ y))
+            (ap₂ {C = Result ℕ Refused} (λ (i j : ℕ). Err (record { number = i; place = j })) (same ∙ sym is) (sym none-long_in))
+
+        by : CountState E census.refused codes counts → CensusOf cs es (Err (record { number = n; place = 0 })) codes counts
+        by (held z same small) = cc
+        by (large z same big) =
+            refused_by z (census_large cs E none-long_in (le-ltb codes_most (length E) (omega (arith, few, same_many (entries_in codes counts) E same))) big)
+            (λ y. let f : ⊥ = omega (arith, y) in f)
+        by (many z h) = refused_by z (census_many cs E none-long_in h) (λ y. let f : ⊥ = omega (arith, y) in f)
 
 -- what the segment of a row carries is the row's code
 pub carried_at : (L : Limits) (ps : Separators) (m : List ℕ) (row : ℕ) → row < length (segments_in L ps m) → get_or (carried_in L ps m) row [] ≡ carried_by L ps m row
@@ -285,7 +272,7 @@ pub carried_many : (L : Limits) (ps : Separators) (m : List ℕ) → length (car
 carried_many L ps m = length-map (segments_in L ps m) (code_carried ps)
 
 -- so one row counted is one of the codes counted
-pub row-there : (L : Limits) (ps : Separators) (m : List ℕ) (row : ℕ) {census r : Census} {codes counts codes' counts' : List ℕ} → row < length (segments_in L ps m)
+pub row-there : (L : Limits) (ps : Separators) (m : List ℕ) (row : ℕ) {census : Census} {r : Result Census Refused} {codes counts codes' counts' : List ℕ} → row < length (segments_in L ps m)
     → RowCounted (carried_by L ps m row) row census codes counts r codes' counts' → RowCounted (get_or (carried_in L ps m) row []) row census codes counts r codes' counts'
 row-there L ps m row {census} {r} {codes} {counts} {codes'} {counts'} h w =
     subst⁻¹ (λ (c : List ℕ). RowCounted c row census codes counts r codes' counts') (carried_at L ps m row h) w

@@ -5,6 +5,7 @@ use mathlib.Core.Logic.{⊎_elim}
 use mathlib.Core.Path.{◌≡◌, sym, ap, ◌∙◌, subst}
 use Prim.Native.Nat.{ℕ, ◌+◌, ◌≤◌, ◌<◌}
 use native.Mathlib.Omega.{arith}
+use Rattle.std.specs.Prelude.{Option, Result, Ok}
 use lib.ListN.{length, get_or, take, drop, take-append-drop}
 use borrow.Author.Tests.{eq-eqb, ne_eqb}
 use Rattle.laws.specs.Tables.{values}
@@ -20,6 +21,7 @@ use Rattle.index.specs.Index.{code_most}
 use Rattle.index.specs.Adding.{AddsAs}
 use Rattle.index.proofs.Putting.{take-values}
 use Rattle.read.specs.declared.census.Census.{Census}
+use Rattle.read.specs.declared.refused.Refused.{Refused}
 use Rattle.read.specs.Codes.{counted_kind, leaf_code, code_carried}
 use Rattle.read.specs.Sound.{segments_in, SoundLines}
 use Rattle.read.specs.inner.Coding.{CodeAhead, CodeTaken, code_of_row}
@@ -83,7 +85,7 @@ module _ {L : Limits} {class kinds starts : List ℕ} {ps : Separators} {context
         (less_or_not row 1)
 
     pub code-ahead : CodeAhead L class kinds ps context m row (get_or starts row 0) code
-    code-ahead = record { given = w.given; room = w.code_room; begins = w.begun row behind-first w.within row_started }
+    code-ahead = record { given = w.given; bytes = w.bytes; room = w.code_room; begins = w.begun row behind-first w.within row_started }
 
 -- a code that is not too long, as it is held
 pub code-held : {c : List ℕ} {r : ℕ} {bytes : List ℕ} → CodeTaken c r bytes → code_most ≤ length bytes → r ≤ code_most → take r bytes ≡ c
@@ -96,9 +98,9 @@ code-held {c} {r} {bytes} t room short =
     ∙ values-entries c 0
 
 -- such a code, tried
-pub code-tried : {c s : List ℕ} {row : ℕ} {census : Census} {codes counts codes' counts' : List ℕ} {number r : ℕ} → s ≡ c → 1 ≤ length c → length c ≤ code_most
-    → AddsAs s codes counts number codes' counts' → r ≡ lower_of census.number number
-    → RowCounted c row census codes counts (record { number = r; place = 0; results = census.results + 1 }) codes' counts'
+pub code-tried : {c s : List ℕ} {row : ℕ} {census : Census} {codes counts codes' counts' : List ℕ} {number : ℕ} {r : Option ℕ} → s ≡ c → 1 ≤ length c → length c ≤ code_most
+    → AddsAs s codes counts number codes' counts' → r ≡ lower_of census.refused number
+    → RowCounted c row census codes counts (Ok (record { refused = r; results = census.results + 1 })) codes' counts'
 code-tried {census = census} {codes = codes} {counts = counts} {codes' = codes'} {counts' = counts'} {number = number} e some short adds is =
     tried some short number (subst (λ (t : List ℕ). AddsAs t codes counts number codes' counts') e adds)
-    (ap {B = Census} (λ (n : ℕ). record { number = n; place = 0; results = census.results + 1 }) is)
+    (ap {B = Result Census Refused} (λ (n : Option ℕ). Ok (record { refused = n; results = census.results + 1 })) is)

@@ -20,29 +20,33 @@ use Rattle.index.specs.Refusals.{long_code, full_index, full_count, no_index_num
 use Rattle.index.specs.Index.{Entry, entries_in, sound_index}
 use Rattle.index.specs.Adding.{added_all, too_many, too_large}
 use Rattle.index.specs.Tallying.{with_message, tally_too_large}
-use Rattle.read.specs.declared.admit.Admitted.{Admitted}
+use Rattle.read.specs.declared.refused.Refused.{Refused}
 use Rattle.read.specs.declared.decide.Decision.{Decision}
 use Rattle.read.specs.declared.indexed.Indexed.{Indexed}
-use Rattle.read.specs.declared.refused.Refused.{Refused}
 use Rattle.read.specs.Answering.{Gives, answer_of}
 use Rattle.read.specs.Codes.{codes_in, codes_counted, first_long}
 use Rattle.read.specs.Counting.{Counting, turned, counted, Ledger, counted_or, counting_of, counting, as_outcome, tally_left, front_left, Leaves, IndexedAs}
-use Rattle.read.specs.inner.Admitting.{Admissible, AdmitsAs, admission, indexed_by, turned_number, turned_place}
+use Rattle.read.specs.inner.Admitting.{Admissible, AdmitsAs, admission, admitted, indexed_by}
 use Rattle.read.specs.inner.Census.{carried_in}
-use Rattle.read.specs.inner.Deciding.{DecidesAs, answered}
+use Rattle.read.specs.inner.Deciding.{DecidesAs}
 use Rattle.read.specs.inner.Filling.{table_in}
 use Rattle.read.proofs.Answering.{gives_refusal, refuses-reading, accepts-table}
 
--- what is turned away is a refusal by its number and place, and leaves the tally
-pub turned_outcome : (o : Counting) → (turned_number o ≡ 0 → ⊥) → as_outcome o ≡ refused (turned_number o) (turned_place o)
-unfolding as_outcome turned_number turned_place
-turned_outcome (turned n p) h = refl
-turned_outcome (counted t es y) h = absurd (h refl)
+-- what is answered with a refusal is a refusal by its number and place, and leaves the tally; what is answered with a tally leaves that
+pub turned_outcome : (o : Counting) {u : Refused} → Err u ≡ admitted o → as_outcome o ≡ refused u.number u.place
+unfolding as_outcome admitted
+turned_outcome (turned n p) e = cc
+turned_outcome (counted t es y) e = cc
 
-pub turned-tally : (o : Counting) → (turned_number o ≡ 0 → ⊥) → (tally : Tally) → tally_left tally o ≡ tally
-unfolding tally_left turned_number
-turned-tally (turned n p) h tally = refl
-turned-tally (counted t es y) h tally = absurd (h refl)
+pub turned-tally : (o : Counting) {u : Refused} → Err u ≡ admitted o → (tally : Tally) → tally_left tally o ≡ tally
+unfolding tally_left admitted
+turned-tally (turned n p) e tally = refl
+turned-tally (counted t es y) e tally = cc
+
+counted-tally : (o : Counting) {y : Tally} → Ok y ≡ admitted o → (tally : Tally) → tally_left tally o ≡ y
+unfolding tally_left admitted
+counted-tally (turned n p) e tally = cc
+counted-tally (counted t es y) e tally = cc
 
 -- tests 50 to 52 by what each comes to; and what is not turned away is the table
 abbrev judged : Bool → Bool → Bool → (place : ℕ) → Table → List Entry → Tally → Counting
@@ -56,15 +60,15 @@ judged short many large place t entries tally =
       | false ↦ turned long_code place
     ]
 
-judged_outcome : (short many large : Bool) (place : ℕ) (t : Table) (es : List Entry) (tally : Tally)
-    → turned_number (judged short many large place t es tally) ≡ 0 → as_outcome (judged short many large place t es tally) ≡ accepted t
-unfolding as_outcome turned_number
-judged_outcome true true large place t es tally e = let z : ⊥ = omega (arith, e) in absurd z
-judged_outcome true false true place t es tally e = let z : ⊥ = omega (arith, e) in absurd z
+judged_outcome : (short many large : Bool) (place : ℕ) (t : Table) (es : List Entry) (tally : Tally) {y : Tally}
+    → Ok y ≡ admitted (judged short many large place t es tally) → as_outcome (judged short many large place t es tally) ≡ accepted t
+unfolding as_outcome admitted
+judged_outcome true true large place t es tally e = cc
+judged_outcome true false true place t es tally e = cc
 judged_outcome true false false place t es tally e = refl
-judged_outcome false many large place t es tally e = let z : ⊥ = omega (arith, e) in absurd z
+judged_outcome false many large place t es tally e = cc
 
-pub counted_outcome : (cs : List (List ℕ)) (t : Table) (es : List Entry) (tally : Tally) → turned_number (counted_or cs t es tally) ≡ 0
+pub counted_outcome : (cs : List (List ℕ)) (t : Table) (es : List Entry) (tally : Tally) {y : Tally} → Ok y ≡ admitted (counted_or cs t es tally)
     → as_outcome (counted_or cs t es tally) ≡ accepted t
 unfolding counted_or
 counted_outcome cs t es tally =
@@ -159,34 +163,31 @@ module _ {L : Limits} {message class kinds starts : List ℕ} {r : Result Decisi
 
 -- what counting gives, filed in a table: a message that is turned away leaves all as it was, one that is counted the table
 module _ {L : Limits} {d : Decision} {tally : Tally} {message codes counts : List ℕ} (t : Table) (text segments leaves : List ℕ)
-    {r : Admitted} {codes' counts' : List ℕ} (admits : AdmitsAs L d tally message codes counts r codes' counts') where
-  pub turned_left : (r.number ≡ 0 → ⊥) → {e : Refused} → e ≡ record { number = r.number; place = r.place }
+    {codes' counts' : List ℕ} where
+  pub turned_left : {e : Refused} → AdmitsAs L d tally message codes counts (Err e) codes' counts'
       → Leaves (admission L d tally message codes counts t) tally text segments leaves codes counts (indexed_by tally (Err e)) text segments leaves codes' counts'
   unfolding answer_of
-  turned_left h is =
+  turned_left admits =
       let o = admission L d tally message codes counts t in
-      let h' : turned_number o ≡ 0 → ⊥ = λ e. h (admits.number t ∙ e) in
       record {
-        given =
-            gives_refusal (turned_outcome o h')
-            (ap (λ (q : Refused). answered (Err q)) is ∙ (λ i. answer_of (refused (admits.number t i) (admits.place t i))));
-        tally_is = sym (turned-tally o h' tally);
+        given = gives_refusal (turned_outcome o (admits.answer t)) refl;
+        tally_is = sym (turned-tally o (admits.answer t) tally);
         codes_are = admits.codes_are t;
         counts_are = admits.counts_are t;
       }
 
-  pub counted-left : r.number ≡ 0 → {q : Indexed} {text' segments' leaves' : List ℕ}
-      → Gives (accepted t) text segments leaves q.answer text' segments' leaves' → q.tally ≡ r.tally
+  pub counted-left : {y : Tally} → AdmitsAs L d tally message codes counts (Ok y) codes' counts' → {q : Indexed} {text' segments' leaves' : List ℕ}
+      → Gives (accepted t) text segments leaves q.answer text' segments' leaves' → q.tally ≡ y
       → Leaves (admission L d tally message codes counts t) tally text segments leaves codes counts q text' segments' leaves' codes' counts'
-  counted-left e {q} {text'} {segments'} {leaves'} g u =
+  counted-left admits {q} {text'} {segments'} {leaves'} g u =
       let cs = carried_in L d.separators message in
       record {
         given =
             subst⁻¹ (λ (o : Outcome). Gives o text segments leaves q.answer text' segments' leaves')
             (counted_outcome cs t (added_all (codes_counted cs) (entries_in codes counts)) (with_message tally d.segments (length (codes_counted cs)))
-            (sym (admits.number t) ∙ e))
+            (admits.answer t))
             g;
-        tally_is = u ∙ admits.tally_is t;
+        tally_is = u ∙ sym (counted-tally (admission L d tally message codes counts t) (admits.answer t) tally);
         codes_are = admits.codes_are t;
         counts_are = admits.counts_are t;
       }

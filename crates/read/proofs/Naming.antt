@@ -7,13 +7,13 @@ use mathlib.Core.Logic.{⊎_elim}
 use mathlib.Core.Path.{◌≡◌, refl, sym, ap, ◌∙◌}
 use Prim.Native.Nat.{ℕ, zero, suc, ◌+◌, ◌-◌, ◌≤◌, ◌<◌}
 use native.Mathlib.Omega.{arith}
-use lib.ListN.{length, get_or, take, drop}
+use lib.ListN.{length, get_or, drop, drop_of_length-le}
 use borrow.Author.Tests.{eq-eqb, ne_eqb, lt-ltb, le-ltb}
 use Rattle.laws.specs.Lists.{same, first_from}
 use Rattle.laws.specs.Texts.{bytes}
 use Rattle.laws.proofs.Cases.{equal_or_not}
 use Rattle.laws.proofs.Lists.{every}
-use Rattle.laws.proofs.Parts.{part_cons, part_none}
+use Rattle.laws.proofs.Parts.{left_cons}
 use Rattle.form.specs.declared.letters.Letters.{Letters}
 use Rattle.form.specs.declared.separators.Separators.{Separators}
 use Rattle.form.specs.Names.{kind_names, context_names, number_among, kind_of, context_of}
@@ -78,28 +78,26 @@ module _ (field : ℕ) where
   bytes-append l [] y = refl
   bytes-append l (b ∷ x) y = bytes-append (with_byte field l b) x y
 
--- the loop over the part of s from `from` up to `end`: what is left from i on, gathered on, gives the whole
-pub record Gathering (field : ℕ) (s : List ℕ) (end : ℕ) (first : Name) (from : ℕ) (l : Name) (i : ℕ) : Type 0 where
-  pub within : i ≤ end
-  pub whole : with_bytes field l (take (end - i) (drop i s)) ≡ with_bytes field first (take (end - from) (drop from s))
+-- the loop over the bytes s: what is left from the byte i on, gathered on, gives the whole
+pub record Gathering (field : ℕ) (s : List ℕ) (first l : Name) (i : ℕ) : Type 0 where
+  pub whole : with_bytes field l (drop i s) ≡ with_bytes field first s
 
-module _ {field : ℕ} {s : List ℕ} {end : ℕ} {first : Name} {from : ℕ} {l : Name} {i : ℕ} (w : Gathering field s end first from l i) where
-  pub gathering_turn : {k : Name} → i < end → end ≤ length s → with_byte field l (get_or s i 0) ≡ k → Gathering field s end first from k (i + 1)
-  gathering_turn h room is =
+module _ {field : ℕ} {s : List ℕ} {first l : Name} {i : ℕ} (w : Gathering field s first l i) where
+  pub gathering_turn : {k : Name} → i < length s → with_byte field l (get_or s i 0) ≡ k → Gathering field s first k (i + 1)
+  gathering_turn h is =
       record {
-        within = omega arith;
         whole =
-            ap (λ (m : Name). with_bytes field m (take (end - (i + 1)) (drop (i + 1) s))) (sym is)
-            ∙ sym (bytes-more field l (get_or s i 0) (take (end - (i + 1)) (drop (i + 1) s)))
-            ∙ ap (with_bytes field l) (sym (part_cons s i end 0 h room))
+            ap (λ (m : Name). with_bytes field m (drop (i + 1) s)) (sym is)
+            ∙ sym (bytes-more field l (get_or s i 0) (drop (i + 1) s))
+            ∙ ap (with_bytes field l) (sym (left_cons s i 0 h))
             ∙ w.whole;
       }
 
-  pub gathering_done : end ≤ i → l ≡ with_bytes field first (take (end - from) (drop from s))
-  gathering_done h = sym (bytes-none field l) ∙ ap (with_bytes field l) (sym (part_none s i end h)) ∙ w.whole
+  pub gathering_done : length s ≤ i → l ≡ with_bytes field first s
+  gathering_done h = sym (bytes-none field l) ∙ ap (with_bytes field l) (sym (drop_of_length-le s h)) ∙ w.whole
 
-  pub gathering_settled : l.left ≡ 0 → l ≡ with_bytes field first (take (end - from) (drop from s))
-  gathering_settled h = sym (bytes_settled field l (take (end - i) (drop i s)) h) ∙ w.whole
+  pub gathering_settled : l.left ≡ 0 → l ≡ with_bytes field first s
+  gathering_settled h = sym (bytes_settled field l (drop i s) h) ∙ w.whole
 
 -- what has come of the field, as long as others are to end before it and from then on
 module _ (l : Name) where

@@ -94,12 +94,10 @@ module _ (f : ℕ) where
             from-segment (drop at m)
             (ap (addendum f) (two h) ∙ addendum_unseparated (get_or m at 0) (get_or m (at + 1) 0) (drop (at + 1 + 1) m) k)
 
-        pub from-addendum : at + 1 < length m → get_or m at 0 ≡ letter_a → get_or m (at + 1) 0 ≡ f → text_from f at (drop at m) ≡ at + 1 + 1
+        pub from-addendum : at + 1 < length m → get_or m at 0 ≡ letter_a → get_or m (at + 1) 0 ≡ f → text_from f at (drop at m) ≡ at + 2
         from-addendum h a k =
-            let past : at + 2 ≡ at + 1 + 1 = omega arith in
             from-line (drop at m)
             (ap (addendum f) (two h) ∙ addendum_both (get_or m at 0) (get_or m (at + 1) 0) (drop (at + 1 + 1) m) a k)
-            ∙ past
 
 -- the seven bytes of a sound header are text
 pub header_seven : (ps : Separators) (m : List ℕ) → SoundHeader m ps → text_run (header_bytes ps) ≡ 7

@@ -13,9 +13,11 @@ use borrow.Author.Tests.{lt-ltb, le-ltb}
 use Rattle.laws.proofs.Cases.{less_or_not}
 use Rattle.laws.proofs.Tests.{either}
 use Rattle.index.specs.Index.{code_most}
+use Rattle.read.specs.declared.codes.Reached.TheVariants.{Whole, Open}
+use Rattle.read.specs.declared.codes.Taken.{Taken}
 use Rattle.read.specs.inner.Scanning.{run}
 use Rattle.read.specs.inner.Segments.{line_text}
-use Rattle.read.specs.inner.Coding.{Gathered, gather_byte, gather_bytes, kept, HeldCode, TakesLine, LineTaken}
+use Rattle.read.specs.inner.Coding.{Gathered, gather_byte, gather_bytes, kept, HeldCode, TakesLine, LineTaken, made_whole, left_open}
 use Rattle.read.proofs.PlainLaws.{run_turn, run_stop, line_turn}
 use Rattle.read.proofs.Coding.{gather_whole, byte_kept, byte_ends, byte_passed}
 
@@ -34,8 +36,8 @@ pub record Taking (class m : List ℕ) (from left₀ size₀ : ℕ) (code₀ : L
   pub same : length code ≡ length code₀
   pub held : (g : Gathered) → HeldCode g left₀ size₀ code₀ → TakenTo class m from g at left size code
 
-pub taking_begins : {class m : List ℕ} {from left size : ℕ} {code : List ℕ} → TakesLine class m from left size code
-    → Taking class m from left size code from left size code
+pub taking_begins : {class m : List ℕ} {taken : Taken} {code : List ℕ} → TakesLine class m taken code
+    → Taking class m taken.at taken.left taken.length code taken.at taken.left taken.length code
 taking_begins h =
     record {
       ends = refl;
@@ -99,19 +101,18 @@ module _ {class m : List ℕ} {from left₀ size₀ : ℕ} {code₀ : List ℕ} 
   within = let i = w.inside in omega arith
 
   -- at the line's end
-  pub taking_ends : sort ≡ 5 → LineTaken class m from left₀ size₀ code₀ (record { left = left; length = size; at = at }) code
+  pub taking_ends : sort ≡ 5
+      → LineTaken class m (record { left = left₀; length = size₀; at = from }) code₀ (Open (record { left = left; length = size; at = at })) code
   unfolding gather_bytes
   taking_ends e =
       let none = run_stop class m at within e in
       let stop : at ≡ from + run class (drop from m) = omega (arith, w.ends, none) in
-      record {
-        gathered = λ g h.
-            subst⁻¹ (λ (k : Gathered). HeldCode k left size code)
-            (sym (w.held g h).rest ∙ ap (λ (n : ℕ). gather_bytes class (w.held g h).now (take n (drop at m))) none)
-            (w.held g h).holds;
-        ends = λ o. stop;
-        short = omega (arith, w.short, stop);
-      }
+      left_open (record { left = left; length = size; at = at }) refl
+      (λ g h.
+      subst⁻¹ (λ (k : Gathered). HeldCode k left size code)
+      (sym (w.held g h).rest ∙ ap (λ (n : ℕ). gather_bytes class (w.held g h).now (take n (drop at m))) none)
+      (w.held g h).holds)
+      stop w.begun w.short
 
   module _ (on : sort ≡ 5 → ⊥) where
     run-next : run class (drop at m) ≡ suc (run class (drop (at + 1) m))
@@ -128,20 +129,17 @@ module _ {class m : List ℕ} {from left₀ size₀ : ℕ} {code₀ : List ℕ} 
         ∙ (w.held g h).rest
 
     -- behind the code
-    pub taking_whole : left ≡ 1 → (sort ≡ 0 → ⊥) → (next : ℕ) → LineTaken class m from left₀ size₀ code₀ (record { left = 0; length = size; at = next }) code
-    taking_whole one some next =
-        record {
-          gathered = λ g h.
-              let n = (w.held g h).now in
-              let p = (w.held g h).holds in
-              let ended : gather_byte sort (get_or m at 0) n.left n.code ≡ record { left = 0; code = n.code }
-              = ap {B = Gathered} (λ (k : ℕ). gather_byte sort (get_or m at 0) k n.code) (sym p.left_is ∙ one) ∙ byte_ends sort (get_or m at 0) n.code some in
-              subst⁻¹ (λ (k : Gathered). HeldCode k 0 size code)
-              (sym (gathered_next g h ended) ∙ gather_whole class (record { left = 0; code = n.code }) (line_text class m (at + 1)) refl)
-              (record { left_is = refl; size_is = p.size_is; bytes = p.bytes });
-          ends = λ o. absurd (o refl);
-          short = omega (arith, w.short, w.ends);
-        }
+    pub taking_whole : left ≡ 1 → (sort ≡ 0 → ⊥) → LineTaken class m (record { left = left₀; length = size₀; at = from }) code₀ (Whole size) code
+    taking_whole one some =
+        made_whole size refl
+        (λ g h.
+        let n = (w.held g h).now in
+        let p = (w.held g h).holds in
+        let ended : gather_byte sort (get_or m at 0) n.left n.code ≡ record { left = 0; code = n.code }
+        = ap {B = Gathered} (λ (k : ℕ). gather_byte sort (get_or m at 0) k n.code) (sym p.left_is ∙ one) ∙ byte_ends sort (get_or m at 0) n.code some in
+        subst⁻¹ (λ (k : Gathered). HeldCode k 0 size code)
+        (sym (gathered_next g h ended) ∙ gather_whole class (record { left = 0; code = n.code }) (line_text class m (at + 1)) refl)
+        (record { left_is = refl; size_is = p.size_is; bytes = p.bytes }))
 
     -- a byte of the code
     pub taking_kept : left ≡ 1 → sort ≡ 0 → Taking class m from left₀ size₀ code₀ (at + 1) left (size + 1) (kept code size (get_or m at 0))

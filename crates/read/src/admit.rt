@@ -1,26 +1,17 @@
 // Whether a message that the reader accepts is counted (X3): its codes are added to a copy of the index, and the message to the tally; only where
 // nothing is refused does the index become the copy.
-ghost use Rattle.std.specs.Prelude.{◌≡◌, ◌≤◌, length};
-ghost use Rattle.std.proofs.lemmas.List.Edits.{sets};
-ghost use Rattle.read.specs.inner.Admitting.{Admissible, AdmitsAs};
+ghost use Rattle.read.specs.inner.Admitting.{Admissible, AdmitsAs, Copyable, IndexCopied};
 
 use crate::census::count_codes;
+use crate::codes::Accepted;
 use crate::decide::Decision;
+use crate::refused::Refused;
 use form::limits::Limits;
-use form::number::Number;
 use index::refusal::Refusal;
 use index::tally::Tally;
 use index::{CODES, PLACE, wide};
 
-// Number and place of a refusal, and the tally as it was; or 0 and 0, and the tally with the message.
-#[derive(Clone, Copy)]
-pub struct Admitted {
-    pub number: u8,
-    pub place: usize,
-    pub tally: Tally,
-}
-
-// Adds a message that was decided on to the index and to the tally, or leaves both.
+// Adds a message that was decided on to the index, and gives the tally with it; or leaves the index, and says why it is not counted.
 pub(crate) fn admit(
     tally: Tally,
     class: &[u8; 256],
@@ -31,77 +22,40 @@ pub(crate) fn admit(
     message: &[u8],
     codes: &mut [u8],
     counts: &mut [u32],
-) -> Admitted
+) -> Result<Tally, Refused>
     requires { Admissible limits class.now kinds.now starts.now decision message.now codes.old counts.old }
     ensures { AdmitsAs limits decision tally message.now codes.old counts.old
         result codes.new counts.new }
 {
     let mut new_codes = [0u8; CODES * PLACE];
     let mut new_counts = [0u32; CODES + 1];
-    let named = wide(counts[0]);
-    put_codes(&codes[..named * PLACE], &mut new_codes);
-    put_counts(&counts[..named + 1], &mut new_counts);
-    let census = count_codes(
+    copy_index(codes, counts, &mut new_codes, &mut new_counts);
+    let accepted = Accepted {
         class,
         kinds,
         starts,
-        decision.context,
         limits,
-        decision.separators,
-        decision.segments,
+        decision,
         message,
-        &mut new_codes,
-        &mut new_counts,
-    );
-    if census.number != Number::ACCEPTED {
-        return declined(census.number, census.place, tally);
-    }
-    let tallied = tally.with_message(decision.segments, census.results);
+    };
+    let results = count_codes(&accepted, &mut new_codes, &mut new_counts)?;
+    let tallied = tally.with_message(decision.segments, results);
     if !tallied.fits {
-        return declined(Refusal::FULL_COUNT, 0, tally);
+        return Err(Refused {
+            number: Refusal::FULL_COUNT,
+            place: 0,
+        });
     }
-    let more = wide(new_counts[0]);
-    put_codes(&new_codes[..more * PLACE], codes);
-    put_counts(&new_counts[..more + 1], counts);
-    let after = tallied.tally;
-    Admitted {
-        number: Number::ACCEPTED,
-        place: 0,
-        tally: after,
-    }
+    copy_index(&new_codes, &new_counts, codes, counts);
+    Ok(tallied.tally)
 }
 
-// A refusal, with the tally as it was.
-fn declined(number: u8, place: usize, tally: Tally) -> Admitted
-    ensures { result ≡ record { number = number; place = place; tally = tally } }
+// The named codes of an index and their counts, at the front of other buffers.
+fn copy_index(codes: &[u8], counts: &[u32], to_codes: &mut [u8], to_counts: &mut [u32])
+    requires { Copyable codes.now counts.now to_codes.old to_counts.old }
+    ensures { IndexCopied codes.now counts.now to_codes.old to_counts.old to_codes.new to_counts.new }
 {
-    Admitted {
-        number,
-        place,
-        tally,
-    }
-}
-
-// All bytes of one buffer at the front of another.
-fn put_codes(from: &[u8], to: &mut [u8])
-    requires { length from.now ≤ length to.old }
-    ensures { to.new ≡ sets to.old 0 from.now }
-{
-    let mut at = 0;
-    while at < from.len() {
-        to[at] = from[at];
-        at += 1;
-    }
-}
-
-// All numbers likewise.
-fn put_counts(from: &[u32], to: &mut [u32])
-    requires { length from.now ≤ length to.old }
-    ensures { to.new ≡ sets to.old 0 from.now }
-{
-    let mut at = 0;
-    while at < from.len() {
-        to[at] = from[at];
-        at += 1;
-    }
+    let named = wide(counts[0]);
+    to_codes[..named * PLACE].copy_from_slice(&codes[..named * PLACE]);
+    to_counts[..named + 1].copy_from_slice(&counts[..named + 1]);
 }

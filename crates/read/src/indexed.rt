@@ -151,12 +151,9 @@ fn index_within(
         segments.len(),
         leaves.len(),
     )?;
-    let admitted = admit(
+    let after = admit(
         tally, &class, kinds, starts, limits, decision, message, codes, counts,
-    );
-    if admitted.number != Number::ACCEPTED {
-        return Err(Refused::at(admitted.number, admitted.place));
-    }
+    )?;
     let bytes = fill(
         &class,
         kinds,
@@ -171,6 +168,6 @@ fn index_within(
     );
     Ok(Counted {
         card: decision.card(bytes),
-        tally: admitted.tally,
+        tally: after,
     })
 }

@@ -1,9 +1,10 @@
 // The name in one field of a segment, gathered letter by letter as its lines come: a name may be cut anywhere (A3).
-ghost use Rattle.std.specs.Prelude.{◌≡◌, ◌≤◌, ◌-◌, length, take, drop};
+ghost use Rattle.std.specs.Prelude.{◌≡◌};
 ghost use Rattle.read.specs.inner.Naming.{fresh, with_bytes};
 
 use form::letters::Letters;
 
+// kept (plainer): `left` counts down to 0 by itself, and an Option would hold the same count
 #[derive(Clone, Copy)]
 pub struct Name {
     // field separators that are to come up to the one that ends the field: 1 in the field itself, 0 once it has ended
@@ -29,28 +30,25 @@ impl Name {
     }
 }
 
-// The name once the bytes from `from` up to `end` have come; it stops where the field has ended. In an earlier field letters are gathered, too,
-// and given up at its end: that takes less than to ask at each letter which field it is.
-pub(crate) fn gather(name: Name, field: u8, message: &[u8], from: usize, end: usize) -> Name
-    requires { (from ≤ end) × (end ≤ length message.now) }
-    ensures { result ≡ with_bytes field name (take (end - from) (drop from message.now)) }
+// The name once some more bytes have come; it stops where the field has ended. In an earlier field
+// letters are gathered, too, and given up at its end: that takes less than to ask at each letter
+// which field it is.
+pub(crate) fn gather(name: Name, field: u8, bytes: &[u8]) -> Name
+    ensures { result ≡ with_bytes field name bytes.now }
 {
     let mut left = name.left;
     let mut letters = name.letters;
-    let mut i = from;
-    while i < end {
+    for b in bytes {
         if left == 0 {
             break;
         }
-        let b = message[i];
-        i += 1;
-        if b == field {
+        if *b == field {
             left -= 1;
             if left != 0 {
                 letters.length = 0;
             }
         } else {
-            letters = letters.with(b);
+            letters = letters.with(*b);
         }
     }
     Name { left, letters }

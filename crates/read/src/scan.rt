@@ -21,8 +21,7 @@ pub(crate) fn scan(class: &[u8; 256], message: &[u8], from: usize, stop: usize) 
         × (result.separators ≡ marks class.now (take (stop - from) (drop from message.now))) }
 {
     let mut separators = 0;
-    let mut i = from;
-    while i < stop {
+    for i in from..stop {
         let sort = class[index(message[i])];
         if sort > 0 {
             if sort == CONTROL {
@@ -30,7 +29,9 @@ pub(crate) fn scan(class: &[u8; 256], message: &[u8], from: usize, stop: usize) 
             }
             separators += 1;
         }
-        i += 1;
     }
-    Scanned { end: i, separators }
+    Scanned {
+        end: stop,
+        separators,
+    }
 }

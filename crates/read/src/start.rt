@@ -7,18 +7,13 @@ ghost use Rattle.read.specs.inner.Starting.{text_from};
 pub(crate) fn text_from(message: &[u8], at: usize, field: u8) -> usize
     ensures { result ≡ text_from field at (drop at message.now) }
 {
-    if message.len() <= at {
-        return at;
+    if at < message.len()
+        && message[at] == b'A'
+        && at + 1 < message.len()
+        && message[at + 1] == field
+    {
+        at + 2
+    } else {
+        at
     }
-    if message[at] != b'A' {
-        return at;
-    }
-    let second = at + 1;
-    if message.len() <= second {
-        return at;
-    }
-    if message[second] != field {
-        return at;
-    }
-    second + 1
 }

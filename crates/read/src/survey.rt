@@ -73,7 +73,7 @@ impl Survey {
     {
         Survey {
             separators: self.separators + separators,
-            name: gather(self.name, field, message, from, end),
+            name: gather(self.name, field, &message[from..end]),
             ..self
         }
     }

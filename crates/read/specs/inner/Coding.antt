@@ -4,6 +4,8 @@ use Rattle.std.specs.Prelude.{true, false, List, [], ◌∷◌, ◌++◌, ◌≡
 use Rattle.form.specs.declared.limits.Limits.{Limits}
 use Rattle.form.specs.declared.separators.Separators.{Separators}
 use Rattle.index.specs.Index.{code_most}
+use Rattle.read.specs.declared.codes.Reached.{Reached}
+use Rattle.read.specs.declared.codes.Reached.TheVariants.{Whole, Open}
 use Rattle.read.specs.declared.codes.Taken.{Taken}
 use Rattle.read.specs.Codes.{leaf_code}
 use Rattle.read.specs.Sound.{segments_in}
@@ -55,32 +57,38 @@ pub record Skips (class message : List ℕ) (from left : ℕ) : Type 0 where
   pub inside : from + run class (drop from message) < length message
   pub begun : 1 ≤ left
 
--- what it gives: a later byte of the same line, from which on the line gives the code what it gives from `from` on
-pub record FieldsSkipped (class message : List ℕ) (from left at left' : ℕ) : Type 0 where
-  pub later : from ≤ at
-  pub ends : at + run class (drop at message) ≡ from + run class (drop from message)
-  pub begun : 1 ≤ left'
+-- what it gives: a later byte of the same line, from which on the line gives the code what it gives from `at` on
+pub record FieldsSkipped (class message : List ℕ) (taken r : Taken) : Type 0 where
+  pub later : taken.at ≤ r.at
+  pub ends : r.at + run class (drop r.at message) ≡ taken.at + run class (drop taken.at message)
+  pub begun : 1 ≤ r.left
+  pub same : r.length ≡ taken.length
   pub rest : (code : List ℕ)
-      → gather_bytes class (record { left = left'; code = code }) (line_text class message at)
-      ≡ gather_bytes class (record { left = left; code = code }) (line_text class message from)
+      → gather_bytes class (record { left = r.left; code = code }) (line_text class message r.at)
+      ≡ gather_bytes class (record { left = taken.left; code = code }) (line_text class message taken.at)
 
 -- what taking from a line asks: the line's end lies ahead, the code is not whole and no longer than the bytes so far
-pub record TakesLine (class message : List ℕ) (from left size : ℕ) (code : List ℕ) : Type 0 where
+pub record TakesLine (class message : List ℕ) (taken : Taken) (code : List ℕ) : Type 0 where
   pub room : code_most ≤ length code
-  pub inside : from + run class (drop from message) < length message
-  pub begun : 1 ≤ left
-  pub short : size ≤ from
+  pub inside : taken.at + run class (drop taken.at message) < length message
+  pub begun : 1 ≤ taken.left
+  pub short : taken.length ≤ taken.at
+
+-- what the text of a line, gathered, leaves held
+abbrev pub LineHeld : (class message : List ℕ) (taken : Taken) (code : List ℕ) (left size : ℕ) (code' : List ℕ) → Type 0
+LineHeld class message taken code left size code' = (g : Gathered) → HeldCode g taken.left taken.length code
+    → HeldCode (gather_bytes class g (line_text class message taken.at)) left size code'
 
 -- what it gives: the line's text gathered, and where the line ends, but for a code that is whole
-pub record LineTaken (class message : List ℕ) (from left size : ℕ) (code : List ℕ) (r : Taken) (code' : List ℕ) : Type 0 where
-  pub gathered : (g : Gathered) → HeldCode g left size code
-      → HeldCode (gather_bytes class g (line_text class message from)) r.left r.length code'
-  pub ends : (r.left ≡ 0 → ⊥) → r.at ≡ from + run class (drop from message)
-  pub short : r.length ≤ from + run class (drop from message)
+pub data LineTaken (class message : List ℕ) (taken : Taken) (code : List ℕ) (r : Reached) (code' : List ℕ) : Type 0 where
+  made_whole : (size : ℕ) → r ≡ Whole size → LineHeld class message taken code 0 size code' → LineTaken class message taken code r code'
+  left_open : (t : Taken) → r ≡ Open t → LineHeld class message taken code t.left t.length code' → t.at ≡ taken.at + run class (drop taken.at message)
+      → 1 ≤ t.left → t.length ≤ t.at → LineTaken class message taken code r code'
 
 -- what taking a segment's code asks: a message that was accepted, in which the segment of the number `row` begins at `start`
 pub record CodeAhead (L : Limits) (class kinds : List ℕ) (ps : Separators) (context : ℕ) (message : List ℕ) (row start : ℕ) (code : List ℕ) : Type 0 where
   pub given : Fillable L class kinds ps context message
+  pub bytes : (i : ℕ) → get_or message i 0 < 256
   pub room : code_most ≤ length code
   pub begins : BeginsAt L ps message row start
 

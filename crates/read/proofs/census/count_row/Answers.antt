@@ -15,11 +15,11 @@ use Rattle.read.proofs.census.count_row.Goals.{After-take_code-length}
 
 -- what the row carries
 abbrev code_here : After-take_code-length → List ℕ
-code_here c = carried_by c.args.limits c.args.separators c.args.message.now c.args.row
+code_here c = carried_by c.args.accepted.now.limits c.args.accepted.now.decision.separators c.args.accepted.now.message.now c.args.row
 
 -- the code of the row, as it was taken
 code-size : (c : After-take_code-length) → c.take_code-length.result ≡ length (code_here c)
-code-size c = c.take_code-length.ensures.size_is ∙ ap length (sym (result_code c.requires c.if-kinds-row-ne-OBX.false))
+code-size c = c.take_code-length.ensures.size_is ∙ ap length (sym (result_code c.requires c.if-accepted-row-ne-OBX.false))
 
 code-room : (c : After-take_code-length) → code_most ≤ length c.take_code-length.new.code
 code-room c = omega (arith, c.take_code-length.auto.code, c.requires.code_room)
@@ -27,17 +27,14 @@ code-room c = omega (arith, c.take_code-length.auto.code, c.requires.code_room)
 row_fits : (c : After-take_code-length) → c.args.row + 1 < width
 row_fits c = let pre = c.requires in omega (arith, pre.within, pre.given.few, pre.given.fits.segments)
 
-pub bounds-kinds-row : goal.bounds-kinds-row
-bounds-kinds-row c = row-noted c.requires
+pub bounds-accepted-row : goal.bounds-accepted-row
+bounds-accepted-row c = row-noted c.requires
 
-pub returns-then-kinds-row-ne-OBX : goal.returns-then-kinds-row-ne-OBX
-returns-then-kinds-row-ne-OBX c = passed_over (no_result c.requires c.if-kinds-row-ne-OBX.true) refl refl refl
-
-pub bounds-starts-row : goal.bounds-starts-row
-bounds-starts-row c = row_started c.requires
+pub returns-then-accepted-row-ne-OBX : goal.returns-then-accepted-row-ne-OBX
+returns-then-accepted-row-ne-OBX c = passed_over (no_result c.requires c.if-accepted-row-ne-OBX.true) refl refl refl
 
 pub take_code-length-requires : goal.take_code-length-requires
-take_code-length-requires c = code-ahead c.requires c.if-kinds-row-ne-OBX.false
+take_code-length-requires c = (code-ahead c.requires c.if-accepted-row-ne-OBX.false, row_started c.requires)
 
 pub returns-then-length-eq0 : goal.returns-then-length-eq0
 returns-then-length-eq0 c = passed_over (sym (code-size (goal.at.returns-then-length-eq0 c).After-take_code-length) ∙ c.if-length-eq0.true) refl refl refl
@@ -60,6 +57,6 @@ overflow_add-result-2 c = omega (arith, row_fits (goal.at.overflow_add-result-2 
 pub returns : goal.returns
 returns c =
     let pre = c.requires in
-    code-tried (code-held c.take_code-length.ensures (code-room (goal.at.returns c).After-take_code-length) c.if-length-gt-CODE.false ∙ sym (result_code pre c.if-kinds-row-ne-OBX.false))
+    code-tried (code-held c.take_code-length.ensures (code-room (goal.at.returns c).After-take_code-length) c.if-length-gt-CODE.false ∙ sym (result_code pre c.if-accepted-row-ne-OBX.false))
     (omega (arith, code-size (goal.at.returns c).After-take_code-length, c.if-length-eq0.false)) (omega (arith, code-size (goal.at.returns c).After-take_code-length, c.if-length-gt-CODE.false)) c.add.ensures
     c.lower.ensures

@@ -13,11 +13,11 @@ use Rattle.read.proofs.codes.skip_fields.Goals.{After-index, After-plain_end-sto
 -- behind the text
 abbrev StoppedHere : After-plain_end-stop → Type 0
 StoppedHere c =
-    Skipping c.args.class.now c.args.message.now c.args.from c.args.fields c.plain_end-stop.result c.loop-left.left
+    Skipping c.args.class.now c.args.message.now c.args.taken c.plain_end-stop.result c.loop-left.left
 
 stopped_here : (c : After-plain_end-stop) → StoppedHere c
 stopped_here c =
-    subst⁻¹ (λ (n : ℕ). Skipping c.args.class.now c.args.message.now c.args.from c.args.fields n c.loop-left.left) c.plain_end-stop.ensures
+    subst⁻¹ (λ (n : ℕ). Skipping c.args.class.now c.args.message.now c.args.taken n c.loop-left.left) c.plain_end-stop.ensures
     (skipping_text c.loop-left.invariant c.loop-left-test.true)
 
 stop_within : (c : After-plain_end-stop) → c.plain_end-stop.result < length c.args.message.now
@@ -30,7 +30,7 @@ class_here : (c : After-index) → {n : ℕ}
 class_here c e = ap (λ (k : ℕ). get_or c.args.class.now k 0) c.index.ensures.0 ∙ e
 
 pub loop-left-init : goal.loop-left-init
-loop-left-init c = skipping_begins c.requires
+loop-left-init c = skipping_begins {taken = c.args.taken} c.requires
 
 pub plain_end-stop-requires : goal.plain_end-stop-requires
 plain_end-stop-requires c = text-inside c.loop-left.invariant c.loop-left-test.true

@@ -6,7 +6,7 @@ use Rattle.read.proofs.SkippedFields.{Skipping}
 use Rattle.read.proofs.codes.skip_fields.Given as goal
 
 abbrev pub invariant-loop-left : goal.invariant-loop-left
-invariant-loop-left l = Skipping l.class l.message l.from l.fields l.at l.left
+invariant-loop-left l = Skipping l.class l.message l.fn.taken l.at l.left
 
 abbrev pub decreases-loop-left : goal.decreases-loop-left
 decreases-loop-left l = length l.message - l.at

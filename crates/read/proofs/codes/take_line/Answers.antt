@@ -8,63 +8,63 @@ use lib.Dec.{eqb}
 use lib.ListN.{get_or}
 use Rattle.read.proofs.TakenLines.{Taking, taking_begins, taking_ends, taking_whole, taking_kept, taking_on}
 use Rattle.read.proofs.codes.take_line.Goals as goal
-use Rattle.read.proofs.codes.take_line.Goals.{After-index, At-loop-from}
+use Rattle.read.proofs.codes.take_line.Goals.{After-index, At-loop-left}
 
 -- the class of the byte that a turn looks at
-abbrev sort_here : At-loop-from → ℕ
-sort_here c = get_or c.args.class.now (get_or c.args.message.now c.loop-from.at 0) 0
+abbrev sort_here : At-loop-left → ℕ
+sort_here c = get_or c.args.class.now (get_or c.args.message.now c.loop-left.at 0) 0
 
-class_here : (c : After-index) → {n : ℕ} → get_or c.args.class.now c.index.result 0 ≡ n → sort_here (goal.at.After-index c).At-loop-from ≡ n
+class_here : (c : After-index) → {n : ℕ} → get_or c.args.class.now c.index.result 0 ≡ n → sort_here (goal.at.After-index c).At-loop-left ≡ n
 class_here c e = ap (λ (k : ℕ). get_or c.args.class.now k 0) (sym c.index.ensures.0) ∙ e
 
-class_back : (c : After-index) → {n : ℕ} → sort_here (goal.at.After-index c).At-loop-from ≡ n → get_or c.args.class.now c.index.result 0 ≡ n
+class_back : (c : After-index) → {n : ℕ} → sort_here (goal.at.After-index c).At-loop-left ≡ n → get_or c.args.class.now c.index.result 0 ≡ n
 class_back c e = ap (λ (k : ℕ). get_or c.args.class.now k 0) c.index.ensures.0 ∙ e
 
-pub loop-from-init : goal.loop-from-init
-loop-from-init c = taking_begins c.requires
+pub loop-left-init : goal.loop-left-init
+loop-left-init c = taking_begins c.requires
 
 pub bounds-message-at : goal.bounds-message-at
-bounds-message-at c = omega (arith, c.loop-from.invariant.inside)
+bounds-message-at c = omega (arith, c.loop-left.invariant.inside)
 
 pub bounds-class-index : goal.bounds-class-index
 bounds-class-index c = omega (arith, c.index.ensures.1)
 
 pub shape_of-code-then-sort-eq5 : goal.shape_of-code-then-sort-eq5
-shape_of-code-then-sort-eq5 c = c.loop-from.invariant.same
+shape_of-code-then-sort-eq5 c = c.loop-left.invariant.same
 
 pub returns-then-sort-eq5 : goal.returns-then-sort-eq5
-returns-then-sort-eq5 c = taking_ends c.loop-from.invariant (class_here (goal.at.returns-then-sort-eq5 c).After-index c.if-sort-eq5.true)
+returns-then-sort-eq5 c = taking_ends c.loop-left.invariant (class_here (goal.at.returns-then-sort-eq5 c).After-index c.if-sort-eq5.true)
 
 pub overflow_add-at : goal.overflow_add-at
-overflow_add-at c = omega (arith, c.loop-from.invariant.inside, c.well_formed)
+overflow_add-at c = omega (arith, c.loop-left.invariant.inside, c.well_formed)
 
 pub shape_of-code-then-sort-ne0 : goal.shape_of-code-then-sort-ne0
-shape_of-code-then-sort-ne0 c = c.loop-from.invariant.same
+shape_of-code-then-sort-ne0 c = c.loop-left.invariant.same
 
 pub returns-then-sort-ne0 : goal.returns-then-sort-ne0
-returns-then-sort-ne0 c = taking_whole c.loop-from.invariant (λ e. c.if-sort-eq5.false (class_back (goal.at.returns-then-sort-ne0 c).After-index e)) c.if-left-eq1.true (λ e. c.if-sort-ne0.true (class_back (goal.at.returns-then-sort-ne0 c).After-index e)) _
+returns-then-sort-ne0 c = taking_whole c.loop-left.invariant (λ e. c.if-sort-eq5.false (class_back (goal.at.returns-then-sort-ne0 c).After-index e)) c.if-left-eq1.true (λ e. c.if-sort-ne0.true (class_back (goal.at.returns-then-sort-ne0 c).After-index e))
 
 pub keep-requires : goal.keep-requires
-keep-requires c = c.loop-from.invariant.room
+keep-requires c = c.loop-left.invariant.room
 
 pub overflow_add-length : goal.overflow_add-length
-overflow_add-length c = omega (arith, c.loop-from.invariant.short, c.loop-from.invariant.inside, c.well_formed)
+overflow_add-length c = omega (arith, c.loop-left.invariant.short, c.loop-left.invariant.inside, c.well_formed)
 
-pub loop-from-smaller-then-left-eq1 : goal.loop-from-smaller-then-left-eq1
-loop-from-smaller-then-left-eq1 c = omega (arith, c.loop-from.invariant.inside)
+pub loop-left-smaller-then-left-eq1 : goal.loop-left-smaller-then-left-eq1
+loop-left-smaller-then-left-eq1 c = omega (arith, c.loop-left.invariant.inside)
 
-pub loop-from-preserved-then-left-eq1 : goal.loop-from-preserved-then-left-eq1
-loop-from-preserved-then-left-eq1 c =
+pub loop-left-preserved-then-left-eq1 : goal.loop-left-preserved-then-left-eq1
+loop-left-preserved-then-left-eq1 c =
     subst⁻¹ (Taking _ _ _ _ _ _ _ _ _) c.keep.ensures
-    (taking_kept c.loop-from.invariant (λ e. c.if-sort-eq5.false (class_back (goal.at.loop-from-preserved-then-left-eq1 c).After-index e)) c.if-left-eq1.true (class_here (goal.at.loop-from-preserved-then-left-eq1 c).After-index c.if-sort-ne0.false))
+    (taking_kept c.loop-left.invariant (λ e. c.if-sort-eq5.false (class_back (goal.at.loop-left-preserved-then-left-eq1 c).After-index e)) c.if-left-eq1.true (class_here (goal.at.loop-left-preserved-then-left-eq1 c).After-index c.if-sort-ne0.false))
 
 pub fields_left-left-requires : goal.fields_left-left-requires
-fields_left-left-requires c = c.loop-from.invariant.begun
+fields_left-left-requires c = c.loop-left.invariant.begun
 
-pub loop-from-smaller : goal.loop-from-smaller
-loop-from-smaller c = omega (arith, c.loop-from.invariant.inside)
+pub loop-left-smaller : goal.loop-left-smaller
+loop-left-smaller c = omega (arith, c.loop-left.invariant.inside)
 
-pub loop-from-preserved : goal.loop-from-preserved
-loop-from-preserved c =
-    taking_on c.loop-from.invariant (λ e. c.if-sort-eq5.false (class_back (goal.at.loop-from-preserved c).After-index e)) c.if-left-eq1.false
-    (c.fields_left-left.ensures ∙ ap (λ (k : ℕ). elim (eqb k 1) [ true ↦ c.loop-from.left - 1 | false ↦ c.loop-from.left ]) (class_back (goal.at.loop-from-preserved c).After-index refl))
+pub loop-left-preserved : goal.loop-left-preserved
+loop-left-preserved c =
+    taking_on c.loop-left.invariant (λ e. c.if-sort-eq5.false (class_back (goal.at.loop-left-preserved c).After-index e)) c.if-left-eq1.false
+    (c.fields_left-left.ensures ∙ ap (λ (k : ℕ). elim (eqb k 1) [ true ↦ c.loop-left.left - 1 | false ↦ c.loop-left.left ]) (class_back (goal.at.loop-left-preserved c).After-index refl))

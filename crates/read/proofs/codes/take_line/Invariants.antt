@@ -5,8 +5,8 @@ use lib.ListN.{length}
 use Rattle.read.proofs.TakenLines.{Taking}
 use Rattle.read.proofs.codes.take_line.Given as goal
 
-abbrev pub invariant-loop-from : goal.invariant-loop-from
-invariant-loop-from l = Taking l.class l.message l.from l.initial.left l.initial.length l.initial.code l.at l.left l.length l.code
+abbrev pub invariant-loop-left : goal.invariant-loop-left
+invariant-loop-left l = Taking l.class l.message l.initial.at l.initial.left l.initial.length l.initial.code l.at l.left l.length l.code
 
-abbrev pub decreases-loop-from : goal.decreases-loop-from
-decreases-loop-from l = length l.message - l.at
+abbrev pub decreases-loop-left : goal.decreases-loop-left
+decreases-loop-left l = length l.message - l.at

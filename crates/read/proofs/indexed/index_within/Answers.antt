@@ -19,17 +19,18 @@ returns-in_err-decision c =
     (refusal_indexed c.args.text.now c.args.segments.now c.args.leaves.now c.decide.ensures c.args.levels.now c.args.tally c.args.codes.now
     c.args.counts.now (sym c.is_sound.ensures ∙ c.if-not-is_sound.false) c.in_err-decision.was)
 
-pub admit-admitted-requires : goal.admit-admitted-requires
-admit-admitted-requires c =
+pub admit-requires : goal.admit-requires
+admit-requires c =
     accepted_admissible c.args.text.now c.args.segments.now c.args.leaves.now c.decide.ensures c.args.levels.now c.args.tally c.args.codes.now
     c.args.counts.now (sym c.is_sound.ensures ∙ c.if-not-is_sound.false) c.in_ok-decision.was (c.decide.auto.starts ∙ c.requires.begins)
 
-pub returns-then-admitted-ne-ACCEPTED : goal.returns-then-admitted-ne-ACCEPTED
-returns-then-admitted-ne-ACCEPTED c =
-    admitted_indexed c.args.text.now c.args.segments.now c.args.leaves.now c.decide.ensures c.args.levels.now c.args.tally c.args.codes.now
+pub returns-in_err-after : goal.returns-in_err-after
+returns-in_err-after c =
+    rw (passed_on c.from_residual-in_err-after.ensures.1)
+    (admitted_indexed c.args.text.now c.args.segments.now c.args.leaves.now c.decide.ensures c.args.levels.now c.args.tally c.args.codes.now
     c.args.counts.now (sym c.is_sound.ensures ∙ c.if-not-is_sound.false) c.in_ok-decision.was
     (turned_left (table_in c.args.limits c.args.levels.now c.in_ok-decision.decision.separators c.args.message.now) c.args.text.now c.args.segments.now
-    c.args.leaves.now c.admit-admitted.ensures c.if-admitted-ne-ACCEPTED.true c.at-then-admitted-ne-ACCEPTED.ensures)
+    c.args.leaves.now c.in_err-after.ensures))
 
 pub fill-bytes-requires : goal.fill-bytes-requires
 fill-bytes-requires c =
@@ -42,4 +43,4 @@ returns c =
     admitted_indexed c.args.text.now c.args.segments.now c.args.leaves.now c.decide.ensures c.args.levels.now c.args.tally c.args.codes.now
     c.args.counts.now (sym c.is_sound.ensures ∙ c.if-not-is_sound.false) c.in_ok-decision.was
     (counted-left (table_in c.args.limits c.args.levels.now c.in_ok-decision.decision.separators c.args.message.now) c.args.text.now c.args.segments.now
-    c.args.leaves.now c.admit-admitted.ensures c.if-admitted-ne-ACCEPTED.false (table-filed w c.fill-bytes.ensures c.card.ensures) refl)
+    c.args.leaves.now c.in_ok-after.ensures (table-filed w c.fill-bytes.ensures c.card.ensures) refl)

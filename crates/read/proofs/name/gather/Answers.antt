@@ -1,66 +1,32 @@
--- `read::name::gather` meets its contract. The loop's invariant: what is left from `i` on, gathered on, gives the whole.
+-- `read::name::gather` meets its contract. The loop's invariant: what is left of the bytes, gathered on, gives the whole.
 -- Assumes nothing.
-use mathlib.Core.Path.{◌≡◌, refl, sym, ap, ◌∙◌}
-use Prim.Native.Nat.{ℕ, ◌+◌}
+use mathlib.Core.Path.{◌≡◌, refl, sym, ap₂, ◌∙◌}
+use Prim.Native.Nat.{ℕ}
 use native.Mathlib.Omega.{arith}
-use lib.ListN.{get_or}
 use Rattle.form.specs.declared.letters.Letters.{Letters}
 use Rattle.read.specs.declared.name.Name.{Name}
-use Rattle.read.specs.inner.Naming.{with_byte}
-use Rattle.read.proofs.Naming.{byte_ends, byte_next, byte_letter, Gathering, gathering_turn, gathering_done, gathering_settled}
+use Rattle.read.proofs.Naming.{byte_ends, byte_next, byte_letter, gathering_turn, gathering_done, gathering_settled}
 use Rattle.read.proofs.name.gather.Goals as goal
-use Rattle.read.proofs.name.gather.Goals.{In-loop-i}
+use Rattle.read.proofs.name.gather.Goals.{then-b-field+then-left-ne0, then-b-field+else-left-ne0, else-b-field}
 
--- the name at the beginning of a turn, and what follows from what its byte does
-abbrev name_at : In-loop-i → Name
-name_at c = record { left = c.loop-i.left; letters = c.loop-i.letters }
+-- a name of these parts
+made : {n m : ℕ} {l k : Letters} → n ≡ m → l ≡ k → ◌≡◌ {A = Name} (record { left = n; letters = l }) (record { left = m; letters = k })
+made = ap₂ {C = Name} (λ (n : ℕ) (l : Letters). record { left = n; letters = l })
 
-abbrev byte_at : In-loop-i → ℕ
-byte_at c = get_or c.args.message.now c.loop-i.i 0
+pub loop-b-init : goal.loop-b-init
+loop-b-init c = record { whole = refl }
 
-turned : (c : In-loop-i) {k : Name} → with_byte c.args.field (name_at c) (byte_at c) ≡ k
-    → Gathering c.args.field c.args.message.now c.args.end
-    (record { left = c.args.name.left; letters = c.args.name.letters }) c.args.from k (c.loop-i.i + 1)
-turned c is = gathering_turn c.loop-i.invariant c.loop-i-test.true c.requires.1 is
+pub loop-b-preserved : goal.loop-b-preserved
+loop-b-preserved c =
+    gathering_turn c.loop-b.invariant c.loop-b-test.true
+    (elim c.if-b-field.branch [
+      | then-b-field+then-left-ne0 w ↦ byte_next _ _ _ (omega (arith, w.if-left-ne0.true)) w.if-b-field.true ∙ made (sym w.left-is) (sym w.letters-is)
+      | then-b-field+else-left-ne0 w ↦ byte_ends _ _ _ (omega (arith, w.if-left-ne0.false, c.if-left-eq0.false)) w.if-b-field.true ∙ made (omega (arith, w.left-is, w.if-left-ne0.false)) (sym w.letters-is)
+      | else-b-field w ↦ byte_letter _ _ _ c.if-left-eq0.false w.if-b-field.false ∙ made (sym w.left-is) (sym (w.letters-is ∙ w.with-letters.ensures))
+    ])
 
-pub loop-i-init : goal.loop-i-init
-loop-i-init c = record { within = omega arith; whole = refl }
-
-pub bounds-message-i : goal.bounds-message-i
-bounds-message-i c = omega arith
-
-pub overflow_add-i : goal.overflow_add-i
-overflow_add-i c = omega arith
-
-pub overflow_sub-left : goal.overflow_sub-left
-overflow_sub-left c = omega arith
-
-pub loop-i-smaller-then-left-ne0 : goal.loop-i-smaller-then-left-ne0
-loop-i-smaller-then-left-ne0 c = omega arith
-
-pub loop-i-preserved-then-left-ne0 : goal.loop-i-preserved-then-left-ne0
-loop-i-preserved-then-left-ne0 c = turned (goal.at.loop-i-preserved-then-left-ne0 c).In-loop-i (byte_next c.args.field (name_at (goal.at.loop-i-preserved-then-left-ne0 c).In-loop-i) (byte_at (goal.at.loop-i-preserved-then-left-ne0 c).In-loop-i) (omega (arith, c.if-left-ne0.true)) c.if-b-field.true)
-
-pub loop-i-smaller-else-left-ne0 : goal.loop-i-smaller-else-left-ne0
-loop-i-smaller-else-left-ne0 c = omega arith
-
-pub loop-i-preserved-else-left-ne0 : goal.loop-i-preserved-else-left-ne0
-loop-i-preserved-else-left-ne0 c =
-    turned (goal.at.loop-i-preserved-else-left-ne0 c).In-loop-i
-    (byte_ends c.args.field (name_at (goal.at.loop-i-preserved-else-left-ne0 c).In-loop-i) (byte_at (goal.at.loop-i-preserved-else-left-ne0 c).In-loop-i) (omega (arith, c.if-left-ne0.false)) c.if-b-field.true
-    ∙ ap {B = Name} (λ (n : ℕ). record { left = n; letters = (name_at (goal.at.loop-i-preserved-else-left-ne0 c).In-loop-i).letters }) (sym c.if-left-ne0.false))
-
-pub loop-i-smaller : goal.loop-i-smaller
-loop-i-smaller c = omega arith
-
-pub loop-i-preserved : goal.loop-i-preserved
-loop-i-preserved c =
-    turned (goal.at.loop-i-preserved c).In-loop-i
-    (byte_letter c.args.field (name_at (goal.at.loop-i-preserved c).In-loop-i) (byte_at (goal.at.loop-i-preserved c).In-loop-i) c.if-left-eq0.false c.if-b-field.false
-    ∙ ap {B = Name} (λ (l : Letters). record { left = (name_at (goal.at.loop-i-preserved c).In-loop-i).left; letters = l }) (sym c.with-letters.ensures))
-
-pub returns-after-loop-i : goal.returns-after-loop-i
-returns-after-loop-i c = gathering_done c.loop-i.invariant c.loop-i-test.false
+pub returns-after-loop-b : goal.returns-after-loop-b
+returns-after-loop-b c = gathering_done c.loop-b.invariant c.loop-b-test.false
 
 pub returns-then-left-eq0 : goal.returns-then-left-eq0
-returns-then-left-eq0 c = gathering_settled c.loop-i.invariant c.if-left-eq0.true
+returns-then-left-eq0 c = gathering_settled c.loop-b.invariant c.if-left-eq0.true

@@ -1,6 +1,6 @@
 -- `read::scan::scan` meets its contract. The loop's invariant: what is left from `i` on gives the whole (`Scanning`).
 -- Assumes nothing.
-use mathlib.Core.Path.{subst⁻¹}
+use mathlib.Core.Path.{◌≡◌, ◌∙◌, subst⁻¹}
 use Prim.Native.Nat.{◌+◌}
 use native.Mathlib.Omega.{arith}
 use Rattle.read.proofs.Scanning.{Scanning, scan_begins, scan_stops, scan_marks, scan_passes, scan_ends}
@@ -10,9 +10,6 @@ use Rattle.read.proofs.scan.scan.Goals.{then-sort-gt0+else-sort-eq-CONTROL, else
 pub loop-i-init : goal.loop-i-init
 loop-i-init c = scan_begins (omega arith)
 
-pub bounds-message-i : goal.bounds-message-i
-bounds-message-i c = omega arith
-
 pub returns-then-sort-eq-CONTROL : goal.returns-then-sort-eq-CONTROL
 returns-then-sort-eq-CONTROL c =
     let scanned = scan_stops c.loop-i.invariant (omega arith) (omega arith) c.index.ensures.0 c.if-sort-eq-CONTROL.true in
@@ -20,12 +17,6 @@ returns-then-sort-eq-CONTROL c =
 
 pub overflow_add-separators : goal.overflow_add-separators
 overflow_add-separators c = omega (arith, c.loop-i.invariant.few)
-
-pub overflow_add-i : goal.overflow_add-i
-overflow_add-i c = omega arith
-
-pub loop-i-smaller : goal.loop-i-smaller
-loop-i-smaller c = omega arith
 
 pub loop-i-preserved : goal.loop-i-preserved
 loop-i-preserved c =
@@ -42,4 +33,5 @@ loop-i-preserved c =
 pub returns : goal.returns
 returns c =
     let scanned = scan_ends c.loop-i.invariant (omega arith) in
-    (scanned.end, scanned.marked)
+    let past : c.args.stop ≡ c.loop-i.i = omega arith in
+    (past ∙ scanned.end, scanned.marked)

@@ -1,11 +1,7 @@
 -- `read::scan::scan` meets its contract. The loop's invariant: what is left from `i` on gives the whole (`Scanning`).
 -- Assumes nothing.
-use Prim.Native.Nat.{◌-◌}
 use Rattle.read.proofs.Scanning.{Scanning}
 use Rattle.read.proofs.scan.scan.Given as goal
 
 abbrev pub invariant-loop-i : goal.invariant-loop-i
 invariant-loop-i l = Scanning l.class l.message l.from l.stop l.i l.separators
-
-abbrev pub decreases-loop-i : goal.decreases-loop-i
-decreases-loop-i l = l.stop - l.i
