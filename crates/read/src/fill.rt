@@ -196,6 +196,7 @@ pub(crate) fn fill(
     let mut nearest = no_rows();
     let mut filling = put_header(separators, text, leaves);
     let mut from = 7;
+    // kept (plainer): where the next line begins is known only once this one was laid
     loop {
         let line = fill_line(
             class,

@@ -15,7 +15,6 @@ use crate::fill::fill;
 use crate::refused::Refused;
 use form::forms::{Form, LargeForm, SmallForm};
 use form::limits::Limits;
-use form::number::Number;
 use index::refusal::Refusal;
 use index::soundness::is_sound;
 use index::tally::Tally;
@@ -23,6 +22,7 @@ use table::Card;
 use table::rows::Entry;
 
 // What comes back: what the reader answers, and the tally, which is the one that was given where the message is refused.
+// kept (C): the public answer of `read_indexed`, which its clause IndexedAs names
 #[derive(Clone, Copy)]
 pub struct Indexed {
     pub answer: Answer,

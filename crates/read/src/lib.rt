@@ -32,6 +32,7 @@ mod start;
 mod survey;
 
 // What comes back (rules N1, N3): a number, its place, and the card, which is all zero on a refusal.
+// kept (C): the public answer of `read`, which its clause ReadAs names
 #[derive(Clone, Copy)]
 pub struct Answer {
     pub number: u8,

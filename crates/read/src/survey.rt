@@ -19,6 +19,7 @@ use line::finder::{Found, ended_line};
 use order::watcher::Watcher;
 
 // What is known once some lines have been seen. The last segment begun is open: lines may still carry it on.
+// kept (plainer): `unknown` and `misplaced` count from 1 with 0 for none, as `first_unknown` and `refuse_at` do, by which reading is stated
 #[derive(Clone, Copy)]
 pub struct Survey {
     // segments begun
@@ -210,6 +211,7 @@ pub(crate) fn survey_message(
     let mut seen = Survey::begin();
     let mut at = 0;
     let mut from = 7;
+    // kept (plainer): where the next line begins is known only once this one was seen
     loop {
         let step = see_line(class, limits, separators, message, at, from, seen)?;
         seen = step.seen;
