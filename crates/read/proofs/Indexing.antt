@@ -4,10 +4,10 @@ use Rattle.std.proofs.Common.{Result, Ok, Err}
 use mathlib.Core.Bool.{Bool, true, false, ◌||◌}
 use mathlib.Core.List.{List}
 use mathlib.Core.Path.{◌≡◌, refl, sym, ap, ◌∙◌, subst, subst⁻¹}
-use Prim.Native.Nat.{ℕ}
+use Prim.Native.Nat.{ℕ, ◌<◌}
 use lib.Dec.{eqb}
 use native.Mathlib.Omega.{arith}
-use lib.ListN.{length}
+use lib.ListN.{length, get_or}
 use Rattle.form.specs.declared.limits.Limits.{Limits}
 use Rattle.form.specs.declared.separators.Separators.{Separators}
 use Rattle.form.specs.declared.separators.Header.TheVariants.{Sound}
@@ -133,10 +133,10 @@ module _ {L : Limits} {message class kinds starts : List ℕ} {r : Result Decisi
       refl
 
   module _ {d : Decision} (yes : r ≡ Ok d) where
-    pub accepted_admissible : length starts ≡ L.segments → Admissible L class kinds starts d message codes counts
-    accepted_admissible e =
+    pub accepted_admissible : ((i : ℕ) → get_or message i 0 < 256) → length starts ≡ L.segments → Admissible L class kinds starts d message codes counts
+    accepted_admissible bytes e =
         let a = w.accepts d yes in
-        record { accepts = a; room = omega (arith, e, a.segments, a.fillable.few); sound = sound }
+        record { accepts = a; bytes = bytes; room = omega (arith, e, a.segments, a.fillable.few); sound = sound }
 
     pub counting-admission :
         counting L (level_in table) (room_of text segments leaves) (record { codes = codes; counts = counts; tally = tally }) message

@@ -4,9 +4,7 @@ ghost use Rattle.read.specs.inner.Admitting.{Admissible, AdmitsAs, Copyable, Ind
 
 use crate::census::count_codes;
 use crate::codes::Accepted;
-use crate::decide::Decision;
 use crate::refused::Refused;
-use form::limits::Limits;
 use index::refusal::Refusal;
 use index::tally::Tally;
 use index::{CODES, PLACE, wide};
@@ -14,32 +12,20 @@ use index::{CODES, PLACE, wide};
 // Adds a message that was decided on to the index, and gives the tally with it; or leaves the index, and says why it is not counted.
 pub(crate) fn admit(
     tally: Tally,
-    class: &[u8; 256],
-    kinds: &[u8],
-    starts: &[usize],
-    limits: Limits,
-    decision: Decision,
-    message: &[u8],
+    accepted: &Accepted,
     codes: &mut [u8],
     counts: &mut [u32],
 ) -> Result<Tally, Refused>
-    requires { Admissible limits class.now kinds.now starts.now decision message.now codes.old counts.old }
-    ensures { AdmitsAs limits decision tally message.now codes.old counts.old
+    requires { Admissible accepted.now.limits accepted.now.class.now accepted.now.kinds.now accepted.now.starts.now accepted.now.decision
+        accepted.now.message.now codes.old counts.old }
+    ensures { AdmitsAs accepted.now.limits accepted.now.decision tally accepted.now.message.now codes.old counts.old
         result codes.new counts.new }
 {
     let mut new_codes = [0u8; CODES * PLACE];
     let mut new_counts = [0u32; CODES + 1];
     copy_index(codes, counts, &mut new_codes, &mut new_counts);
-    let accepted = Accepted {
-        class,
-        kinds,
-        starts,
-        limits,
-        decision,
-        message,
-    };
-    let results = count_codes(&accepted, &mut new_codes, &mut new_counts)?;
-    let tallied = tally.with_message(decision.segments, results);
+    let results = count_codes(accepted, &mut new_codes, &mut new_counts)?;
+    let tallied = tally.with_message(accepted.decision.segments, results);
     if !tallied.fits {
         return Err(Refused {
             number: Refusal::FULL_COUNT,

@@ -1,5 +1,5 @@
 // The second pass: the text area, the leaf rows and the segment rows are filled. It runs only once nothing can be refused any more.
-ghost use Rattle.std.specs.Prelude.{◌≡◌, ◌+◌, ◌*◌, ◌≤◌, length};
+ghost use Rattle.std.specs.Prelude.{◌≡◌, ℕ, ◌+◌, ◌*◌, ◌<◌, ◌≤◌, length, get_or};
 ghost use Rattle.std.proofs.lemmas.List.Edits.{sets};
 ghost use Rattle.order.specs.inner.Levels.{level_in};
 ghost use Rattle.table.specs.Rows.{segment_row_size, leaf_row_size, segment_row};
@@ -7,10 +7,10 @@ ghost use Rattle.read.specs.inner.Laying.{NextFits, LaysSorted};
 ghost use Rattle.read.specs.inner.Filling.{table_in, Prepared, Filled};
 ghost use Rattle.read.specs.inner.Segments.{kind_noted, Closable, ClosedBy, begun_after, HeaderPut, LineFilled};
 
+use crate::codes::Accepted;
 use crate::lay::{Laying, lay_line, put_leaf};
 use crate::start::text_from;
 use form::kind::Kind;
-use form::limits::Limits;
 use form::separators::Separators;
 use line::finder::low_end;
 use order::level_table::PER_CONTEXT;
@@ -174,25 +174,24 @@ fn next_segment(filling: Filling) -> Filling
 
 // The whole message, which no test refused; answers how many bytes of text its leaves have. Each turn fills one line, the header's rest
 // the first: an addendum then carries the open segment on, anything else closes it. Lines are filled from this one place only, so that
-// the filling is compiled into the loop and its state is not carried through memory. `limits` is there for the contract alone, which names
-// the message's segments by them: no line is measured again.
+// the filling is compiled into the loop and its state is not carried through memory.
 pub(crate) fn fill(
-    class: &[u8; 256],
-    kinds: &[u8],
+    accepted: &Accepted,
     levels: &[u8; 84],
-    context: u8,
-    limits: Limits,
-    separators: Separators,
-    message: &[u8],
     text: &mut [u8],
     segments: &mut [Entry],
     leaves: &mut [Entry],
 ) -> usize
-    requires { Prepared limits class.now kinds.now levels.now separators context message.now text.old segments.old leaves.old }
-    ensures { Filled (table_in limits levels.now separators message.now)
+    requires { Prepared accepted.now.limits accepted.now.class.now accepted.now.kinds.now levels.now accepted.now.decision.separators
+        accepted.now.decision.context accepted.now.message.now text.old segments.old leaves.old
+        × ((i : ℕ) → get_or accepted.now.message.now i 0 < 256) }
+    ensures { Filled (table_in accepted.now.limits levels.now accepted.now.decision.separators accepted.now.message.now)
         text.old segments.old leaves.old
         text.new segments.new leaves.new result }
 {
+    let class = accepted.class;
+    let message = accepted.message;
+    let separators = accepted.decision.separators;
     let mut nearest = no_rows();
     let mut filling = put_header(separators, text, leaves);
     let mut from = 7;
@@ -213,9 +212,9 @@ pub(crate) fn fill(
         if from == at {
             close_segment(
                 filling,
-                kinds,
+                accepted.kinds,
                 levels,
-                context,
+                accepted.decision.context,
                 &mut nearest,
                 segments,
                 leaves,

@@ -10,6 +10,7 @@ ghost use Rattle.read.specs.inner.Deciding.{FormRead};
 
 use crate::Answer;
 use crate::admit::admit;
+use crate::codes::Accepted;
 use crate::decide::decide;
 use crate::fill::fill;
 use crate::refused::Refused;
@@ -151,21 +152,16 @@ fn index_within(
         segments.len(),
         leaves.len(),
     )?;
-    let after = admit(
-        tally, &class, kinds, starts, limits, decision, message, codes, counts,
-    )?;
-    let bytes = fill(
-        &class,
+    let accepted = Accepted {
+        class: &class,
         kinds,
-        levels,
-        decision.context,
+        starts,
         limits,
-        decision.separators,
+        decision,
         message,
-        text,
-        segments,
-        leaves,
-    );
+    };
+    let after = admit(tally, &accepted, codes, counts)?;
+    let bytes = fill(&accepted, levels, text, segments, leaves);
     Ok(Counted {
         card: decision.card(bytes),
         tally: after,

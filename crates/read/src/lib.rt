@@ -9,6 +9,7 @@ ghost use Rattle.order.specs.Owners.{level};
 ghost use Rattle.read.specs.Answering.{ReadAs};
 ghost use Rattle.read.specs.inner.Deciding.{FormRead, ReadsWithin, answered, card_by};
 
+use codes::Accepted;
 use decide::decide;
 use fill::fill;
 use form::forms::{Form, LargeForm, SmallForm};
@@ -131,17 +132,14 @@ fn read_within(
         segments.len(),
         leaves.len(),
     )?;
-    let bytes = fill(
-        &class,
+    let accepted = Accepted {
+        class: &class,
         kinds,
-        levels,
-        decision.context,
+        starts: &none,
         limits,
-        decision.separators,
+        decision,
         message,
-        text,
-        segments,
-        leaves,
-    );
+    };
+    let bytes = fill(&accepted, levels, text, segments, leaves);
     Ok(decision.card(bytes))
 }

@@ -1,5 +1,6 @@
 -- `read::read_within` meets its contract: what was decided is refused, or filled in.
 -- Assumes nothing.
+use native.Mathlib.Omega.{arith}
 use Rattle.read.specs.inner.Deciding.{Fileable}
 use Rattle.read.proofs.Refusing.{passed_on}
 use Rattle.read.proofs.Answering.{refusal_read, accepted_fileable, table-filed, table-read}
@@ -20,7 +21,7 @@ returns-in_err-decision c =
     rw (passed_on c.from_residual.ensures.1) (refusal_read _ _ _ c.decide.ensures c.args.levels.now c.in_err-decision.was)
 
 pub fill-bytes-requires : goal.fill-bytes-requires
-fill-bytes-requires c = (fileable_here (goal.at.fill-bytes-requires c).In_ok-decision).prepared
+fill-bytes-requires c = ((fileable_here (goal.at.fill-bytes-requires c).In_ok-decision).prepared, λ i. omega (arith, c.type_inv.message i))
 
 pub returns : goal.returns
 returns c =

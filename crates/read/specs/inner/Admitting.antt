@@ -1,6 +1,6 @@
 -- What counting an accepted message asks, and what it gives (X3).
 -- Assumes nothing.
-use Rattle.std.specs.Prelude.{true, List, ◌≡◌, ℕ, ◌+◌, ◌*◌, ◌≤◌, ◌<◌, length, take, Result, Ok, Err}
+use Rattle.std.specs.Prelude.{true, List, ◌≡◌, ℕ, ◌+◌, ◌*◌, ◌≤◌, ◌<◌, length, get_or, take, Result, Ok, Err}
 use Rattle.std.proofs.lemmas.List.Edits.{sets}
 use Rattle.form.specs.declared.limits.Limits.{Limits}
 use Rattle.table.specs.Rows.{Table}
@@ -22,9 +22,10 @@ pub record IndexesWithin (L : Limits) (levels kinds starts : List ℕ) : Type 0 
   pub reads : ReadsWithin L levels kinds
   pub begins : length starts ≡ L.segments
 
--- what counting asks: an accepted message, and a sound index
+-- what counting asks: an accepted message of bytes, and a sound index
 pub record Admissible (L : Limits) (class kinds starts : List ℕ) (d : Decision) (message codes counts : List ℕ) : Type 0 where
   pub accepts : Accepts L message class kinds starts d
+  pub bytes : (i : ℕ) → get_or message i 0 < 256
   pub room : d.segments ≤ length starts
   pub sound : sound_index codes counts ≡ true
 

@@ -24,7 +24,7 @@ count_codes-requires c =
     let pre = c.requires in
     record {
       given = pre.accepts.fillable;
-      bytes = λ i. omega (arith, c.type_inv.message i);
+      bytes = pre.bytes;
       begun = pre.accepts.begun;
       rows_are = pre.accepts.segments;
       room = pre.room;
@@ -42,7 +42,7 @@ returns-then-not-tallied c =
     (not-true _ c.if-not-tallied.true)
 
 pub copy_index-requires-2 : goal.copy_index-requires-2
-copy_index-requires-2 c = copied_back c.args.limits c.args.decision c.args.tally c.args.message.now _ _ (copied_here (goal.at.copy_index-requires-2 c).After-copy_index) c.in_ok-results.ensures c.requires.sound
+copy_index-requires-2 c = copied_back c.args.accepted.now.limits c.args.accepted.now.decision c.args.tally c.args.accepted.now.message.now _ _ (copied_here (goal.at.copy_index-requires-2 c).After-copy_index) c.in_ok-results.ensures c.requires.sound
 
 pub returns : goal.returns
 returns c =

@@ -10,27 +10,27 @@ use Rattle.read.proofs.StandLaws.{text-kept, segments-kept, leaves_kept, line-la
 use Rattle.read.proofs.fill.fill.Goals as goal
 use Rattle.read.proofs.fill.fill.Goals.{After-no_rows-nearest, At-loop-from}
 
-bytes_here : (c : After-no_rows-nearest) → Bytes c.args.message.now
-bytes_here c = bytes-known c.args.message.now c.shared_slice_known-2-1.given
+bytes_here : (c : After-no_rows-nearest) → Bytes c.args.accepted.now.message.now
+bytes_here c = bytes-known c.args.accepted.now.message.now (λ i. omega (arith, c.requires.1 i))
 
 -- where a turn begins a line is about to be filled
 abbrev LineHere : At-loop-from → Type 0
 LineHere c =
-    AtLine (record { limits = c.args.limits; text = c.args.text.now; segments = c.args.segments.now; leaves = c.args.leaves.now }) c.args.class.now c.args.kinds.now c.args.levels.now
-    c.args.context c.args.separators c.args.message.now c.loop-from.from c.loop-from.filling c.loop-from.nearest c.loop-from.text c.loop-from.segments c.loop-from.leaves
+    AtLine (record { limits = c.args.accepted.now.limits; text = c.args.text.now; segments = c.args.segments.now; leaves = c.args.leaves.now }) c.args.accepted.now.class.now c.args.accepted.now.kinds.now c.args.levels.now
+    c.args.accepted.now.decision.context c.args.accepted.now.decision.separators c.args.accepted.now.message.now c.loop-from.from c.loop-from.filling c.loop-from.nearest c.loop-from.text c.loop-from.segments c.loop-from.leaves
 
 line_here : (c : At-loop-from) → LineHere c
 line_here c =
-    c.loop-from.invariant _ (header-line c.requires (bytes_here (goal.at.At-loop-from c).After-no_rows-nearest) c.put_header-filling.ensures c.no_rows-nearest.ensures)
+    c.loop-from.invariant _ (header-line c.requires.0 (bytes_here (goal.at.At-loop-from c).After-no_rows-nearest) c.put_header-filling.ensures c.no_rows-nearest.ensures)
 
 pub put_header-filling-requires : goal.put_header-filling-requires
-put_header-filling-requires c = header-fits c.requires (bytes_here (goal.at.put_header-filling-requires c).After-no_rows-nearest)
+put_header-filling-requires c = header-fits c.requires.0 (bytes_here (goal.at.put_header-filling-requires c).After-no_rows-nearest)
 
 pub loop-from-init : goal.loop-from-init
 loop-from-init c = λ came line. line
 
 pub fill_line-line-requires : goal.fill_line-line-requires
-fill_line-line-requires c = record { lays = line-lays (line_here (goal.at.fill_line-line-requires c).At-loop-from); sorted = field_sorted c.requires (bytes_here (goal.at.fill_line-line-requires c).After-no_rows-nearest) }
+fill_line-line-requires c = record { lays = line-lays (line_here (goal.at.fill_line-line-requires c).At-loop-from); sorted = field_sorted c.requires.0 (bytes_here (goal.at.fill_line-line-requires c).After-no_rows-nearest) }
 
 pub close_segment-requires : goal.close_segment-requires
 close_segment-requires c = stands_closable (line_on (line_here (goal.at.close_segment-requires c).At-loop-from) c.fill_line-line.ensures)
@@ -53,7 +53,7 @@ next_segment-filling-requires c = stands-next (line_on (line_here (goal.at.next_
 pub loop-from-smaller-then-from-at : goal.loop-from-smaller-then-from-at
 loop-from-smaller-then-from-at c =
     let line = line_here (goal.at.loop-from-smaller-then-from-at c).At-loop-from in
-    omega (arith, line.inside, line-ahead c.args.separators.field c.fill_line-line.ensures c.text_from-from.ensures)
+    omega (arith, line.inside, line-ahead c.args.accepted.now.decision.separators.field c.fill_line-line.ensures c.text_from-from.ensures)
 
 pub loop-from-preserved-then-from-at : goal.loop-from-preserved-then-from-at
 loop-from-preserved-then-from-at c =
@@ -63,7 +63,7 @@ loop-from-preserved-then-from-at c =
 pub loop-from-smaller : goal.loop-from-smaller
 loop-from-smaller c =
     let line = line_here (goal.at.loop-from-smaller c).At-loop-from in
-    omega (arith, line.inside, line-ahead c.args.separators.field c.fill_line-line.ensures c.text_from-from.ensures)
+    omega (arith, line.inside, line-ahead c.args.accepted.now.decision.separators.field c.fill_line-line.ensures c.text_from-from.ensures)
 
 pub loop-from-preserved : goal.loop-from-preserved
 loop-from-preserved c = λ came line. stands-addendum (line_on (c.loop-from.invariant came line) c.fill_line-line.ensures) c.text_from-from.ensures c.if-from-at.false

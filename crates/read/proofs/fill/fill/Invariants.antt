@@ -6,7 +6,7 @@ use Rattle.read.specs.inner.Segments.{Onward}
 use Rattle.read.proofs.fill.fill.Given as goal
 
 abbrev pub invariant-loop-from : goal.invariant-loop-from
-invariant-loop-from l = Onward l.class l.kinds l.levels l.context l.separators l.message l.initial.from l.initial.filling l.initial.nearest l.initial.text l.initial.segments l.initial.leaves l.from l.filling l.nearest l.text l.segments l.leaves
+invariant-loop-from l = Onward l.accepted.class.now l.accepted.kinds.now l.levels l.accepted.decision.context l.accepted.decision.separators l.accepted.message.now l.initial.from l.initial.filling l.initial.nearest l.initial.text l.initial.segments l.initial.leaves l.from l.filling l.nearest l.text l.segments l.leaves
 
 abbrev pub decreases-loop-from : goal.decreases-loop-from
-decreases-loop-from l = length l.message - l.from
+decreases-loop-from l = length l.accepted.message.now - l.from

@@ -1,6 +1,7 @@
 -- `indexed::index_within` meets its contract: an index that is not sound is refused, then what was decided, and what is left is counted and filed.
 -- Assumes nothing.
 use mathlib.Core.Path.{sym, ◌∙◌, refl}
+use native.Mathlib.Omega.{arith}
 use Rattle.read.specs.inner.Filling.{table_in}
 use Rattle.read.proofs.Refusing.{passed_on}
 use Rattle.read.proofs.Answering.{accepted_fileable, table-filed}
@@ -22,7 +23,7 @@ returns-in_err-decision c =
 pub admit-requires : goal.admit-requires
 admit-requires c =
     accepted_admissible c.args.text.now c.args.segments.now c.args.leaves.now c.decide.ensures c.args.levels.now c.args.tally c.args.codes.now
-    c.args.counts.now (sym c.is_sound.ensures ∙ c.if-not-is_sound.false) c.in_ok-decision.was (c.decide.auto.starts ∙ c.requires.begins)
+    c.args.counts.now (sym c.is_sound.ensures ∙ c.if-not-is_sound.false) c.in_ok-decision.was (λ i. omega (arith, c.type_inv.message i)) (c.decide.auto.starts ∙ c.requires.begins)
 
 pub returns-in_err-after : goal.returns-in_err-after
 returns-in_err-after c =
@@ -33,8 +34,11 @@ returns-in_err-after c =
     c.args.leaves.now c.in_err-after.ensures))
 
 pub fill-bytes-requires : goal.fill-bytes-requires
-fill-bytes-requires c =
-    (accepted_fileable c.args.text.now c.args.segments.now c.args.leaves.now c.decide.ensures c.args.levels.now c.in_ok-decision.was c.requires.reads.below).prepared
+fill-bytes-requires c = (
+  (accepted_fileable c.args.text.now c.args.segments.now c.args.leaves.now c.decide.ensures c.args.levels.now c.in_ok-decision.was
+      c.requires.reads.below).prepared,
+  λ i. omega (arith, c.type_inv.message i),
+)
 
 pub returns : goal.returns
 returns c =
