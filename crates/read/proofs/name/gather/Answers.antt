@@ -13,9 +13,6 @@ use Rattle.read.proofs.name.gather.Goals.{then-b-field+then-left-ne0, then-b-fie
 made : {n m : ℕ} {l k : Letters} → n ≡ m → l ≡ k → ◌≡◌ {A = Name} (record { left = n; letters = l }) (record { left = m; letters = k })
 made = ap₂ {C = Name} (λ (n : ℕ) (l : Letters). record { left = n; letters = l })
 
-pub loop-b-init : goal.loop-b-init
-loop-b-init c = record { whole = refl }
-
 pub loop-b-preserved : goal.loop-b-preserved
 loop-b-preserved c =
     gathering_turn c.loop-b.invariant c.loop-b-test.true
