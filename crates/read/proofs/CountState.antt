@@ -10,7 +10,7 @@ use native.Mathlib.Omega.{arith}
 use lib.Dec.{leb}
 use lib.ListN.{length}
 use lib.Seq.{sets}
-use borrow.Author.Tests.{eq-eqb, ne_eqb, lt-ltb, le-ltb, ltb-true, leb-true, leb-false}
+use borrow.Author.Tests.{eq-eqb, ne_eqb, lt-ltb, ltb-true, leb-true, leb-false}
 use Rattle.laws.proofs.Tests.{Tested, passed, failed, tested, and_both}
 use Rattle.index.specs.Refusals.{full_index, full_count}
 use Rattle.index.specs.Index.{Entry, codes_most, counts_past, entries_in, roomy, sound_index, rises, names, count_of, codes_put, counts_put}

@@ -5,7 +5,6 @@ use mathlib.Core.Path.{◌≡◌, refl, sym, ap, ◌∙◌}
 use Prim.Native.Nat.{ℕ, ◌+◌, ◌≤◌, ◌<◌}
 use native.Mathlib.Omega.{arith}
 use lib.ListN.{length}
-use lib.Seq.{length-take-le}
 use Rattle.table.specs.Rows.{width}
 use Rattle.index.specs.Index.{code_most}
 use Rattle.read.specs.inner.Census.{carried_by, passed_over, long}

@@ -1,8 +1,7 @@
 -- `read::codes::plain_end` meets its contract: what is left of the text ends where all of it ends.
 -- Assumes nothing.
-use mathlib.Core.Path.{refl, sym, ap, ◌∙◌}
+use mathlib.Core.Path.{sym, ap, ◌∙◌}
 use Prim.Native.Nat.{ℕ}
-use native.Mathlib.Omega.{arith}
 use lib.ListN.{get_or}
 use Rattle.read.proofs.SkippedFields.{plain_on, plain_done}
 use Rattle.read.proofs.codes.plain_end.Goals as goal

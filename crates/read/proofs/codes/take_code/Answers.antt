@@ -1,6 +1,5 @@
 -- `read::codes::take_code` meets its contract: each turn looks at one line of the segment, up to the code's end or the segment's.
 -- Assumes nothing.
-use mathlib.Core.Path.{◌∙◌}
 use native.Mathlib.Omega.{arith}
 use lib.ListN.{length}
 use Rattle.laws.proofs.Bytes.{bytes-known}

@@ -1,6 +1,6 @@
 -- `read::name::gather` meets its contract. The loop's invariant: what is left of the bytes, gathered on, gives the whole.
 -- Assumes nothing.
-use mathlib.Core.Path.{◌≡◌, refl, sym, ap₂, ◌∙◌}
+use mathlib.Core.Path.{◌≡◌, sym, ap₂, ◌∙◌}
 use Prim.Native.Nat.{ℕ}
 use native.Mathlib.Omega.{arith}
 use Rattle.form.specs.declared.letters.Letters.{Letters}

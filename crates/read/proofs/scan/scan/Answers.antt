@@ -3,7 +3,7 @@
 use mathlib.Core.Path.{◌≡◌, ◌∙◌, subst⁻¹}
 use Prim.Native.Nat.{◌+◌}
 use native.Mathlib.Omega.{arith}
-use Rattle.read.proofs.Scanning.{Scanning, scan_begins, scan_stops, scan_marks, scan_passes, scan_ends}
+use Rattle.read.proofs.Scanning.{Scanning, scan_stops, scan_marks, scan_passes, scan_ends}
 use Rattle.read.proofs.scan.scan.Goals as goal
 use Rattle.read.proofs.scan.scan.Goals.{then-sort-gt0+else-sort-eq-CONTROL, else-sort-gt0}
 
