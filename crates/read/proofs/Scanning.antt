@@ -49,9 +49,6 @@ pub record Scans (class m : List ℕ) (from stop i separators : ℕ) : Type 0 wh
   pub marked : separators ≡ marks class (between m from stop)
 
 module _ {class m : List ℕ} {from stop : ℕ} where
-  pub scan_begins : from ≤ stop → Scanning class m from stop from 0
-  scan_begins h = record { ahead = h; few = omega arith; end = refl; marked = omega arith }
-
   module _ {i separators : ℕ} (w : Scanning class m from stop i separators) where
     -- at its stop
     pub scan_ends : stop ≤ i → Scans class m from stop i separators

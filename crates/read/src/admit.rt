@@ -1,5 +1,5 @@
-// Whether a message that the reader accepts is counted (X3): its codes are added to a copy of the index, and the message to the tally; only where
-// nothing is refused does the index become the copy.
+// Whether a message that the reader accepts is counted (X3): its codes are added to a copy of the
+// index, and the message to the tally. Only where nothing is refused does the index become the copy.
 ghost use Rattle.read.specs.inner.Admitting.{Admissible, AdmitsAs, Copyable, IndexCopied};
 
 use crate::census::count_codes;
@@ -9,7 +9,8 @@ use index::refusal::Refusal;
 use index::tally::Tally;
 use index::{CODES, PLACE, wide};
 
-// Adds a message that was decided on to the index, and gives the tally with it; or leaves the index, and says why it is not counted.
+// Adds a message that was decided on to the index, and gives the tally with it; or leaves the
+// index, and says why the message is not counted.
 pub(crate) fn admit(
     tally: Tally,
     accepted: &Accepted,

@@ -1,4 +1,5 @@
-// Counting the codes of a message (X2): each result's code is added to a copy of the index, so that a refusal leaves the lent one as it was.
+// Counting the codes of a message (X2): each result's code is added to a copy of the index, so that
+// a refusal leaves the lent one as it was.
 ghost use Rattle.std.specs.Prelude.{◌≡◌};
 ghost use Rattle.index.specs.Index.{entries_in};
 ghost use Rattle.read.specs.inner.Census.{carried_in, carried_by, lower_of, Countable, CensusOf, RowAhead, RowCounted};
@@ -10,7 +11,8 @@ use index::CODE;
 use index::adding::add;
 use index::refusal::Refusal;
 
-// What the rows so far come to: the lowest number of refusal that a code met with, and how many results were counted.
+// What the rows so far come to: the lowest number of refusal that a code met with, and how many
+// results were tried.
 #[derive(Clone, Copy)]
 pub struct Census {
     pub refused: Option<u8>,
@@ -28,7 +30,8 @@ fn lower(earlier: Option<u8>, number: u8) -> Option<u8>
     }
 }
 
-// One row more: where it is a result that has a code, the code is added. One that is too long is refused at once, since no number is lower (50).
+// One row more: where it is a result that has a code, the code is added. One that is too long is
+// refused at once, since no number is lower (50).
 fn count_row(
     accepted: &Accepted,
     row: usize,
@@ -61,7 +64,8 @@ fn count_row(
     })
 }
 
-// All rows in their order. A full index (51) or a full count (52) is refused once all are seen, since one of them may be refused with 50.
+// All rows in their order, and how many codes were counted. A full index (51) or a full count (52)
+// is refused once all are seen, since one of them may be refused with 50.
 pub(crate) fn count_codes(
     accepted: &Accepted,
     codes: &mut [u8],

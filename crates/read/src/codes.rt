@@ -1,4 +1,5 @@
-// The analysis code of a segment (X2): 10.4.1 in its first repetition, gathered from the lines that the segment takes.
+// The analysis code of a segment (X2): 10.4.1 in its first repetition, gathered from the lines that
+// the segment takes.
 ghost use Rattle.std.specs.Prelude.{true, false, ◌≡◌, ◌+◌, ◌-◌, ◌≤◌, ◌<◌, eqb, length, get_or, drop};
 ghost use Rattle.index.specs.Index.{code_most};
 ghost use Rattle.read.specs.inner.Scanning.{plain_run};
@@ -11,8 +12,9 @@ use index::CODE;
 use line::finder::low_end;
 use table::class::index;
 
-// A segment's code that may go on: the field separators that are to come up to the one that ends field 4, 1 in that field itself; the bytes of the
-// code so far; and where its line is looked at next.
+// A segment's code that may go on: the field separators that are to come up to the one that ends
+// field 4, 1 in that field itself; how many bytes the code has so far; and where its line is looked
+// at next.
 #[derive(Clone, Copy)]
 pub struct Taken {
     pub left: usize,
@@ -20,7 +22,8 @@ pub struct Taken {
     pub at: usize,
 }
 
-// A message that was decided on, with what deciding noted of it: the classes of its bytes, and of each segment its kind and where it begins.
+// A message that was decided on, with what deciding noted of it: the classes of its bytes, and of
+// each segment its kind and where it begins.
 #[derive(Clone, Copy)]
 pub struct Accepted<'a> {
     pub class: &'a [u8; 256],
@@ -31,27 +34,30 @@ pub struct Accepted<'a> {
     pub message: &'a [u8],
 }
 
-// How far a line brings the code: it is whole, with so many bytes, or it may go on behind the line, which ends at `at`.
+// How far a line brings the code: it is whole, with so many bytes, or it may go on behind the line,
+// which ends at `at`.
 #[derive(Clone, Copy)]
 pub enum Reached {
     Whole(usize),
     Open(Taken),
 }
 
-// Where the text ends that begins at `from`. A byte that is none lies ahead, so the loop tests no bound.
+// Where the text ends that begins at `from`. A byte that is none lies ahead, so the loop tests no
+// bound.
 fn plain_end(class: &[u8; 256], message: &[u8], from: usize) -> usize
     requires { from + plain_run class.now (drop from message.now) < length message.now }
     ensures { result ≡ from + plain_run class.now (drop from message.now) }
 {
     let mut at = from;
-    // kept (plainer): a byte that is no text lies ahead, and `position` over the rest of the message would test a bound at each byte
+    // kept (plainer): a byte that is no text lies ahead, so this needs no end or answer for none
     while class[index(message[at])] == 0 {
         at += 1;
     }
     at
 }
 
-// Over the fields before the code, up to its own, or to the line's end. Most bytes are text: only the others are asked what they are.
+// Over the fields before the code, up to its own, or to the line's end. Most bytes are text: only
+// the others are asked what they are.
 fn skip_fields(class: &[u8; 256], message: &[u8], taken: Taken) -> Taken
     requires { Skips class.now message.now taken.at taken.left }
     ensures { FieldsSkipped class.now message.now taken result }
@@ -92,7 +98,7 @@ fn take_line(class: &[u8; 256], message: &[u8], taken: Taken, code: &mut [u8]) -
     let mut left = taken.left;
     let mut length = taken.length;
     let mut at = taken.at;
-    // kept (plainer): a byte of class 5 lies ahead, so a `for` would need an answer behind it that never comes
+    // kept (plainer): a byte of class 5 lies ahead, so an answer behind a `for` would never come
     loop {
         let b = message[at];
         let sort = class[index(b)];
@@ -130,7 +136,8 @@ fn fields_left(left: usize, sort: u8) -> usize
     if sort == 1 { left - 1 } else { left }
 }
 
-// The code of a segment by its row: how many bytes it has, of which the first 22 are kept; 0 where it is absent or empty.
+// The code of a segment by its row: how many bytes it has, of which the first 22 are kept; 0 where
+// it is absent or empty.
 pub(crate) fn take_code(accepted: &Accepted, row: usize, code: &mut [u8]) -> usize
     requires { CodeAhead accepted.now.limits accepted.now.class.now accepted.now.kinds.now accepted.now.decision.separators accepted.now.decision.context
         accepted.now.message.now row (get_or accepted.now.starts.now row 0) code.old × (row < length accepted.now.starts.now) }

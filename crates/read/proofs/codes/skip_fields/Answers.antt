@@ -38,25 +38,13 @@ plain_end-stop-requires c = text-inside c.loop-left.invariant c.loop-left-test.t
 pub bounds-message-stop : goal.bounds-message-stop
 bounds-message-stop c = stop_within (goal.at.bounds-message-stop c).After-plain_end-stop
 
-pub bounds-class-index : goal.bounds-class-index
-bounds-class-index c = omega (arith, c.index.ensures.1)
-
 pub returns-then-sort-eq5 : goal.returns-then-sort-eq5
 returns-then-sort-eq5 c = (stopped_here (goal.at.returns-then-sort-eq5 c).After-plain_end-stop).skipped
 
 pub overflow_add-at : goal.overflow_add-at
 overflow_add-at c = omega (arith, stop_within (goal.at.overflow_add-at c).After-plain_end-stop, c.well_formed)
 
-pub fields_left-left-requires : goal.fields_left-left-requires
-fields_left-left-requires c = c.loop-left.invariant.skipped.begun
-
-pub loop-left-smaller : goal.loop-left-smaller
-loop-left-smaller c = omega (arith, stop_within (goal.at.loop-left-smaller c).After-plain_end-stop, c.plain_end-stop.ensures)
-
 pub loop-left-preserved : goal.loop-left-preserved
 loop-left-preserved c =
     skipping_next (stopped_here (goal.at.loop-left-preserved c).After-plain_end-stop) c.loop-left-test.true (λ e. c.if-sort-eq5.false (class_here (goal.at.loop-left-preserved c).After-index e))
     (c.fields_left-left.ensures ∙ ap (λ (k : ℕ). elim (eqb k 1) [ true ↦ c.loop-left.left - 1 | false ↦ c.loop-left.left ]) (class_here (goal.at.loop-left-preserved c).After-index refl))
-
-pub returns : goal.returns
-returns c = c.loop-left.invariant.skipped

@@ -3,7 +3,6 @@
 use mathlib.Core.Bool.{true, false}
 use mathlib.Core.Path.{◌≡◌, refl, sym, ap, ◌∙◌, subst⁻¹}
 use Prim.Native.Nat.{ℕ, ◌-◌}
-use native.Mathlib.Omega.{arith}
 use lib.Dec.{eqb}
 use lib.ListN.{get_or}
 use Rattle.read.proofs.TakenLines.{Taking, taking_begins, taking_ends, taking_whole, taking_kept, taking_on}
@@ -23,46 +22,16 @@ class_back c e = ap (λ (k : ℕ). get_or c.args.class.now k 0) c.index.ensures.
 pub loop-left-init : goal.loop-left-init
 loop-left-init c = taking_begins c.requires
 
-pub bounds-message-at : goal.bounds-message-at
-bounds-message-at c = omega (arith, c.loop-left.invariant.inside)
-
-pub bounds-class-index : goal.bounds-class-index
-bounds-class-index c = omega (arith, c.index.ensures.1)
-
-pub shape_of-code-then-sort-eq5 : goal.shape_of-code-then-sort-eq5
-shape_of-code-then-sort-eq5 c = c.loop-left.invariant.same
-
 pub returns-then-sort-eq5 : goal.returns-then-sort-eq5
 returns-then-sort-eq5 c = taking_ends c.loop-left.invariant (class_here (goal.at.returns-then-sort-eq5 c).After-index c.if-sort-eq5.true)
 
-pub overflow_add-at : goal.overflow_add-at
-overflow_add-at c = omega (arith, c.loop-left.invariant.inside, c.well_formed)
-
-pub shape_of-code-then-sort-ne0 : goal.shape_of-code-then-sort-ne0
-shape_of-code-then-sort-ne0 c = c.loop-left.invariant.same
-
 pub returns-then-sort-ne0 : goal.returns-then-sort-ne0
 returns-then-sort-ne0 c = taking_whole c.loop-left.invariant (λ e. c.if-sort-eq5.false (class_back (goal.at.returns-then-sort-ne0 c).After-index e)) c.if-left-eq1.true (λ e. c.if-sort-ne0.true (class_back (goal.at.returns-then-sort-ne0 c).After-index e))
-
-pub keep-requires : goal.keep-requires
-keep-requires c = c.loop-left.invariant.room
-
-pub overflow_add-length : goal.overflow_add-length
-overflow_add-length c = omega (arith, c.loop-left.invariant.short, c.loop-left.invariant.inside, c.well_formed)
-
-pub loop-left-smaller-then-left-eq1 : goal.loop-left-smaller-then-left-eq1
-loop-left-smaller-then-left-eq1 c = omega (arith, c.loop-left.invariant.inside)
 
 pub loop-left-preserved-then-left-eq1 : goal.loop-left-preserved-then-left-eq1
 loop-left-preserved-then-left-eq1 c =
     subst⁻¹ (Taking _ _ _ _ _ _ _ _ _) c.keep.ensures
     (taking_kept c.loop-left.invariant (λ e. c.if-sort-eq5.false (class_back (goal.at.loop-left-preserved-then-left-eq1 c).After-index e)) c.if-left-eq1.true (class_here (goal.at.loop-left-preserved-then-left-eq1 c).After-index c.if-sort-ne0.false))
-
-pub fields_left-left-requires : goal.fields_left-left-requires
-fields_left-left-requires c = c.loop-left.invariant.begun
-
-pub loop-left-smaller : goal.loop-left-smaller
-loop-left-smaller c = omega (arith, c.loop-left.invariant.inside)
 
 pub loop-left-preserved : goal.loop-left-preserved
 loop-left-preserved c =

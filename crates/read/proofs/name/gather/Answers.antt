@@ -1,6 +1,6 @@
 -- `read::name::gather` meets its contract. The loop's invariant: what is left of the bytes, gathered on, gives the whole.
 -- Assumes nothing.
-use mathlib.Core.Path.{◌≡◌, refl, sym, ap₂, ◌∙◌}
+use mathlib.Core.Path.{◌≡◌, sym, ap₂, ◌∙◌}
 use Prim.Native.Nat.{ℕ}
 use native.Mathlib.Omega.{arith}
 use Rattle.form.specs.declared.letters.Letters.{Letters}
@@ -12,9 +12,6 @@ use Rattle.read.proofs.name.gather.Goals.{then-b-field+then-left-ne0, then-b-fie
 -- a name of these parts
 made : {n m : ℕ} {l k : Letters} → n ≡ m → l ≡ k → ◌≡◌ {A = Name} (record { left = n; letters = l }) (record { left = m; letters = k })
 made = ap₂ {C = Name} (λ (n : ℕ) (l : Letters). record { left = n; letters = l })
-
-pub loop-b-init : goal.loop-b-init
-loop-b-init c = record { whole = refl }
 
 pub loop-b-preserved : goal.loop-b-preserved
 loop-b-preserved c =

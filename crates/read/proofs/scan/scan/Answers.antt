@@ -3,20 +3,14 @@
 use mathlib.Core.Path.{◌≡◌, ◌∙◌, subst⁻¹}
 use Prim.Native.Nat.{◌+◌}
 use native.Mathlib.Omega.{arith}
-use Rattle.read.proofs.Scanning.{Scanning, scan_begins, scan_stops, scan_marks, scan_passes, scan_ends}
+use Rattle.read.proofs.Scanning.{Scanning, scan_stops, scan_marks, scan_passes, scan_ends}
 use Rattle.read.proofs.scan.scan.Goals as goal
 use Rattle.read.proofs.scan.scan.Goals.{then-sort-gt0+else-sort-eq-CONTROL, else-sort-gt0}
-
-pub loop-i-init : goal.loop-i-init
-loop-i-init c = scan_begins (omega arith)
 
 pub returns-then-sort-eq-CONTROL : goal.returns-then-sort-eq-CONTROL
 returns-then-sort-eq-CONTROL c =
     let scanned = scan_stops c.loop-i.invariant (omega arith) (omega arith) c.index.ensures.0 c.if-sort-eq-CONTROL.true in
     (scanned.end, scanned.marked)
-
-pub overflow_add-separators : goal.overflow_add-separators
-overflow_add-separators c = omega (arith, c.loop-i.invariant.few)
 
 pub loop-i-preserved : goal.loop-i-preserved
 loop-i-preserved c =
