@@ -94,7 +94,7 @@ fn copy_text(class: &[u8; 256], message: &[u8], from: usize, text: &mut [u8], ou
 {
     let mut n = 0;
     let mut b = message[from];
-    // kept (plainer): a byte that is no text lies ahead, and `position` over the rest of the message would test a bound at each byte
+    // kept (plainer): a byte that is no text lies ahead, so this needs no end or answer for none
     while class[index(b)] == 0 {
         text[out + n] = b;
         n += 1;
@@ -136,7 +136,7 @@ pub(crate) fn lay_line(
 {
     let mut now = laying;
     let mut i = from;
-    // kept (plainer): each turn goes on behind a stretch of text and its separator, so there is no range to go over
+    // kept (plainer): each turn goes on behind a stretch of text, so there is no range to go over
     loop {
         let n = copy_text(class, message, i, text, now.out);
         let stop = i + n;

@@ -19,7 +19,7 @@ use line::finder::{Found, ended_line};
 use order::watcher::Watcher;
 
 // What is known once some lines have been seen. The last segment begun is open: lines may still carry it on.
-// kept (plainer): `unknown` and `misplaced` count from 1 with 0 for none, as `first_unknown` and `refuse_at` do, by which reading is stated
+// kept (plainer): 0 for none, as `first_unknown` and `refuse_at` have it, which state the reading
 #[derive(Clone, Copy)]
 pub struct Survey {
     // segments begun
