@@ -74,7 +74,7 @@ pub(crate) fn put_leaves(
     let mut row = 0;
     loop {
         let end = from + rows::wide(leaves[row * rows::LEAF_ROW + rows::LENGTH]);
-        let put = put_text(limits, field, going, text, from, end, output);
+        let put = put_text(limits, field, going, &text[from..end], output);
         if row + 1 == count {
             return close(limits, put, output);
         }

@@ -1,9 +1,8 @@
 // The lines of segments as they are filled (W1): separators one by one, texts in parts, as much at a time as the line begun has room for. An
 // addendum is begun only where a line is full and more of its segment follows.
-ghost use Rattle.std.specs.Prelude.{[], ◌∷◌, ◌≡◌, ◌+◌, ◌-◌, ◌≤◌, length, take, drop};
-ghost use Rattle.std.proofs.lemmas.List.Edits.{sets};
-ghost use Rattle.write.specs.inner.Filling.{stand, placed, segment_closed, broken, line_opened, puts};
-ghost use Rattle.write.specs.inner.Asked.{Opens, RoomForByte, RoomForEnd, ByteInside, PartInside};
+ghost use Rattle.std.specs.Prelude.{[], ◌∷◌, ◌≡◌};
+ghost use Rattle.write.specs.inner.Filling.{stand, placed, filled, segment_closed, broken, line_opened, puts};
+ghost use Rattle.write.specs.inner.Asked.{Opens, RoomForByte, RoomForText, RoomForEnd, ByteInside, TextInside};
 
 use form::limits::Limits;
 
@@ -88,49 +87,39 @@ pub(crate) fn put_inside(
     place(open, byte, output)
 }
 
-// Copies so many bytes of a text from `from` on into the output.
-fn copy(text: &[u8], from: usize, count: usize, output: &mut [u8], out: usize)
-    requires { (from + count ≤ length text.now) × (out + count ≤ length output.old) }
-    ensures { output.new ≡ sets output.old out (take count (drop from text.now)) }
+// A text goes into the line begun, which has room for it.
+fn fill(going: Going, text: &[u8], output: &mut [u8]) -> Going
+    requires { RoomForText going output.old text.now }
+    ensures { stand output.new result ≡ filled (stand output.old going) text.now }
 {
-    let mut i = 0;
-    while i < count {
-        output[out + i] = text[from + i];
-        i += 1;
+    let at = going.out;
+    let end = at + text.len();
+    output[at..end].copy_from_slice(text);
+    Going {
+        out: end,
+        room: going.room - text.len(),
+        lines: going.lines,
     }
 }
 
-// The bytes of a text from `from` up to `end`, none of which is CR: lines are filled and broken as long as more bytes are left than the line has room for.
+// The bytes of a text, none of which is CR: lines are filled and broken as long as more bytes are left than the line has room for.
 pub(crate) fn put_text(
     limits: Limits,
     field: u8,
     going: Going,
     text: &[u8],
-    from: usize,
-    end: usize,
     output: &mut [u8],
 ) -> Going
-    requires { PartInside limits field (stand output.old going) text.now from end }
-    ensures { stand output.new result ≡ puts limits field (stand output.old going) (take (end - from) (drop from text.now)) }
+    requires { TextInside limits field (stand output.old going) text.now }
+    ensures { stand output.new result ≡ puts limits field (stand output.old going) text.now }
 {
     let mut going = going;
-    let mut at = from;
-    while going.room < end - at {
-        let count = going.room;
-        copy(text, at, count, output, going.out);
-        let full = Going {
-            out: going.out + count,
-            room: 0,
-            lines: going.lines,
-        };
+    let mut left = text;
+    while going.room < left.len() {
+        let (part, others) = left.split_at(going.room);
+        let full = fill(going, part, output);
         going = break_line(limits, field, full, output);
-        at += count;
+        left = others;
     }
-    let count = end - at;
-    copy(text, at, count, output, going.out);
-    Going {
-        out: going.out + count,
-        room: going.room - count,
-        lines: going.lines,
-    }
+    fill(going, left, output)
 }

@@ -141,10 +141,14 @@ pub record KindsAndLeaves (segments : List ℕ) (many : ℕ) (rows text : List �
   pub some : 0 < count
   pub grouped : groups_stated segments 0 many 1 (groups_in rows text count) ≡ true
 
--- a byte into the line begun; the end of the line; the end of the line, and an addendum
+-- a byte or a text into the line begun; the end of the line; the end of the line, and an addendum
 pub record RoomForByte (going : Going) (output : List ℕ) : Type 0 where
   pub within : going.out < length output
   pub room : 1 ≤ going.room
+
+pub record RoomForText (going : Going) (output text : List ℕ) : Type 0 where
+  pub within : going.out + length text ≤ length output
+  pub room : length text ≤ going.room
 
 pub record RoomForEnd (going : Going) (output : List ℕ) (size : ℕ) : Type 0 where
   pub within : going.out + size ≤ length output
@@ -161,13 +165,11 @@ pub record ByteInside (L : Limits) (f : ℕ) (s : Stand) (b : ℕ) : Type 0 wher
   pub fits : Fits L f s (b ∷ [])
   pub inside : b ≡ CR → ⊥
 
--- a part of the text, as bytes of the segment
-pub record PartInside (L : Limits) (f : ℕ) (s : Stand) (text : List ℕ) (from end : ℕ) : Type 0 where
+-- a text, as bytes of the segment
+pub record TextInside (L : Limits) (f : ℕ) (s : Stand) (text : List ℕ) : Type 0 where
   pub lawful : Lawful L
-  pub up_to : from ≤ end
-  pub within : end ≤ length text
-  pub inside : InSegment (take (end - from) (drop from text))
-  pub fits : Fits L f s (take (end - from) (drop from text))
+  pub inside : InSegment text
+  pub fits : Fits L f s text
 
 -- a leaf and the next one, in one segment or not
 pub record NextThere (rows : List ℕ) (row : ℕ) : Type 0 where

@@ -2,7 +2,7 @@
 -- whole.
 -- Assumes nothing.
 use native.Mathlib.Omega.{arith}
-use Rattle.write.proofs.LeavesLeft.{leaves_begin, leaf-fits, last_fits, last_turn, leading-fits, leading_turn, leaves-written}
+use Rattle.write.proofs.LeavesLeft.{leaves_begin, leaf-within, leaf-fits, last_fits, last_turn, leading-fits, leading_turn, leaves-written}
 use Rattle.write.proofs.leaves.put_leaves.Goals as goal
 
 pub loop-row-init : goal.loop-row-init
@@ -21,7 +21,10 @@ pub bounds-leaves-row : goal.bounds-leaves-row
 bounds-leaves-row c = omega arith
 
 pub overflow_add-end : goal.overflow_add-end
-overflow_add-end c = omega (arith, (leaf-fits c.requires c.loop-row.invariant.1 c.loop-row.invariant.0 c.wide.ensures.0).within, c.well_formed, c.ranges)
+overflow_add-end c = omega (arith, leaf-within c.requires c.loop-row.invariant.1 c.loop-row.invariant.0 c.wide.ensures.0, c.well_formed, c.ranges)
+
+pub slice_bounds-put_text-end : goal.slice_bounds-put_text-end
+slice_bounds-put_text-end c = leaf-within c.requires c.loop-row.invariant.1 c.loop-row.invariant.0 c.wide.ensures.0
 
 pub put_text-put-requires : goal.put_text-put-requires
 put_text-put-requires c = leaf-fits c.requires c.loop-row.invariant.1 c.loop-row.invariant.0 c.wide.ensures.0
