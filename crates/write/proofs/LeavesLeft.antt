@@ -150,9 +150,6 @@ module _ {L : Limits} {ps : Separators} {rows : List ℕ} {count : ℕ} {text ou
   unfolding own
   part_is = leaf_part rows text row (w.here less) is
 
-  pub leaf-within : from + size ≤ length text
-  leaf-within = omega (arith, (a.leaves row less).within, w.here less)
-
   pub leaf-fits : TextInside L f s (take (from + size - from) (drop from text))
   unfolding own
   leaf-fits = leaf-asked rows text row (w.here less) is a.lawful (a.leaves row less) (fits-first L f s own (behind) split-fits)

@@ -71,15 +71,14 @@ pub(crate) fn put_leaves(
         lines: 0,
     };
     let mut from = 0;
-    let mut row = 0;
-    loop {
+    let last = count - 1;
+    for row in 0..last {
         let end = from + rows::wide(leaves[row * rows::LEAF_ROW + rows::LENGTH]);
         let put = put_text(limits, field, going, &text[from..end], output);
-        if row + 1 == count {
-            return close(limits, put, output);
-        }
         going = put_separator(limits, separators, put, leaves, row, output);
         from = end;
-        row += 1;
     }
+    let end = from + rows::wide(leaves[last * rows::LEAF_ROW + rows::LENGTH]);
+    let put = put_text(limits, field, going, &text[from..end], output);
+    close(limits, put, output)
 }
