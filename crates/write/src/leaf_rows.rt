@@ -1,5 +1,6 @@
 // The tests of leaf rows (S2, S4, T3, T4): each row against the one before it, each text by its bytes.
-ghost use Rattle.std.specs.Prelude.{[], ◌∷◌, ◌≡◌, suc, ◌+◌, ◌-◌, ◌≤◌, eqb, length, take, drop};
+ghost use Rattle.std.specs.Prelude.{[], ◌∷◌, ◌≡◌, suc, ◌+◌, ◌-◌, ◌≤◌, eqb, length, get_or, take, drop};
+ghost use Rattle.std.specs.List.{list_all};
 ghost use Rattle.laws.specs.Lists.{same};
 ghost use Rattle.laws.specs.Tables.{values};
 ghost use Rattle.form.specs.Header.{splitting};
@@ -11,7 +12,7 @@ ghost use Rattle.write.specs.inner.Tests.{Decides, Laid, finer, header_leaves_at
 ghost use Rattle.write.specs.inner.Asked.{SomeRows, TwoPlaces, LaidOut, Headed, FourWithin};
 
 use form::separators::Separators;
-use table::class::{index, set_classes};
+use table::class::set_classes;
 use table::rows;
 use table::rows::Entry;
 
@@ -135,19 +136,11 @@ fn next_in_repetition(rows: &[Entry], from: usize, to: usize) -> bool
     one_more(rows[from + rows::SUBSUBFIELD], rows[to + rows::SUBSUBFIELD])
 }
 
-// Whether the bytes from `from` up to `end` may be a leaf's text under the separators that the classes are of.
-fn leaf_text(class: &[u8; 256], text: &[u8], from: usize, end: usize) -> bool
-    requires { (from ≤ end) × (end ≤ length text.now) }
-    ensures { (ps : Separators) → class.now ≡ class_table ps → result ≡ leaf_text (splitting ps) (take (end - from) (drop from text.now)) }
+// Whether each byte of a text is of class 0, so that it may be a leaf's text under the separators that the classes are of.
+fn leaf_text(class: &[u8; 256], text: &[u8]) -> bool
+    ensures { result ≡ list_all (λ b. eqb (get_or class.now b 0) 0) text.now }
 {
-    let mut i = from;
-    while i < end {
-        if class[index(text[i])] != 0 {
-            return false;
-        }
-        i += 1;
-    }
-    true
+    text.iter().all(|byte| class[*byte as usize] == 0)
 }
 
 // Whether leaf rows that are laid out begin after the header's two at field 3 (S4), with texts that may be a leaf's from there on: these are
@@ -162,12 +155,8 @@ pub(crate) fn go_on_from(separators: Separators, rows: &[Entry], text: &[u8], co
     }
     let mut class = [0u8; 256];
     set_classes(&mut class, separators);
-    leaf_text(
-        &class,
-        text,
-        rows::wide(rows[2 * rows::LEAF_ROW + rows::START]),
-        text.len(),
-    )
+    let start = rows::wide(rows[2 * rows::LEAF_ROW + rows::START]);
+    leaf_text(&class, &text[start..])
 }
 
 // Whether the first two of leaf rows that are laid out are a header's: `H` in field 1, four bytes in field 2 (S4). Only the contract reads

@@ -2,15 +2,16 @@
 -- Assumes nothing.
 use native.Mathlib.Omega.{arith}
 use mathlib.Core.Path.{refl, ◌∙◌}
-use Prim.Native.Nat.{◌≤◌, ◌*◌}
-use lib.ListN.{length}
+use Prim.Native.Nat.{◌-◌, ◌≤◌, ◌*◌}
+use lib.ListN.{length, take, drop}
 use Rattle.form.specs.Header.{splitting}
 use Rattle.table.proofs.Classes.{classes-set}
+use Rattle.write.proofs.ClassTables.{text_by_classes, part_bytes}
 use Rattle.write.proofs.LaidRows.{in_text_fits}
 use Rattle.write.proofs.GoingOn.{third_elsewhere, third_decides}
 use Rattle.table.specs.Rows.{leaf_row_size}
 use Rattle.write.proofs.leaf_rows.go_on_from.Goals as goal
-use Rattle.write.proofs.leaf_rows.go_on_from.Goals.{Start}
+use Rattle.write.proofs.leaf_rows.go_on_from.Goals.{Start, After-wide-start}
 
 -- three rows at least
 rows-there : (s : Start) → 3 * leaf_row_size ≤ length s.args.rows.now
@@ -25,12 +26,20 @@ returns-then-rows-ne3 c = third_elsewhere (splitting c.args.separators) c.args.r
 pub bounds-rows-2 : goal.bounds-rows-2
 bounds-rows-2 c = omega (arith, rows-there (goal.at.bounds-rows-2 c).Start)
 
-pub leaf_text-requires : goal.leaf_text-requires
-leaf_text-requires c =
-    let laid = c.requires.laid in
-    (omega (arith, c.wide.ensures.0, in_text_fits laid.in_text 2 laid.three), omega arith)
+-- the third text begins within
+third_starts : (c : After-wide-start) → c.wide-start.result ≤ length c.args.text.now
+third_starts c = let laid = c.requires.laid in omega (arith, c.wide-start.ensures.0, in_text_fits laid.in_text 2 laid.three)
+
+pub slice_bounds-leaf_text-count : goal.slice_bounds-leaf_text-count
+slice_bounds-leaf_text-count c = third_starts (goal.at.slice_bounds-leaf_text-count c).After-wide-start
+
+pub slice_bounds-leaf_text-start : goal.slice_bounds-leaf_text-start
+slice_bounds-leaf_text-start c = third_starts (goal.at.slice_bounds-leaf_text-start c).After-wide-start
 
 pub returns : goal.returns
 returns c =
-    c.leaf_text.ensures c.args.separators (classes-set c.args.separators refl c.set_classes.ensures)
-    ∙ third_decides (splitting c.args.separators) c.args.rows.now c.args.text.now c.args.count c.requires c.if-rows-ne3.false c.wide.ensures.0
+    let start = c.wide-start.result in
+    c.leaf_text.ensures
+    ∙ text_by_classes c.args.separators (classes-set c.args.separators refl c.set_classes.ensures) (take (length c.args.text.now - start) (drop start c.args.text.now))
+    (part_bytes (length c.args.text.now - start) start c.args.text.now (λ i. omega (arith, c.type_inv.text i)))
+    ∙ third_decides (splitting c.args.separators) c.args.rows.now c.args.text.now c.args.count c.requires c.if-rows-ne3.false c.wide-start.ensures.0
