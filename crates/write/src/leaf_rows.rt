@@ -25,8 +25,7 @@ pub(crate) fn laid(rows: &[Entry], count: usize, finish: usize) -> bool
         return false;
     }
     let mut start = rows::wide(rows[rows::LENGTH]);
-    let mut i = 1;
-    while i < count {
+    for i in 1..count {
         let at = i * rows::LEAF_ROW;
         if rows::wide(rows[at + rows::START]) != start {
             return false;
@@ -35,7 +34,6 @@ pub(crate) fn laid(rows: &[Entry], count: usize, finish: usize) -> bool
             return false;
         }
         start += rows::wide(rows[at + rows::LENGTH]);
-        i += 1;
     }
     start == finish
 }

@@ -1,11 +1,7 @@
 -- `write::leaf_rows::laid` meets its contract. The loop's invariant: the rows up to here are laid out.
 -- Assumes nothing.
-use Prim.Native.Nat.{◌-◌}
 use Rattle.write.proofs.LaidRows.{Laying}
 use Rattle.write.proofs.leaf_rows.laid.Given as goal
 
 abbrev pub invariant-loop-i : goal.invariant-loop-i
 invariant-loop-i l = Laying l.rows l.finish l.count l.i l.start
-
-abbrev pub decreases-loop-i : goal.decreases-loop-i
-decreases-loop-i l = l.count - l.i
