@@ -60,12 +60,10 @@ fn field_leaf(rows: &[Entry], field: Entry, first: usize, end: usize) -> usize
     requires { UpTo rows.now first end }
     ensures { FieldLeaf rows.now field first end result }
 {
-    let mut i = first;
-    while i < end {
+    for i in first..end {
         if rows[i * rows::LEAF_ROW + rows::FIELD] == field {
             return alone(rows, field, i, end);
         }
-        i += 1;
     }
     end
 }

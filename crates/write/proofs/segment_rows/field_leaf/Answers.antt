@@ -7,29 +7,11 @@ use Rattle.write.proofs.segment_rows.field_leaf.Goals as goal
 pub loop-i-init : goal.loop-i-init
 loop-i-init c = seeking_begins (omega arith)
 
-pub overflow_mul-i : goal.overflow_mul-i
-overflow_mul-i c = omega arith
-
-pub overflow_add-i : goal.overflow_add-i
-overflow_add-i c = omega arith
-
-pub offset_bounds-rows-i : goal.offset_bounds-rows-i
-offset_bounds-rows-i c = omega arith
-
-pub bounds-rows-i : goal.bounds-rows-i
-bounds-rows-i c = omega arith
-
 pub alone-requires : goal.alone-requires
 alone-requires c = record { long = omega arith; within = omega arith; there = c.if-rows-i.true }
 
 pub returns-then-rows-i : goal.returns-then-rows-i
 returns-then-rows-i c = seeking_found c.loop-i.invariant c.alone.ensures
-
-pub overflow_add-i-in-loop-i : goal.overflow_add-i-in-loop-i
-overflow_add-i-in-loop-i c = omega arith
-
-pub loop-i-smaller : goal.loop-i-smaller
-loop-i-smaller c = omega arith
 
 pub loop-i-preserved : goal.loop-i-preserved
 loop-i-preserved c = seeking_on c.loop-i.invariant (omega arith) c.if-rows-i.false
