@@ -150,8 +150,7 @@ pub(crate) fn grouped(
         (groups_in rows.now text.now count) }
 {
     let mut first = 0;
-    let mut i = 0;
-    while i < many {
+    for i in 0..many {
         let leaves = rows::wide(segments[i * rows::SEGMENT_ROW + rows::COUNT]);
         if !has_leaves(rows, count, first, leaves) {
             return false;
@@ -162,7 +161,6 @@ pub(crate) fn grouped(
             return false;
         }
         first = end;
-        i += 1;
     }
     first == count
 }

@@ -16,18 +16,6 @@ ended c = c.has_leaves.ensures.0 (c.if-not-has_leaves.false)
 pub loop-i-init : goal.loop-i-init
 loop-i-init c = (grouping_begins, record { head = λ l. c.requires.head })
 
-pub overflow_mul-i : goal.overflow_mul-i
-overflow_mul-i c = omega arith
-
-pub overflow_add-i : goal.overflow_add-i
-overflow_add-i c = omega arith
-
-pub offset_bounds-segments-i : goal.offset_bounds-segments-i
-offset_bounds-segments-i c = omega arith
-
-pub bounds-segments-i : goal.bounds-segments-i
-bounds-segments-i c = omega arith
-
 pub has_leaves-requires : goal.has_leaves-requires
 has_leaves-requires c =
     let pre = c.requires in
@@ -59,12 +47,6 @@ pub returns-then-not-row_states : goal.returns-then-not-row_states
 returns-then-not-row_states c =
     stated_wrong c.loop-i.invariant.0 (omega arith) c.wide-leaves.result (ended (goal.at.returns-then-not-row_states c).Else-not-has_leaves) c.kind_of-kind.ensures
     c.row_states.ensures c.if-not-row_states.true
-
-pub overflow_add-i-in-loop-i : goal.overflow_add-i-in-loop-i
-overflow_add-i-in-loop-i c = omega arith
-
-pub loop-i-smaller : goal.loop-i-smaller
-loop-i-smaller c = omega arith
 
 pub loop-i-preserved : goal.loop-i-preserved
 loop-i-preserved c = (
