@@ -171,15 +171,13 @@ pub(crate) fn ordered(table: &[u8; 847], context: u8, segments: &[Entry], many: 
     ensures { result ≡ eqb (misplaced context (kind_column segments.now many)) 0 }
 {
     let mut watcher = Watcher::begin(context);
-    let mut i = 0;
-    while i < many {
+    for i in 0..many {
         let kind = segments[i * rows::SEGMENT_ROW] as u8;
         let told = watcher.tell_by(table, kind);
         if !told.yes {
             return false;
         }
         watcher = told.watcher;
-        i += 1;
     }
     watcher.last == Kind::L
 }

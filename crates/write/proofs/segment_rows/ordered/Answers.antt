@@ -10,15 +10,6 @@ use Rattle.write.proofs.segment_rows.ordered.Goals as goal
 pub loop-i-init : goal.loop-i-init
 loop-i-init c = ordering_begins c.begin-watcher.ensures
 
-pub overflow_mul-kind : goal.overflow_mul-kind
-overflow_mul-kind c = omega arith
-
-pub offset_bounds-segments-i : goal.offset_bounds-segments-i
-offset_bounds-segments-i c = omega arith
-
-pub bounds-segments-i : goal.bounds-segments-i
-bounds-segments-i c = omega arith
-
 pub overflow_cast-kind : goal.overflow_cast-kind
 overflow_cast-kind c = omega (arith, c.requires.kinds.kinds c.loop-i.i (omega arith))
 
@@ -26,12 +17,6 @@ pub returns-then-not-told : goal.returns-then-not-told
 returns-then-not-told c =
     ordered-fails c.loop-i.invariant (omega arith) refl
     (c.tell_by-told.ensures ∙ by_this_table c.args.table.now c.requires.followers_are c.loop-i.watcher _) (not-true _ c.if-not-told.true)
-
-pub overflow_add-i : goal.overflow_add-i
-overflow_add-i c = omega arith
-
-pub loop-i-smaller : goal.loop-i-smaller
-loop-i-smaller c = omega arith
 
 pub loop-i-preserved : goal.loop-i-preserved
 loop-i-preserved c =
