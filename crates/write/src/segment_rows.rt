@@ -189,8 +189,7 @@ pub(crate) fn owned(table: &[u8; 84], context: u8, segments: &[Entry], many: usi
         (owners (level_in table.now context) (kind_column segments.now many)) }
 {
     let mut nearest = owners::no_rows();
-    let mut i = 0;
-    while i < many {
+    for i in 0..many {
         let at = i * rows::SEGMENT_ROW;
         let kind = segments[at] as u8;
         let level = levels::level_of(table, context, kind);
@@ -198,7 +197,6 @@ pub(crate) fn owned(table: &[u8; 84], context: u8, segments: &[Entry], many: usi
         if owners::owner_of(&mut nearest, row, kind, level) != segments[at + rows::OWNER] {
             return false;
         }
-        i += 1;
     }
     true
 }

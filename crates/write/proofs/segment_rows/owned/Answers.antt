@@ -9,41 +9,11 @@ use Rattle.write.proofs.segment_rows.owned.Goals as goal
 pub loop-i-init : goal.loop-i-init
 loop-i-init c = owning_begins (level_in c.args.table.now c.args.context) c.args.segments.now c.args.many c.no_rows-nearest.ensures
 
-pub overflow_mul-at : goal.overflow_mul-at
-overflow_mul-at c = omega arith
-
-pub offset_bounds-segments-at : goal.offset_bounds-segments-at
-offset_bounds-segments-at c = omega arith
-
-pub bounds-segments-at : goal.bounds-segments-at
-bounds-segments-at c = omega arith
-
 pub overflow_cast-kind : goal.overflow_cast-kind
 overflow_cast-kind c = omega (arith, c.requires.kinds.kinds c.loop-i.i (omega arith))
 
-pub overflow_add-row : goal.overflow_add-row
-overflow_add-row c = omega arith
-
-pub overflow_cast-row : goal.overflow_cast-row
-overflow_cast-row c = omega arith
-
-pub overflow_add-at : goal.overflow_add-at
-overflow_add-at c = omega arith
-
-pub offset_bounds-segments-at-in-loop-i : goal.offset_bounds-segments-at-in-loop-i
-offset_bounds-segments-at-in-loop-i c = omega arith
-
-pub bounds-segments-at-in-loop-i : goal.bounds-segments-at-in-loop-i
-bounds-segments-at-in-loop-i c = omega arith
-
 pub returns-then-owner_of-segments : goal.returns-then-owner_of-segments
 returns-then-owner_of-segments c = owning_fails c.loop-i.invariant (c.requires.low c.args.context) (omega arith) refl refl c.level_of-level.ensures c.owner_of.ensures c.if-owner_of-segments.true
-
-pub overflow_add-i : goal.overflow_add-i
-overflow_add-i c = omega arith
-
-pub loop-i-smaller : goal.loop-i-smaller
-loop-i-smaller c = omega arith
 
 pub loop-i-preserved : goal.loop-i-preserved
 loop-i-preserved c = owning_on c.loop-i.invariant (c.requires.low c.args.context) (omega arith) refl refl c.level_of-level.ensures c.owner_of.ensures c.if-owner_of-segments.false
