@@ -241,13 +241,11 @@ pub(crate) fn message_bytes(
 {
     let mut total = 0;
     let mut first = 0;
-    let mut i = 0;
-    while i < many {
+    for i in 0..many {
         let leaves = rows::wide(segments[i * rows::SEGMENT_ROW + rows::COUNT]);
         let end = first + leaves;
         total += segment_bytes(limits, rows, text, count, first, end);
         first = end;
-        i += 1;
     }
     total
 }

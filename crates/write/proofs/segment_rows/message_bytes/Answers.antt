@@ -15,18 +15,6 @@ ended c =
 pub loop-i-init : goal.loop-i-init
 loop-i-init c = (grouping_begins, counting-begins)
 
-pub overflow_mul-i : goal.overflow_mul-i
-overflow_mul-i c = omega arith
-
-pub overflow_add-i : goal.overflow_add-i
-overflow_add-i c = omega arith
-
-pub offset_bounds-segments-i : goal.offset_bounds-segments-i
-offset_bounds-segments-i c = omega arith
-
-pub bounds-segments-i : goal.bounds-segments-i
-bounds-segments-i c = omega arith
-
 pub overflow_add-end : goal.overflow_add-end
 overflow_add-end c = omega (arith, (ended c).ends.to, c.requires.in_text.few)
 
@@ -41,12 +29,6 @@ overflow_add-total c =
     let in_text = c.requires.in_text in
     let on = counting_on c.loop-i.invariant.1 (ended (goal.at.overflow_add-total c).After-wide-leaves).ends c.segment_bytes-total.ensures in
     omega (arith, on.so, all-written c.args.limits c.requires.lawful in_text, in_text.few, in_text.short)
-
-pub overflow_add-i-in-loop-i : goal.overflow_add-i-in-loop-i
-overflow_add-i-in-loop-i c = omega arith
-
-pub loop-i-smaller : goal.loop-i-smaller
-loop-i-smaller c = omega arith
 
 pub loop-i-preserved : goal.loop-i-preserved
 loop-i-preserved c = ((ended (goal.at.loop-i-preserved c).After-wide-leaves).on, counting_on c.loop-i.invariant.1 (ended (goal.at.loop-i-preserved c).After-wide-leaves).ends c.segment_bytes-total.ensures)
