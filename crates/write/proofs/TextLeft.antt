@@ -16,7 +16,7 @@ use Rattle.line.specs.Lines.{CR}
 use Rattle.form.specs.Limits.{Lawful}
 use Rattle.form.proofs.RoundedUp.{some_more}
 use Rattle.write.specs.inner.Asked.{RoomForText, RoomForEnd}
-use Rattle.write.specs.inner.Filling.{Stand, stand, filled, broken, line_opened, puts, Fits, InSegment}
+use Rattle.write.specs.inner.Filling.{Stand, filled, broken, line_opened, puts, Fits, InSegment}
 use Rattle.write.proofs.Filling.{puts-append, puts_opened, puts-room, opened_kept, opened_full, puts-kept, fits-first, fits_next, open_fits, break_fits}
 
 pub record TextLeft (L : Limits) (f : ℕ) (s₀ : Stand) (whole : List ℕ) (s : Stand) (left : List ℕ) : Type 0 where

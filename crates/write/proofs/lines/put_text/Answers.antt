@@ -1,6 +1,5 @@
 -- `write::lines::put_text` meets its contract: each turn fills a line and breaks it, and what is left of the text gives the whole.
 -- Assumes nothing.
-use mathlib.Core.Path.{refl}
 use Rattle.write.proofs.TextLeft.{text-fits, text-broken, text_less, text_turn, rest-fits, text-done}
 use Rattle.write.proofs.lines.put_text.Goals as goal
 
