@@ -5,9 +5,10 @@ ghost use Rattle.order.specs.inner.Levels.{level_in};
 ghost use Rattle.order.specs.Owners.{owners};
 ghost use Rattle.order.specs.inner.Place.{misplaced};
 ghost use Rattle.table.specs.Rows.{segment_row_size, leaf_row_size, text_of};
+ghost use Rattle.table.specs.inner.Back.{leaf_at};
 ghost use Rattle.table.specs.inner.BySegment.{kind_among, context_among, written_bytes};
-ghost use Rattle.write.specs.inner.Tests.{groups_in, Decides, leaves_between, SegmentEnd, FieldLeaf, row_states, groups_stated, kind_column, owner_column};
-ghost use Rattle.write.specs.inner.Asked.{TextStated, FirstSegment, Following, FieldThere, UpTo, Stretch, SegmentThere, LawfulStretch, Groupable, Grouped, Orderable, Ownable};
+ghost use Rattle.write.specs.inner.Tests.{groups_in, Decides, leaves_between, SegmentEnd, FieldLeaf, known, row_states, groups_stated, kind_column, owner_column};
+ghost use Rattle.write.specs.inner.Asked.{LeafThere, RowThere, FirstSegment, Following, FieldThere, UpTo, Stretch, SegmentThere, LawfulStretch, Groupable, Grouped, Orderable, Ownable};
 
 use form::context::Context;
 use form::kind::Kind;
@@ -40,23 +41,21 @@ fn has_leaves(rows: &[Entry], count: usize, first: usize, leaves: usize) -> bool
     rows[end * rows::LEAF_ROW] != segment
 }
 
-// A leaf of a field, or `end` where the next leaf is of that field, too.
-fn alone(rows: &[Entry], field: Entry, at: usize, end: usize) -> usize
+// A leaf of a field, or none where the next leaf is of that field, too.
+fn alone(rows: &[Entry], field: Entry, at: usize, end: usize) -> Option<usize>
     requires { FieldThere rows.now field at end }
     ensures { FieldLeaf rows.now field at end result }
 {
     let next = at + 1;
-    if next == end {
-        return at;
+    if next < end && rows[next * rows::LEAF_ROW + rows::FIELD] == field {
+        None
+    } else {
+        Some(at)
     }
-    if rows[next * rows::LEAF_ROW + rows::FIELD] == field {
-        return end;
-    }
-    at
 }
 
-// The one leaf of a field among the leaves from `first` up to `end`, or `end` where the field is missing or is more than one leaf.
-fn field_leaf(rows: &[Entry], field: Entry, first: usize, end: usize) -> usize
+// The one leaf of a field among the leaves from `first` up to `end`, or none where the field is missing or is more than one leaf.
+fn field_leaf(rows: &[Entry], field: Entry, first: usize, end: usize) -> Option<usize>
     requires { UpTo rows.now first end }
     ensures { FieldLeaf rows.now field first end result }
 {
@@ -65,76 +64,55 @@ fn field_leaf(rows: &[Entry], field: Entry, first: usize, end: usize) -> usize
             return alone(rows, field, i, end);
         }
     }
-    end
+    None
 }
 
-// Where a text lies: from its start up to its end.
-#[derive(Clone, Copy)]
-struct Lying {
-    start: usize,
-    end: usize,
-}
-
-// Where the row of a leaf says that its text lies.
-fn text_of(rows: &[Entry], leaf: usize) -> Lying
-    requires { (leaf + 1) * leaf_row_size ≤ length rows.now }
-    ensures { TextStated rows.now leaf result.start result.end }
+// The text of a leaf.
+fn text_of<'a>(rows: &[Entry], text: &'a [u8], leaf: usize) -> &'a [u8]
+    requires { LeafThere rows.now text.now leaf }
+    ensures { result.now ≡ (leaf_at rows.now text.now leaf).text }
 {
     let at = leaf * rows::LEAF_ROW;
     let start = rows::wide(rows[at + rows::START]);
-    Lying {
-        start,
-        end: start + rows::wide(rows[at + rows::LENGTH]),
-    }
+    let end = start + rows::wide(rows[at + rows::LENGTH]);
+    &text[start..end]
 }
 
-// The kind of the segment of the leaves from `first` up to `end`, or 0 (S1). Its first leaf is of field 1, as each segment's is. Only the
+// A number that names something, or none where it is 0.
+fn known(number: u8) -> Option<u8>
+    ensures { result ≡ known number }
+{
+    if number == 0 { None } else { Some(number) }
+}
+
+// The kind of the segment of the leaves from `first` up to `end`, if it has one (S1). Its first leaf is of field 1, as each segment's is. Only the
 // contract reads `count`.
-fn kind_of(rows: &[Entry], text: &[u8], count: usize, first: usize, end: usize) -> u8
+fn kind_of(rows: &[Entry], text: &[u8], count: usize, first: usize, end: usize) -> Option<u8>
     requires { SegmentThere rows.now text.now count first end }
-    ensures { result ≡ kind_among (leaves_between rows.now text.now first end) }
+    ensures { result ≡ known (kind_among (leaves_between rows.now text.now first end)) }
 {
-    let leaf = alone(rows, 1, first, end);
-    if leaf == end {
-        return 0;
-    }
-    let lies = text_of(rows, leaf);
-    let start = lies.start;
-    let finish = lies.end;
-    Kind::named(&text[start..finish])
+    let leaf = alone(rows, 1, first, end)?;
+    known(Kind::named(text_of(rows, text, leaf)))
 }
 
-// The context that field 7 of the first segment names, or 0 (C1). That segment's leaves go up to `end`. Only the contract reads `count`.
-pub(crate) fn context_of(rows: &[Entry], text: &[u8], count: usize, end: usize) -> u8
+// The context that field 7 of the first segment names, if it names one (C1). That segment's leaves go up to `end`. Only the contract reads `count`.
+pub(crate) fn context_of(rows: &[Entry], text: &[u8], count: usize, end: usize) -> Option<u8>
     requires { FirstSegment rows.now text.now count end }
-    ensures { result ≡ context_among (groups_in rows.now text.now count) }
+    ensures { result ≡ known (context_among (groups_in rows.now text.now count)) }
 {
-    let leaf = field_leaf(rows, 7, 0, end);
-    if leaf == end {
-        return 0;
-    }
-    let lies = text_of(rows, leaf);
-    let start = lies.start;
-    let finish = lies.end;
-    Context::named(&text[start..finish])
+    let leaf = field_leaf(rows, 7, 0, end)?;
+    known(Context::named(text_of(rows, text, leaf)))
 }
 
-// Whether segment row i states a known kind, a first leaf and a leaf count.
+// Whether segment row i states a kind, a first leaf and a leaf count.
 fn row_states(segments: &[Entry], i: usize, kind: u8, first: usize, count: usize) -> bool
-    requires { (i + 1) * segment_row_size ≤ length segments.now }
+    requires { RowThere segments.now i kind }
     ensures { result ≡ row_states segments.now i kind first count }
 {
     let at = i * rows::SEGMENT_ROW;
-    if kind == 0 {
-        return false;
-    }
-    if segments[at] != kind as Entry {
-        return false;
-    }
-    if rows::wide(segments[at + rows::FIRST]) != first {
-        return false;
-    }
-    rows::wide(segments[at + rows::COUNT]) == count
+    segments[at] == Entry::from(kind)
+        && rows::wide(segments[at + rows::FIRST]) == first
+        && rows::wide(segments[at + rows::COUNT]) == count
 }
 
 // Whether the segment rows state the kinds, the first leaves and the leaf counts of the leaves' segments.
@@ -156,7 +134,9 @@ pub(crate) fn grouped(
             return false;
         }
         let end = first + leaves;
-        let kind = kind_of(rows, text, count, first, end);
+        let Some(kind) = kind_of(rows, text, count, first, end) else {
+            return false;
+        };
         if !row_states(segments, i, kind, first + 1, leaves) {
             return false;
         }
@@ -207,7 +187,9 @@ fn text_bytes(rows: &[Entry], text: &[u8], count: usize, first: usize, end: usiz
     requires { Stretch rows.now text.now count first end }
     ensures { (result ≡ length (text_of (leaves_between rows.now text.now first end))) × (result ≤ length text.now) }
 {
-    text_of(rows, end - 1).end - text_of(rows, first).start
+    let last = (end - 1) * rows::LEAF_ROW;
+    let finish = rows::wide(rows[last + rows::START]) + rows::wide(rows[last + rows::LENGTH]);
+    finish - rows::wide(rows[first * rows::LEAF_ROW + rows::START])
 }
 
 // The bytes that are written for the segment of the leaves from `first` up to `end` (W1, W2): its texts and separators, a CR for each line,

@@ -170,13 +170,7 @@ fn in_order(
     requires { KindsAndLeaves segments.now many leaves.now text.now count }
     ensures { result ≡ in_order context segments.now many leaves.now text.now count }
 {
-    if context == 0 {
-        return false;
-    }
     let end = rows::wide(segments[rows::COUNT]);
-    if segment_rows::context_of(leaves, text, count, end) != context {
-        return false;
-    }
-    let followers = followers::table();
-    segment_rows::ordered(&followers, context, segments, many)
+    segment_rows::context_of(leaves, text, count, end) == Some(context)
+        && segment_rows::ordered(&followers::table(), context, segments, many)
 }

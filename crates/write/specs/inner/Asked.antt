@@ -97,10 +97,15 @@ pub record FirstSegment (rows text : List ℕ) (count end : ℕ) : Type 0 where
   pub in_text : InText rows text count
   pub ends : SegmentEnd rows count 0 end
 
--- where the text of a leaf lies
-pub record TextStated (rows : List ℕ) (leaf start end : ℕ) : Type 0 where
-  pub starts : start ≡ start_in rows leaf
-  pub ends : end ≡ start + length_in rows leaf
+-- a leaf whose text lies in the text area
+pub record LeafThere (rows text : List ℕ) (leaf : ℕ) : Type 0 where
+  pub row : (leaf + 1) * leaf_row_size ≤ length rows
+  pub within : start_in rows leaf + length_in rows leaf ≤ length text
+
+-- a segment row, and a kind that it may state
+pub record RowThere (segments : List ℕ) (i kind : ℕ) : Type 0 where
+  pub row : (i + 1) * segment_row_size ≤ length segments
+  pub some : 1 ≤ kind
 
 -- leaves of which the first is of field 1
 pub record SegmentThere (rows text : List ℕ) (count first end : ℕ) : Type 0 where

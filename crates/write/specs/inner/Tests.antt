@@ -1,7 +1,7 @@
 -- The table test (W4) as loops make it (models that antt computes): each is a test of a card, of the counted rows as plain lists of numbers, and of
 -- the counted text.
 -- Assumes nothing.
-use Rattle.std.specs.Prelude.{Bool, true, false, not, ◌&&◌, cond, List, [], ◌∷◌, ◌≡◌, ℕ, zero, suc, ◌+◌, ◌-◌, ◌*◌, ◌≤◌, ◌<◌, leb, ltb, eqb, length, get_or}
+use Rattle.std.specs.Prelude.{Bool, true, false, not, ◌&&◌, cond, Option, Some, None, List, [], ◌∷◌, ◌≡◌, ℕ, zero, suc, ◌+◌, ◌-◌, ◌*◌, ◌≤◌, ◌<◌, leb, eqb, length, get_or}
 use Rattle.laws.specs.Lists.{same, among}
 use Rattle.laws.specs.Tables.{values}
 use Rattle.form.specs.declared.limits.Limits.{Limits}
@@ -71,12 +71,20 @@ pub record SegmentEnd (rows : List ℕ) (count first end : ℕ) : Type 0 where
   pub within : (k : ℕ) → first ≤ k → k < end → segment_in rows k ≡ segment_in rows first
   pub other : end < count → segment_in rows end ≡ segment_in rows first → ⊥
 
--- the one leaf of a field among some leaves, or their end where the field is missing or is more than one leaf
-pub record FieldLeaf (rows : List ℕ) (field first end at : ℕ) : Type 0 where
-  pub from : first ≤ at
-  pub to : at ≤ end
+-- a number that names something, or none where it is 0
+abbrev pub known : ℕ → Option ℕ
+known number = cond (eqb number 0) None (Some number)
+
+-- the number that names give the text of a leaf, or 0 where there is no leaf
+unfoldable pub number_at : List (List ℕ) → List ℕ → List ℕ → Option ℕ → ℕ
+number_at names rows text None = 0
+number_at names rows text (Some at) = number_among names (leaf_at rows text at).text
+
+-- the one leaf of a field among some leaves, or none where the field is missing or is more than one leaf
+pub record FieldLeaf (rows : List ℕ) (field first end : ℕ) (found : Option ℕ) : Type 0 where
+  pub within : (at : ℕ) → found ≡ Some at → (first ≤ at) × (at < end)
   pub number : (names : List (List ℕ)) (text : List ℕ)
-      → number_of_field names field (leaves_between rows text first end) ≡ cond (ltb at end) (number_among names (leaf_at rows text at).text) 0
+      → number_of_field names field (leaves_between rows text first end) ≡ number_at names rows text found
 
 -- whether segment row i states a known kind, a first leaf and a leaf count
 unfoldable pub row_states : List ℕ → ℕ → ℕ → ℕ → ℕ → Bool

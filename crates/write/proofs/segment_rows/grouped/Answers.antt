@@ -3,15 +3,23 @@
 -- Assumes nothing.
 use native.Mathlib.Omega.{arith}
 use Prim.Native.Nat.{◌+◌}
-use Rattle.write.specs.inner.Tests.{SegmentEnd}
+use mathlib.Core.Path.{◌≡◌, refl, sym, ◌∙◌}
+use Rattle.write.proofs.SegmentTests.{states_unknown}
+use Rattle.table.specs.inner.BySegment.{kind_among}
+use Rattle.write.specs.inner.Tests.{leaves_between, SegmentEnd}
+use Rattle.write.proofs.Known.{IsKnown, is_known, unknown}
 use Rattle.write.proofs.Rising.{segment-head}
 use Rattle.write.proofs.Groups.{grouping_begins, grouping_otherwise, stated_wrong, stated_right, grouping_done}
 use Rattle.write.proofs.segment_rows.grouped.Goals as goal
-use Rattle.write.proofs.segment_rows.grouped.Goals.{Else-not-has_leaves}
+use Rattle.write.proofs.segment_rows.grouped.Goals.{Else-not-has_leaves, In-Some}
 
 -- the segment that begins here has as many leaves as its row says
 ended : (c : Else-not-has_leaves) → SegmentEnd c.args.rows.now c.args.count c.loop-i.first (c.loop-i.first + c.wide-leaves.result)
 ended c = c.has_leaves.ensures.0 (c.if-not-has_leaves.false)
+
+-- and a kind
+named : (c : In-Some) → IsKnown c.in-Some.kind (kind_among (leaves_between c.args.rows.now c.args.text.now c.loop-i.first (c.loop-i.first + c.wide-leaves.result)))
+named c = is_known (sym c.in-Some.is ∙ c.kind_of.ensures)
 
 pub loop-i-init : goal.loop-i-init
 loop-i-init c = (grouping_begins, record { head = λ l. c.requires.head })
@@ -29,28 +37,35 @@ returns-then-not-has_leaves c =
 pub overflow_add-end : goal.overflow_add-end
 overflow_add-end c = omega (arith, (ended c).to, c.requires.in_text.few)
 
-pub kind_of-kind-requires : goal.kind_of-kind-requires
-kind_of-kind-requires c =
+pub kind_of-requires : goal.kind_of-requires
+kind_of-requires c =
     let v = ended c in
     record {
       leaves = record { in_text = c.requires.in_text; from = v.from; to = v.to };
       head = c.loop-i.invariant.1.head (omega (arith, v.from, v.to));
     }
 
+pub returns-in_default : goal.returns-in_default
+returns-in_default c =
+    let none : kind_among (leaves_between c.args.rows.now c.args.text.now c.loop-i.first (c.loop-i.first + c.wide-leaves.result)) ≡ 0 =
+    unknown (sym c.in_default.is ∙ c.kind_of.ensures) in
+    stated_wrong c.loop-i.invariant.0 (omega arith) c.wide-leaves.result (ended (goal.at.returns-in_default c).Else-not-has_leaves) refl refl
+    (sym (states_unknown c.args.segments.now c.loop-i.i _ (c.loop-i.first + 1) c.wide-leaves.result none))
+
 pub overflow_add-first : goal.overflow_add-first
 overflow_add-first c = omega (arith, c.loop-i.invariant.0.to, c.requires.in_text.few)
 
 pub row_states-requires : goal.row_states-requires
-row_states-requires c = omega (arith, c.requires.sized)
+row_states-requires c = record { row = omega (arith, c.requires.sized); some = (named c).some }
 
 pub returns-then-not-row_states : goal.returns-then-not-row_states
 returns-then-not-row_states c =
-    stated_wrong c.loop-i.invariant.0 (omega arith) c.wide-leaves.result (ended (goal.at.returns-then-not-row_states c).Else-not-has_leaves) c.kind_of-kind.ensures
+    stated_wrong c.loop-i.invariant.0 (omega arith) c.wide-leaves.result (ended (goal.at.returns-then-not-row_states c).Else-not-has_leaves) (named (goal.at.returns-then-not-row_states c).In-Some).is
     c.row_states.ensures c.if-not-row_states.true
 
 pub loop-i-preserved : goal.loop-i-preserved
 loop-i-preserved c = (
-  stated_right c.loop-i.invariant.0 (omega arith) c.wide-leaves.result (ended (goal.at.loop-i-preserved c).Else-not-has_leaves) c.kind_of-kind.ensures c.row_states.ensures c.if-not-row_states.false,
+  stated_right c.loop-i.invariant.0 (omega arith) c.wide-leaves.result (ended (goal.at.loop-i-preserved c).Else-not-has_leaves) (named (goal.at.loop-i-preserved c).In-Some).is c.row_states.ensures c.if-not-row_states.false,
   record { head = segment-head c.args.rows.now c.args.count c.requires.in_text.sized c.requires.next (ended (goal.at.loop-i-preserved c).Else-not-has_leaves) },
 )
 

@@ -1,40 +1,36 @@
 -- `write::segment_rows::kind_of` meets its contract. The text of the leaf of field 1 names the kind.
 -- Assumes nothing.
 use native.Mathlib.Omega.{arith}
-use mathlib.Core.Path.{ap, ◌∙◌}
+use mathlib.Core.Path.{sym, ap, ◌∙◌}
+use Prim.Native.Nat.{◌<◌}
 use Rattle.form.specs.Names.{kind_names, kind_of}
 use Rattle.table.specs.inner.BySegment.{kind_among}
-use Rattle.write.proofs.LaidRows.{stated-within}
-use Rattle.write.proofs.SegmentTests.{stated-text}
+use Rattle.write.specs.inner.Tests.{known}
+use Rattle.write.proofs.Known.{known_none}
+use Rattle.write.proofs.LaidRows.{in_text_fits}
 use Rattle.write.proofs.Groups.{field_missing, field_found}
-use Prim.Native.Nat.{◌<◌}
 use Rattle.write.proofs.segment_rows.kind_of.Goals as goal
-use Rattle.write.proofs.segment_rows.kind_of.Goals.{Else-leaf-end}
 
--- the leaf lies among those of the segment
-found : (c : Else-leaf-end) → c.alone-leaf.result < c.args.count
-found c =
+pub alone-requires : goal.alone-requires
+alone-requires c =
     let leaves = c.requires.leaves in
-    omega (arith, leaves.to, c.alone-leaf.ensures.to, c.if-leaf-end.false)
+    record { long = omega (arith, leaves.in_text.sized, leaves.to); within = leaves.from; there = c.requires.head }
 
-pub alone-leaf-requires : goal.alone-leaf-requires
-alone-leaf-requires c =
-    let pre = c.requires in
-    record { long = omega (arith, pre.leaves.in_text.sized, pre.leaves.to); within = pre.leaves.from; there = pre.head }
-
-pub returns-then-leaf-end : goal.returns-then-leaf-end
+pub returns-in_err-leaf : goal.returns-in_err-leaf
 unfolding kind_among
-returns-then-leaf-end c = field_missing c.alone-leaf.ensures kind_names c.args.text.now c.if-leaf-end.true
+returns-in_err-leaf c =
+    c.from_residual.ensures ∙ known_none (field_missing c.alone.ensures kind_names c.args.text.now c.in_err-leaf.was)
 
-pub text_of-lies-requires : goal.text_of-lies-requires
-text_of-lies-requires c = omega (arith, found c, c.requires.leaves.in_text.sized)
-
-pub slice_bounds-named-end : goal.slice_bounds-named-end
-slice_bounds-named-end c = stated-within c.requires.leaves.in_text (found (goal.at.slice_bounds-named-end c).Else-leaf-end) c.text_of-lies.ensures
+pub text_of-requires : goal.text_of-requires
+text_of-requires c =
+    let leaves = c.requires.leaves in
+    let here = (c.alone.ensures.within c.in_ok-leaf.leaf c.in_ok-leaf.was).1 in
+    let less : c.in_ok-leaf.leaf < c.args.count = omega (arith, here, leaves.to) in
+    record { row = omega (arith, less, leaves.in_text.sized); within = in_text_fits leaves.in_text c.in_ok-leaf.leaf less }
 
 pub returns : goal.returns
 unfolding kind_among kind_of
 returns c =
-    c.named.ensures
-    ∙ ap kind_of (stated-text c.args.rows.now c.args.text.now c.alone-leaf.result c.text_of-lies.ensures)
-    ∙ field_found c.alone-leaf.ensures kind_names c.args.text.now c.if-leaf-end.false
+    c.known.ensures
+    ∙ ap known
+    (c.named.ensures ∙ ap kind_of c.text_of.ensures ∙ sym (field_found c.alone.ensures kind_names c.args.text.now c.in_ok-leaf.was))

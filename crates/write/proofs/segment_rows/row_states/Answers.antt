@@ -1,22 +1,40 @@
--- `write::segment_rows::row_states` meets its contract. One law a return.
+-- `write::segment_rows::row_states` meets its contract: the kind and the first leaf, and then the count.
 -- Assumes nothing.
-use mathlib.Core.Path.{sym, ap, ◌∙◌}
+use mathlib.Core.Bool.{◌&&◌}
+use mathlib.Core.Path.{◌≡◌, sym, ap, ◌∙◌}
 use Prim.Native.Nat.{ℕ}
 use lib.Dec.{eqb}
-use Rattle.write.proofs.SegmentTests.{states_unknown, states_kind, states_first, states_count}
+use borrow.Author.Tests.{eq-eqb, ne_eqb}
+use Rattle.laws.proofs.Tests.{and_passed, and_fails_first}
+use Rattle.table.specs.Rows.{kind_in, first_in}
+use Rattle.write.proofs.SegmentTests.{states_count, states_no}
 use Rattle.write.proofs.segment_rows.row_states.Goals as goal
+use Rattle.write.proofs.segment_rows.row_states.Goals.{Joined-segments-at, then-segments-at, else-segments-at}
 
-pub returns-then-kind-eq0 : goal.returns-then-kind-eq0
-returns-then-kind-eq0 c = states_unknown c.args.segments.now c.args.i c.args.kind c.args.first c.args.count c.if-kind-eq0.true
-
-pub returns-then-segments-at : goal.returns-then-segments-at
-returns-then-segments-at c = states_kind c.args.segments.now c.args.i c.args.kind c.args.first c.args.count c.if-segments-at.true
+-- the first two tests
+two : (c : Joined-segments-at)
+    → c.if-segments-at.value ≡ (eqb (kind_in c.args.segments.now c.args.i) c.args.kind && eqb (first_in c.args.segments.now c.args.i) c.args.first)
+two c =
+    let first_is = eqb (first_in c.args.segments.now c.args.i) c.args.first in
+    elim c.if-segments-at.branch [
+      | then-segments-at w ↦
+          w.value-is
+          ∙ ap (λ (n : ℕ). eqb n c.args.first) w.wide.ensures.0
+          ∙ sym (and_passed first_is (eq-eqb _ _ (w.if-segments-at.true ∙ c.from.ensures)))
+      | else-segments-at w ↦
+          w.value-is
+          ∙ ne_eqb _ _ w.if-segments-at.false
+          ∙ sym (and_fails_first first_is (ne_eqb _ _ (λ e. w.if-segments-at.false (e ∙ sym c.from.ensures))))
+    ]
 
 pub returns-then-wide-first : goal.returns-then-wide-first
-returns-then-wide-first c = states_first c.args.segments.now c.args.i c.args.kind c.args.first c.args.count (λ e. c.if-wide-first.true (c.wide.ensures.0 ∙ e))
+returns-then-wide-first c =
+    ap (λ (n : ℕ). eqb n c.args.count) c.wide-then-wide-first.ensures.0
+    ∙ states_count c.args.segments.now c.args.i c.args.kind c.args.first c.args.count c.requires.some
+    (sym (two (goal.at.returns-then-wide-first c).Joined-segments-at) ∙ c.if-wide-first.true)
 
-pub returns : goal.returns
-returns c =
-    ap (λ (n : ℕ). eqb n c.args.count) c.wide-2.ensures.0
-    ∙ states_count c.args.segments.now c.args.i c.args.kind c.args.first c.args.count c.if-kind-eq0.false c.if-segments-at.false
-    (sym c.wide.ensures.0 ∙ c.if-wide-first.false)
+pub returns-else-wide-first : goal.returns-else-wide-first
+returns-else-wide-first c =
+    c.if-wide-first.false
+    ∙ states_no c.args.segments.now c.args.i c.args.kind c.args.first c.args.count
+    (sym (two (goal.at.returns-else-wide-first c).Joined-segments-at) ∙ c.if-wide-first.false)

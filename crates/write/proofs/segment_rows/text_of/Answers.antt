@@ -1,8 +1,7 @@
--- `write::segment_rows::text_of` meets its contract.
+-- `write::segment_rows::text_of` meets its contract: the row says where the text lies.
 -- Assumes nothing.
-use mathlib.Core.Path.{ap}
-use Prim.Native.Nat.{ℕ, ◌+◌}
+use Rattle.write.proofs.SegmentTests.{row-text}
 use Rattle.write.proofs.segment_rows.text_of.Goals as goal
 
 pub returns : goal.returns
-returns c = record { starts = c.wide-start.ensures.0; ends = ap (λ (n : ℕ). c.wide-start.result + n) c.wide.ensures.0 }
+returns c = row-text c.args.rows.now c.args.text.now c.args.leaf c.wide-start.ensures.0 c.wide.ensures.0
