@@ -4,9 +4,8 @@ ghost use Rattle.form.specs.Forms.{limits_of};
 ghost use Rattle.order.specs.Owners.{level, former_level};
 ghost use Rattle.order.specs.inner.Levels.{level_in};
 ghost use Rattle.write.specs.inner.ReadsBack.{is_table};
-ghost use Rattle.write.specs.Answer.{written_size};
 ghost use Rattle.table.specs.Lent.{lent, within_limits};
-ghost use Rattle.write.specs.inner.Tests.{Decides, SoundRows, table_with, size_back, sound_leaves, in_order};
+ghost use Rattle.write.specs.inner.Tests.{Decides, SoundRows, table_with, size_back, lent_size, sound_leaves, in_order};
 ghost use Rattle.write.specs.inner.Asked.{Testable, CountedTable, RowsAsked, LaidOut, KindsAndLeaves};
 
 use crate::size::Owners;
@@ -18,11 +17,11 @@ use table::rows::Entry;
 use table::{Card, rows};
 
 // Yes exactly where some message within the form's limits reads to the table that the card counts in the lent buffers, whatever these hold
-// (W4). Such a message has some bytes.
+// (W4).
 pub fn is_table(form: Form, card: Card, segments: &[Entry], leaves: &[Entry], text: &[u8]) -> bool
     ensures { result ≡ is_table (limits_of form) level (lent card segments.now leaves.now text.now) }
 {
-    size::written_bytes(form, card, segments, leaves, text) != 0
+    size::bytes_by(form, Owners::InForce, card, segments, leaves, text).is_some()
 }
 
 // The same with the former owners (O4): whether a reader gave the table while they were in force.
@@ -35,10 +34,10 @@ pub fn is_former_table(
 ) -> bool
     ensures { result ≡ is_table (limits_of form) former_level (lent card segments.now leaves.now text.now) }
 {
-    size::bytes_by(form, Owners::Former, card, segments, leaves, text) != 0
+    size::bytes_by(form, Owners::Former, card, segments, leaves, text).is_some()
 }
 
-// The bytes that are written for a table under any limits and levels; 0 where no message within them reads to it.
+// The bytes that are written for a table under any limits and levels, if some message within them reads to it.
 pub(crate) fn table_bytes(
     limits: Limits,
     levels: &[u8; 84],
@@ -46,15 +45,15 @@ pub(crate) fn table_bytes(
     segments: &[Entry],
     leaves: &[Entry],
     text: &[u8],
-) -> usize
+) -> Option<usize>
     requires { Testable limits (level_in levels.now) }
-    ensures { result ≡ written_size limits (level_in levels.now) (lent card segments.now leaves.now text.now) }
+    ensures { result ≡ lent_size limits (level_in levels.now) (lent card segments.now leaves.now text.now) }
 {
     if !within_limits(limits, card) {
-        return 0;
+        return None;
     }
     if !rows::counts_fit(card, segments.len(), leaves.len(), text.len()) {
-        return 0;
+        return None;
     }
     let many = card.segments * rows::SEGMENT_ROW;
     let size = card.leaves * rows::LEAF_ROW;
@@ -73,16 +72,10 @@ pub(crate) fn table_bytes(
 fn within_limits(limits: Limits, card: Card) -> bool
     ensures { result ≡ within_limits limits card }
 {
-    if limits.segments < card.segments {
-        return false;
-    }
-    if limits.leaves < card.leaves {
-        return false;
-    }
-    card.text <= limits.bytes
+    card.segments <= limits.segments && card.leaves <= limits.leaves && card.text <= limits.bytes
 }
 
-// The bytes that are written for the table of the counted entries; 0 where no message reads to it. All tests but the last are one call, so
+// The bytes that are written for the table of the counted entries, if some message reads to it. All tests but the last are one call, so
 // that few branches stand before the count of bytes: behind many the compiler would leave it a call of its own.
 fn counted_bytes(
     limits: Limits,
@@ -91,12 +84,12 @@ fn counted_bytes(
     segments: &[Entry],
     leaves: &[Entry],
     text: &[u8],
-) -> usize
+) -> Option<usize>
     requires { CountedTable limits (level_in levels.now) (table_with card segments.now leaves.now text.now) }
     ensures { result ≡ size_back limits (level_in levels.now) (table_with card segments.now leaves.now text.now) }
 {
     if !sound_rows(levels, card, segments, leaves, text) {
-        return 0;
+        return None;
     }
     let bytes = segment_rows::message_bytes(
         limits,
@@ -106,10 +99,11 @@ fn counted_bytes(
         text,
         card.leaves,
     );
-    if limits.bytes < bytes {
-        return 0;
+    if bytes <= limits.bytes {
+        Some(bytes)
+    } else {
+        None
     }
-    bytes
 }
 
 // Whether the counted rows and the text pass every test but that of the message's bytes.
@@ -151,10 +145,7 @@ fn sound_leaves(field: u8, leaves: &[Entry], text: &[u8], count: usize) -> bool
         return false;
     }
     let separators = leaf_rows::separators_at(field, leaves, text);
-    if !separators.sound() {
-        return false;
-    }
-    leaf_rows::go_on_from(separators, leaves, text, count)
+    separators.sound() && leaf_rows::go_on_from(separators, leaves, text, count)
 }
 
 // Whether field 7 of the first segment names the context (C1) and the kinds stand where it allows them (C2, C3). The first segment row counts

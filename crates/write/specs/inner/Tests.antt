@@ -17,7 +17,8 @@ use Rattle.order.specs.Owners.{owners}
 use Rattle.order.specs.inner.Place.{misplaced}
 use Rattle.table.specs.inner.BySegment.{by_segment, kind_among, context_among, number_of_field}
 use Rattle.table.specs.inner.RowTests.{end_to_end, next_place, go_on_from}
-use Rattle.write.specs.inner.ReadsBack.{reads_back}
+use Rattle.write.specs.inner.ReadsBack.{reads_back, is_table}
+use Rattle.table.specs.Lent.{Lent, counted}
 use Rattle.write.specs.inner.Local.{third_place}
 
 -- a test that is passed exactly where something holds
@@ -138,9 +139,13 @@ pub record SoundRows (levels : ℕ → ℕ → ℕ) (t : Table) : Type 0 where
       (owners (levels t.card.context) (kind_column t.segment_rows t.card.segments)) ≡ true
   pub ordered : in_order t.card.context t.segment_rows t.card.segments t.leaf_rows t.text t.card.leaves ≡ true
 
--- the bytes that are written for a table where some message reads to it, else 0
-unfoldable pub size_back : Limits → (ℕ → ℕ → ℕ) → Table → ℕ
-size_back L levels t = elim (reads_back L levels t) [ true ↦ length (written L t) | false ↦ 0 ]
+-- the bytes that are written for a table, if some message reads to it
+unfoldable pub size_back : Limits → (ℕ → ℕ → ℕ) → Table → Option ℕ
+size_back L levels t = elim (reads_back L levels t) [ true ↦ Some (length (written L t)) | false ↦ None ]
+
+-- the same of a lent table
+unfoldable pub lent_size : Limits → (ℕ → ℕ → ℕ) → Lent → Option ℕ
+lent_size L levels l = elim (is_table L levels l) [ true ↦ Some (length (written L (counted l))) | false ↦ None ]
 
 -- a table of some counted entries
 abbrev pub table_with : Card → (segment_rows leaf_rows text : List ℕ) → Table

@@ -1,7 +1,8 @@
 -- `write::test::counted_bytes` meets its contract. A test that fails refuses the table; where none does, the bytes counted are those written.
 -- Assumes nothing.
 use native.Mathlib.Omega.{arith}
-use mathlib.Core.Path.{◌∙◌}
+use mathlib.Core.Path.{ap, ◌∙◌}
+use Rattle.std.specs.Prelude.{Some}
 use Prim.Native.Nat.{ℕ}
 use Rattle.order.specs.inner.Levels.{level_in}
 use Rattle.table.specs.Rows.{Table}
@@ -33,11 +34,11 @@ message_bytes-bytes-requires c =
     let w = sound_here c in
     record { lawful = pre.lawful; in_text = laid_in_text pre.rows.narrow w.laid; sized = pre.rows.narrow.sized.segment_rows; grouped = w.grouped }
 
-pub returns-then-limits-bytes : goal.returns-then-limits-bytes
-returns-then-limits-bytes c = refused-size c.requires (λ w. omega (arith, w.short, c.message_bytes-bytes.ensures, c.if-limits-bytes.true))
-
-pub returns : goal.returns
-returns c =
-    c.message_bytes-bytes.ensures
+pub returns-then-bytes-limits : goal.returns-then-bytes-limits
+returns-then-bytes-limits c =
+    ap (λ (n : ℕ). Some n) c.message_bytes-bytes.ensures
     ∙ passed-size c.requires
-    (record { rows = sound_here (goal.at.returns c).Else-not-sound_rows; short = omega (arith, c.message_bytes-bytes.ensures, c.if-limits-bytes.false) })
+    (record { rows = sound_here (goal.at.returns-then-bytes-limits c).Else-not-sound_rows; short = omega (arith, c.message_bytes-bytes.ensures, c.if-bytes-limits.true) })
+
+pub returns-else-bytes-limits : goal.returns-else-bytes-limits
+returns-else-bytes-limits c = refused-size c.requires (λ w. omega (arith, w.short, c.message_bytes-bytes.ensures, c.if-bytes-limits.false))

@@ -10,7 +10,7 @@ use Rattle.table.specs.Rows.{segment_row_size, leaf_row_size}
 use Rattle.table.specs.Lent.{Lent, lent, within_limits, within_buffers, counted}
 use Rattle.write.proofs.LentTables.{Within, within_buffers_lem}
 use Rattle.write.proofs.LentTest.{limits_refuse, buffers_refuse, counted-table}
-use Rattle.write.proofs.Sizes.{no_table_size, counted-size}
+use Rattle.write.proofs.Sizes.{no_lent_size, counted-size}
 use Rattle.write.proofs.Said.{answered_no, answered_yes}
 use Rattle.write.proofs.test.table_bytes.Goals as goal
 use Rattle.write.proofs.test.table_bytes.Goals.{Else-not-counts_fit, Start}
@@ -34,12 +34,12 @@ within c = (within_buffers_lem (table (goal.at.Else-not-counts_fit c).Start)).0 
 
 pub returns-then-not-within_limits : goal.returns-then-not-within_limits
 returns-then-not-within_limits c =
-    sym (no_table_size c.args.limits c.requires.fits.lawful (by_levels (goal.at.returns-then-not-within_limits c).Start) (table (goal.at.returns-then-not-within_limits c).Start)
+    sym (no_lent_size c.args.limits (by_levels (goal.at.returns-then-not-within_limits c).Start) (table (goal.at.returns-then-not-within_limits c).Start)
     (sym (limits_refuse c.args.limits (by_levels (goal.at.returns-then-not-within_limits c).Start) (table (goal.at.returns-then-not-within_limits c).Start) (answered_no c.within_limits.ensures c.if-not-within_limits.true))))
 
 pub returns-then-not-counts_fit : goal.returns-then-not-counts_fit
 returns-then-not-counts_fit c =
-    sym (no_table_size c.args.limits c.requires.fits.lawful (by_levels (goal.at.returns-then-not-counts_fit c).Start) (table (goal.at.returns-then-not-counts_fit c).Start)
+    sym (no_lent_size c.args.limits (by_levels (goal.at.returns-then-not-counts_fit c).Start) (table (goal.at.returns-then-not-counts_fit c).Start)
     (sym (buffers_refuse c.args.limits (by_levels (goal.at.returns-then-not-counts_fit c).Start) (table (goal.at.returns-then-not-counts_fit c).Start) (answered_no c.counts_fit.ensures c.if-not-counts_fit.true))))
 
 pub overflow_mul-many : goal.overflow_mul-many
@@ -63,4 +63,4 @@ counted_bytes-requires c = counted-table c.args.limits (by_levels (goal.at.count
 
 pub returns : goal.returns
 unfolding counted
-returns c = c.counted_bytes.ensures ∙ counted-size c.args.limits c.requires.fits.lawful (by_levels (goal.at.returns c).Start) (table (goal.at.returns c).Start) (few (goal.at.returns c).Else-not-counts_fit) (fit (goal.at.returns c).Else-not-counts_fit)
+returns c = c.counted_bytes.ensures ∙ counted-size c.args.limits (by_levels (goal.at.returns c).Start) (table (goal.at.returns c).Start) (few (goal.at.returns c).Else-not-counts_fit) (fit (goal.at.returns c).Else-not-counts_fit)
