@@ -1,14 +1,13 @@
 // The tests of leaf rows (S2, S4, T3, T4): each row against the one before it, each text by its bytes.
-ghost use Rattle.std.specs.Prelude.{[], ◌∷◌, ◌≡◌, suc, ◌+◌, ◌-◌, ◌≤◌, eqb, length, get_or, take, drop};
+ghost use Rattle.std.specs.Prelude.{◌≡◌, suc, ◌-◌, eqb, get_or, take, drop};
 ghost use Rattle.std.specs.List.{list_all};
-ghost use Rattle.laws.specs.Lists.{same};
 ghost use Rattle.laws.specs.Tables.{values};
 ghost use Rattle.form.specs.Header.{splitting};
 ghost use Rattle.table.specs.inner.Back.{leaf_at, separators_at};
 ghost use Rattle.table.specs.inner.Classes.{class_table};
 ghost use Rattle.table.specs.inner.RowTests.{next_place, leaf_text, go_on_from};
 ghost use Rattle.write.specs.inner.Local.{third_place};
-ghost use Rattle.write.specs.inner.Tests.{Decides, Laid, finer, header_leaves_at};
+ghost use Rattle.write.specs.inner.Tests.{Decides, Laid, header_leaves_at};
 ghost use Rattle.write.specs.inner.Asked.{SomeRows, TwoPlaces, LaidOut, Headed, FourWithin};
 
 use form::separators::Separators;
@@ -45,37 +44,11 @@ fn one_more(before: Entry, after: Entry) -> bool
     rows::wide(before) + 1 == rows::wide(after)
 }
 
-// Whether the place at `at` is that of the first leaf of its repetition.
-fn first_in_repetition(rows: &[Entry], at: usize) -> bool
-    requires { at + 5 ≤ length rows.now }
-    ensures { result ≡ same (1 ∷ 1 ∷ []) (finer rows.now at 3) }
+// Whether some numbers of a place are all 1, as those are that are finer than a number that has risen.
+fn all_one(numbers: &[Entry]) -> bool
+    ensures { result ≡ list_all (λ number. eqb number 1) numbers.now }
 {
-    if rows[at + rows::SUBFIELD] != 1 {
-        return false;
-    }
-    rows[at + rows::SUBSUBFIELD] == 1
-}
-
-// Whether it is that of the first leaf of its field.
-fn first_in_field(rows: &[Entry], at: usize) -> bool
-    requires { at + 5 ≤ length rows.now }
-    ensures { result ≡ same (1 ∷ 1 ∷ 1 ∷ []) (finer rows.now at 2) }
-{
-    if rows[at + rows::REPETITION] != 1 {
-        return false;
-    }
-    first_in_repetition(rows, at)
-}
-
-// Whether it is that of the first leaf of its segment.
-fn first_in_segment(rows: &[Entry], at: usize) -> bool
-    requires { at + 5 ≤ length rows.now }
-    ensures { result ≡ same (1 ∷ 1 ∷ 1 ∷ 1 ∷ []) (finer rows.now at 1) }
-{
-    if rows[at + rows::FIELD] != 1 {
-        return false;
-    }
-    first_in_field(rows, at)
+    numbers.iter().all(|number| *number == 1)
 }
 
 // Whether the place at `to` comes next after the one at `from`: some number is one more, the coarser are the same and the finer are 1.
@@ -83,55 +56,15 @@ fn next_place(rows: &[Entry], from: usize, to: usize) -> bool
     requires { TwoPlaces rows.now from to }
     ensures { result ≡ next_place (take 5 (drop from rows.now)) (take 5 (drop to rows.now)) }
 {
-    let segment = rows[from];
-    let later_segment = rows[to];
-    if segment != later_segment {
-        if !one_more(segment, later_segment) {
-            return false;
+    let end = to + rows::START;
+    for level in 0..rows::START {
+        let before = rows[from + level];
+        let at = to + level;
+        if before != rows[at] {
+            return one_more(before, rows[at]) && all_one(&rows[at + 1..end]);
         }
-        return first_in_segment(rows, to);
     }
-    let field = rows[from + rows::FIELD];
-    let later_field = rows[to + rows::FIELD];
-    if field != later_field {
-        if !one_more(field, later_field) {
-            return false;
-        }
-        return first_in_field(rows, to);
-    }
-    next_in_field(rows, from, to)
-}
-
-// The same of two places of one field.
-fn next_in_field(rows: &[Entry], from: usize, to: usize) -> bool
-    requires { TwoPlaces rows.now from to }
-    ensures { result ≡ next_place (finer rows.now from 2) (finer rows.now to 2) }
-{
-    let repetition = rows[from + rows::REPETITION];
-    let later_repetition = rows[to + rows::REPETITION];
-    if repetition != later_repetition {
-        if !one_more(repetition, later_repetition) {
-            return false;
-        }
-        return first_in_repetition(rows, to);
-    }
-    next_in_repetition(rows, from, to)
-}
-
-// The same of two places of one repetition.
-fn next_in_repetition(rows: &[Entry], from: usize, to: usize) -> bool
-    requires { TwoPlaces rows.now from to }
-    ensures { result ≡ next_place (finer rows.now from 3) (finer rows.now to 3) }
-{
-    let subfield = rows[from + rows::SUBFIELD];
-    let later_subfield = rows[to + rows::SUBFIELD];
-    if subfield != later_subfield {
-        if !one_more(subfield, later_subfield) {
-            return false;
-        }
-        return rows[to + rows::SUBSUBFIELD] == 1;
-    }
-    one_more(rows[from + rows::SUBSUBFIELD], rows[to + rows::SUBSUBFIELD])
+    false
 }
 
 // Whether each byte of a text is of class 0, so that it may be a leaf's text under the separators that the classes are of.
@@ -166,7 +99,7 @@ pub(crate) fn header_leaves(rows: &[Entry], text: &[u8], count: usize) -> bool
     if rows[0] != 1 {
         return false;
     }
-    if !first_in_segment(rows, 0) {
+    if !all_one(&rows[rows::FIELD..rows::START]) {
         return false;
     }
     if rows[rows::LENGTH] != 1 {

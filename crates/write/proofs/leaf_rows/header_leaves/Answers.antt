@@ -1,9 +1,13 @@
 -- `write::leaf_rows::header_leaves` meets its contract: one law a return.
 -- Assumes nothing.
 use native.Mathlib.Omega.{arith}
-use mathlib.Core.Path.{sym, ◌∙◌}
+use mathlib.Core.List.{[], ◌∷◌}
+use mathlib.Core.Path.{◌≡◌, sym, ◌∙◌}
 use Prim.Native.Nat.{◌≤◌, ◌*◌}
-use lib.ListN.{length}
+use lib.ListN.{length, take, drop}
+use Rattle.laws.specs.Lists.{same}
+use Rattle.write.specs.inner.Tests.{finer}
+use Rattle.write.proofs.PlaceTests.{all_ones, first_ones}
 use Rattle.write.proofs.LaidRows.{in_text_fits}
 use Rattle.write.proofs.HeaderTest.{not_segment_one, not_first, not_one_byte, not_letter, not_field_two, four_decides}
 use Rattle.table.specs.Rows.{leaf_row_size}
@@ -20,11 +24,16 @@ bounds-rows-0 c = omega (arith, rows-there (goal.at.bounds-rows-0 c).Start)
 pub returns-then-rows-ne1 : goal.returns-then-rows-ne1
 returns-then-rows-ne1 c = not_segment_one c.args.rows.now c.args.text.now c.requires c.if-rows-ne1.true
 
-pub first_in_segment-requires : goal.first_in_segment-requires
-first_in_segment-requires c = omega (arith, rows-there (goal.at.first_in_segment-requires c).Start)
+-- the finer numbers of the first place
+finer_ones : (s : Start) → all_ones (take 4 (drop 1 s.args.rows.now)) ≡ same (1 ∷ 1 ∷ 1 ∷ 1 ∷ []) (finer s.args.rows.now 0 1)
+finer_ones s = first_ones s.args.rows.now (omega (arith, rows-there s))
 
-pub returns-then-not-first_in_segment : goal.returns-then-not-first_in_segment
-returns-then-not-first_in_segment c = not_first c.args.rows.now c.args.text.now c.requires (sym c.first_in_segment.ensures ∙ c.if-not-first_in_segment.true)
+pub slice_bounds-all_one-end : goal.slice_bounds-all_one-end
+slice_bounds-all_one-end c = omega (arith, rows-there (goal.at.slice_bounds-all_one-end c).Start)
+
+pub returns-then-not-all_one : goal.returns-then-not-all_one
+returns-then-not-all_one c =
+    not_first c.args.rows.now c.args.text.now c.requires (sym (c.all_one.ensures ∙ finer_ones (goal.at.returns-then-not-all_one c).Start) ∙ c.if-not-all_one.true)
 
 pub bounds-rows-6 : goal.bounds-rows-6
 bounds-rows-6 c = omega (arith, rows-there (goal.at.bounds-rows-6 c).Start)
@@ -55,5 +64,5 @@ bounds-rows-2 c = omega (arith, rows-there (goal.at.bounds-rows-2 c).Start)
 pub returns : goal.returns
 returns c =
     four_decides c.args.rows.now c.args.text.now c.requires c.if-rows-ne1-2.false c.wide.ensures.0
-    c.if-rows-ne1.false (sym c.first_in_segment.ensures ∙ c.if-not-first_in_segment.false)
+    c.if-rows-ne1.false (sym (c.all_one.ensures ∙ finer_ones (goal.at.returns c).Start) ∙ c.if-not-all_one.false)
     c.if-text-wide-ne72.false c.if-rows-ne2.false
