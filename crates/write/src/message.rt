@@ -5,7 +5,7 @@ ghost use Rattle.write.specs.inner.Asked.{MessageFits};
 
 use crate::Written;
 use crate::leaf_rows::separators_at;
-use crate::leaves::put_leaves;
+use crate::lines::Lines;
 use form::limits::Limits;
 use table::Card;
 use table::rows::Entry;
@@ -21,8 +21,11 @@ pub(crate) fn write_message(
     requires { MessageFits limits card leaves.now text.now output.old }
     ensures { GivesWriting (message_written limits card leaves.now text.now) output.old result output.new }
 {
-    let separators = separators_at(card.separator, leaves, text);
-    let going = put_leaves(limits, separators, leaves, card.leaves, text, output);
+    let lines = Lines {
+        limits,
+        separators: separators_at(card.separator, leaves, text),
+    };
+    let going = lines.put_leaves(leaves, card.leaves, text, output);
     Written {
         number: 0,
         place: 0,

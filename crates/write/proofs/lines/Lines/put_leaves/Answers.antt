@@ -1,4 +1,4 @@
--- `write::leaves::put_leaves` meets its contract: each turn puts a leaf and the separator after it, and what is left of the rows gives the
+-- `write::lines::Lines::put_leaves` meets its contract: each turn puts a leaf and the separator after it, and what is left of the rows gives the
 -- whole.
 -- Assumes nothing.
 use native.Mathlib.Omega.{arith}
@@ -6,8 +6,8 @@ use mathlib.Core.Path.{◌≡◌, ap, ◌∙◌}
 use Prim.Native.Nat.{◌+◌, ◌-◌}
 use Rattle.table.specs.Rows.{length_in}
 use Rattle.write.proofs.LeavesLeft.{leaves_begin, leaf-fits, last_fits, last_turn, leading-fits, leading_turn, leaves-written}
-use Rattle.write.proofs.leaves.put_leaves.Goals as goal
-use Rattle.write.proofs.leaves.put_leaves.Goals.{After-wide-2}
+use Rattle.write.proofs.lines.Lines.put_leaves.Goals as goal
+use Rattle.write.proofs.lines.Lines.put_leaves.Goals.{After-wide-2}
 
 pub loop-row-init : goal.loop-row-init
 loop-row-init c = leaves_begin c.requires

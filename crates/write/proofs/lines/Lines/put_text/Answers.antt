@@ -1,7 +1,7 @@
--- `write::lines::put_text` meets its contract: each turn fills a line and breaks it, and what is left of the text gives the whole.
+-- `write::lines::Lines::put_text` meets its contract: each turn fills a line and breaks it, and what is left of the text gives the whole.
 -- Assumes nothing.
 use Rattle.write.proofs.TextLeft.{text-fits, text-broken, text_less, text_turn, rest-fits, text-done}
-use Rattle.write.proofs.lines.put_text.Goals as goal
+use Rattle.write.proofs.lines.Lines.put_text.Goals as goal
 
 pub fill-full-requires : goal.fill-full-requires
 fill-full-requires c =

@@ -1,7 +1,7 @@
--- `write::lines::put_inside` meets its contract: the byte goes into a line opened for it.
+-- `write::lines::Lines::put_inside` meets its contract: the byte goes into a line opened for it.
 -- Assumes nothing.
 use Rattle.write.proofs.Filling.{inside_opens, place-fits, placed_one}
-use Rattle.write.proofs.lines.put_inside.Goals as goal
+use Rattle.write.proofs.lines.Lines.put_inside.Goals as goal
 
 pub open_line-open-requires : goal.open_line-open-requires
 open_line-open-requires c = inside_opens c.requires
