@@ -4,10 +4,10 @@ use mathlib.Core.Bool.{Bool, true, false, not, ◌&&◌}
 use mathlib.Core.List.{List, [], ◌∷◌}
 use mathlib.Core.Logic.{◌⊎◌, inl, inr}
 use mathlib.Core.Path.{◌≡◌, refl, ap, ap₂, sym, ◌∙◌}
-use Prim.Native.Nat.{ℕ, zero, suc, ◌≤◌, ◌<◌}
+use Prim.Native.Nat.{ℕ, suc, ◌≤◌, ◌<◌}
 use native.Mathlib.Omega.{arith}
 use lib.Dec.{leb, eqb}
-use lib.ListN.{get_or, take, drop}
+use lib.ListN.{get_or}
 use borrow.Author.Tests.{eqb-true, eqb-false, le-leb, lt-leb}
 use Rattle.laws.specs.Lists.{among}
 use Rattle.laws.proofs.Cases.{less_or_not}
@@ -61,12 +61,3 @@ unfolding leaf_text leaf_byte
 text_by_classes ps e [] bytes = refl
 text_by_classes ps {table} e (b ∷ s) bytes =
     ap₂ (λ (x y : Bool). x && y) (class_decides ps e refl (bytes 0)) (text_by_classes ps e s (λ i. bytes (suc i)))
-
--- the bytes of a part of a text are bytes, too
-pub part_bytes : (n k : ℕ) (s : List ℕ) → ((i : ℕ) → get_or s i 0 < 256) → (i : ℕ) → get_or (take n (drop k s)) i 0 < 256
-part_bytes zero k s h i = omega arith
-part_bytes (suc n) zero [] h i = omega arith
-part_bytes (suc n) zero (b ∷ s) h zero = h 0
-part_bytes (suc n) zero (b ∷ s) h (suc i) = part_bytes n zero s (λ j. h (suc j)) i
-part_bytes (suc n) (suc k) [] h i = omega arith
-part_bytes (suc n) (suc k) (b ∷ s) h i = part_bytes (suc n) k s (λ j. h (suc j)) i

@@ -4,6 +4,7 @@ ghost use Rattle.write.specs.inner.Filling.{stand, puts};
 ghost use Rattle.write.specs.inner.Passing.{leading, Writable, WrittenOut};
 ghost use Rattle.write.specs.inner.Asked.{NextInside, SeparatorFits};
 
+use crate::leaf_rows::Leaves;
 use crate::lines::{Going, Lines};
 use form::separators::Separators;
 use table::rows;
@@ -46,15 +47,9 @@ impl Lines {
 
     // The message of so many leaves, each with its separator after it, at the front of the output: how many bytes and lines it is. Their texts
     // lie end to end, so each begins where the one before it ended.
-    pub(crate) fn put_leaves(
-        self,
-        leaves: &[Entry],
-        count: usize,
-        text: &[u8],
-        output: &mut [u8],
-    ) -> Going
-        requires { Writable self.limits self.separators leaves.now count text.now output.old }
-        ensures { WrittenOut self.limits self.separators leaves.now count text.now output.old result output.new }
+    pub(crate) fn put_leaves(self, leaves: Leaves, output: &mut [u8]) -> Going
+        requires { Writable self.limits self.separators leaves.rows.now leaves.count leaves.text.now output.old }
+        ensures { WrittenOut self.limits self.separators leaves.entry.rows.now leaves.entry.count leaves.entry.text.now output.old result output.new }
     {
         let mut going = Going {
             out: 0,
@@ -62,15 +57,15 @@ impl Lines {
             lines: 0,
         };
         let mut from = 0;
-        let last = count - 1;
+        let last = leaves.count - 1;
         for row in 0..last {
-            let end = from + rows::wide(leaves[row * rows::LEAF_ROW + rows::LENGTH]);
-            let put = self.put_text(going, &text[from..end], output);
-            going = self.put_separator(put, leaves, row, output);
+            let end = from + rows::wide(leaves.rows[row * rows::LEAF_ROW + rows::LENGTH]);
+            let put = self.put_text(going, &leaves.text[from..end], output);
+            going = self.put_separator(put, leaves.rows, row, output);
             from = end;
         }
-        let end = from + rows::wide(leaves[last * rows::LEAF_ROW + rows::LENGTH]);
-        let put = self.put_text(going, &text[from..end], output);
+        let end = from + rows::wide(leaves.rows[last * rows::LEAF_ROW + rows::LENGTH]);
+        let put = self.put_text(going, &leaves.text[from..end], output);
         self.close(put, output)
     }
 }

@@ -4,7 +4,7 @@ ghost use Rattle.write.specs.inner.Message.{message_written};
 ghost use Rattle.write.specs.inner.Asked.{MessageFits};
 
 use crate::Written;
-use crate::leaf_rows::separators_at;
+use crate::leaf_rows::Leaves;
 use crate::lines::Lines;
 use form::limits::Limits;
 use table::Card;
@@ -21,11 +21,16 @@ pub(crate) fn write_message(
     requires { MessageFits limits card leaves.now text.now output.old }
     ensures { GivesWriting (message_written limits card leaves.now text.now) output.old result output.new }
 {
+    let leaves = Leaves {
+        rows: leaves,
+        text,
+        count: card.leaves,
+    };
     let lines = Lines {
         limits,
-        separators: separators_at(card.separator, leaves, text),
+        separators: leaves.separators_at(card.separator),
     };
-    let going = lines.put_leaves(leaves, card.leaves, text, output);
+    let going = lines.put_leaves(leaves, output);
     Written {
         number: 0,
         place: 0,

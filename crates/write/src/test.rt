@@ -8,8 +8,10 @@ ghost use Rattle.table.specs.Lent.{lent, within_limits};
 ghost use Rattle.write.specs.inner.Tests.{Decides, SoundRows, table_with, size_back, lent_size, sound_leaves, in_order};
 ghost use Rattle.write.specs.inner.Asked.{Testable, CountedTable, RowsAsked, LaidOut, KindsAndLeaves};
 
+use crate::leaf_rows::Leaves;
+use crate::segment_rows::Segments;
+use crate::size;
 use crate::size::Owners;
-use crate::{leaf_rows, segment_rows, size};
 use form::forms::Form;
 use form::limits::Limits;
 use order::followers;
@@ -91,14 +93,16 @@ fn counted_bytes(
     if !sound_rows(levels, card, segments, leaves, text) {
         return None;
     }
-    let bytes = segment_rows::message_bytes(
-        limits,
-        segments,
-        card.segments,
-        leaves,
+    let segments = Segments {
+        rows: segments,
+        count: card.segments,
+    };
+    let leaves = Leaves {
+        rows: leaves,
         text,
-        card.leaves,
-    );
+        count: card.leaves,
+    };
+    let bytes = segments.message_bytes(limits, leaves);
     if bytes <= limits.bytes {
         Some(bytes)
     } else {
@@ -117,51 +121,52 @@ fn sound_rows(
     requires { RowsAsked (level_in levels.now) (table_with card segments.now leaves.now text.now) }
     ensures { Decides result (SoundRows (level_in levels.now) (table_with card segments.now leaves.now text.now)) }
 {
-    let count = card.leaves;
-    if count < 3 {
+    let segments = Segments {
+        rows: segments,
+        count: card.segments,
+    };
+    let leaves = Leaves {
+        rows: leaves,
+        text,
+        count: card.leaves,
+    };
+    if card.leaves < 3 {
         return false;
     }
-    if !leaf_rows::laid(leaves, count, card.text) {
+    if !leaves.laid(card.text) {
         return false;
     }
-    if !sound_leaves(card.separator, leaves, text, count) {
+    if !sound_leaves(card.separator, leaves) {
         return false;
     }
-    if !segment_rows::grouped(segments, card.segments, leaves, text, count) {
+    if !segments.grouped(leaves) {
         return false;
     }
-    if !segment_rows::owned(levels, card.context, segments, card.segments) {
+    if !segments.owned(levels, card.context) {
         return false;
     }
-    in_order(card.context, segments, card.segments, leaves, text, count)
+    in_order(card.context, segments, leaves)
 }
 
-// Whether the header's rows keep the header rule (H2, S4) and the leaf rows after them go on soundly. Only the contract reads `count`.
-fn sound_leaves(field: u8, leaves: &[Entry], text: &[u8], count: usize) -> bool
-    requires { LaidOut leaves.now text.now count }
-    ensures { result ≡ sound_leaves field leaves.now text.now count }
+// Whether the header's rows keep the header rule (H2, S4) and the leaf rows after them go on soundly.
+fn sound_leaves(field: u8, leaves: Leaves) -> bool
+    requires { LaidOut leaves.rows.now leaves.text.now leaves.count }
+    ensures { result ≡ sound_leaves field leaves.entry.rows.now leaves.entry.text.now leaves.entry.count }
 {
-    if !leaf_rows::header_leaves(leaves, text, count) {
+    if !leaves.header_leaves() {
         return false;
     }
-    let separators = leaf_rows::separators_at(field, leaves, text);
-    separators.sound() && leaf_rows::go_on_from(separators, leaves, text, count)
+    let separators = leaves.separators_at(field);
+    separators.sound() && leaves.go_on_from(separators)
 }
 
 // Whether field 7 of the first segment names the context (C1) and the kinds stand where it allows them (C2, C3). The first segment row counts
-// that segment's leaves. Only the contract reads `count`.
-fn in_order(
-    context: u8,
-    segments: &[Entry],
-    many: usize,
-    leaves: &[Entry],
-    text: &[u8],
-    count: usize,
-) -> bool
-    requires { KindsAndLeaves segments.now many leaves.now text.now count }
-    ensures { result ≡ in_order context segments.now many leaves.now text.now count }
+// that segment's leaves.
+fn in_order(context: u8, segments: Segments, leaves: Leaves) -> bool
+    requires { KindsAndLeaves segments.rows.now segments.count leaves.rows.now leaves.text.now leaves.count }
+    ensures { result ≡ in_order context segments.entry.rows.now segments.entry.count
+        leaves.entry.rows.now leaves.entry.text.now leaves.entry.count }
 {
-    let end = rows::wide(segments[rows::COUNT]);
-    segment_rows::context_of(leaves, text, count, end) == Some(context)
-        && segment_rows::ordered(&followers::table(), context, segments, many)
+    let end = rows::wide(segments.rows[rows::COUNT]);
+    leaves.context_of(end) == Some(context) && segments.ordered(&followers::table(), context)
 }

@@ -15,7 +15,7 @@ use Rattle.write.proofs.Parts.{other-context, order_decides}
 use Rattle.write.proofs.test.in_order.Goals as goal
 use Rattle.write.proofs.test.in_order.Goals.{Start, After-eq}
 
-first-row : (s : Start) → FirstStated s.args.segments.now s.args.many s.args.leaves.now s.args.count
+first-row : (s : Start) → FirstStated s.args.segments.rows.now s.args.segments.count s.args.leaves.rows.now s.args.leaves.count
 first-row s = first-stated s.requires
 
 pub bounds-segments-3 : goal.bounds-segments-3
@@ -29,16 +29,16 @@ ordered-requires c = record { kinds = c.requires.kinds; followers_are = c.table.
 
 -- whether the context is the one that is named
 named_so : (c : After-eq)
-    → c.eq.result ≡ (not (eqb c.args.context 0) && eqb (context_among (groups_in c.args.leaves.now c.args.text.now c.args.count)) c.args.context)
+    → c.eq.result ≡ (not (eqb c.args.context 0) && eqb (context_among (groups_in c.args.leaves.rows.now c.args.leaves.text.now c.args.leaves.count)) c.args.context)
 named_so c = c.eq.ensures ∙ ap (λ (o : Option ℕ). option_eq eqb o (Some c.args.context)) c.context_of.ensures ∙ known_is _ c.args.context
 
 pub returns-then-eq : goal.returns-then-eq
 returns-then-eq c =
     c.ordered.ensures
-    ∙ order_decides c.args.context c.args.segments.now c.args.many c.args.leaves.now c.args.text.now c.args.count
+    ∙ order_decides c.args.context c.args.segments.rows.now c.args.segments.count c.args.leaves.rows.now c.args.leaves.text.now c.args.leaves.count
     (named_so (goal.at.returns-then-eq c).After-eq) c.if-eq.true
 
 pub returns-else-eq : goal.returns-else-eq
 returns-else-eq c =
-    other-context c.args.context c.args.segments.now c.args.many c.args.leaves.now c.args.text.now c.args.count
+    other-context c.args.context c.args.segments.rows.now c.args.segments.count c.args.leaves.rows.now c.args.leaves.text.now c.args.leaves.count
     (named_so (goal.at.returns-else-eq c).After-eq) c.if-eq.false

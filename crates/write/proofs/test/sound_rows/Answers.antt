@@ -41,17 +41,17 @@ grouped_here c = answered_yes c.grouped.ensures c.if-not-grouped.false
 kinds_here : (c : Else-not-grouped) → KindsStated (table (goal.at.Else-not-grouped c).Start).segment_rows (table (goal.at.Else-not-grouped c).Start).card.segments
 kinds_here c = narrow_kinds c.requires.narrow (grouped_here c)
 
-pub returns-then-count-lt3 : goal.returns-then-count-lt3
-returns-then-count-lt3 c = refuses (goal.at.returns-then-count-lt3 c).Start (λ w. omega (arith, w.three, c.if-count-lt3.true))
+pub returns-then-card-lt3 : goal.returns-then-card-lt3
+returns-then-card-lt3 c = refuses (goal.at.returns-then-card-lt3 c).Start (λ w. omega (arith, w.three, c.if-card-lt3.true))
 
 pub laid-requires : goal.laid-requires
-laid-requires c = record { sized = c.requires.narrow.sized.leaf_rows; some = omega (arith, c.if-count-lt3.false) }
+laid-requires c = record { sized = c.requires.narrow.sized.leaf_rows; some = omega (arith, c.if-card-lt3.false) }
 
 pub returns-then-not-laid : goal.returns-then-not-laid
 returns-then-not-laid c = refuses (goal.at.returns-then-not-laid c).Start (λ w. c.laid.ensures.1 (c.if-not-laid.true) (sound-laid w))
 
 pub sound_leaves-requires : goal.sound_leaves-requires
-sound_leaves-requires c = record { in_text = text_here c; three = c.if-count-lt3.false; next = (laid_here c).next }
+sound_leaves-requires c = record { in_text = text_here c; three = c.if-card-lt3.false; next = (laid_here c).next }
 
 pub returns-then-not-sound_leaves : goal.returns-then-not-sound_leaves
 returns-then-not-sound_leaves c = refuses (goal.at.returns-then-not-sound_leaves c).Start (λ w. never_both w.sound (answered_no c.sound_leaves.ensures c.if-not-sound_leaves.true))
@@ -76,13 +76,13 @@ pub returns-then-not-owned : goal.returns-then-not-owned
 returns-then-not-owned c = refuses (goal.at.returns-then-not-owned c).Start (λ w. never_both w.owned (answered_no c.owned.ensures c.if-not-owned.true))
 
 pub in_order-requires : goal.in_order-requires
-in_order-requires c = record { kinds = kinds_here (goal.at.in_order-requires c).Else-not-grouped; in_text = text_here (goal.at.in_order-requires c).Else-not-laid; some = omega (arith, c.if-count-lt3.false); grouped = grouped_here (goal.at.in_order-requires c).Else-not-grouped }
+in_order-requires c = record { kinds = kinds_here (goal.at.in_order-requires c).Else-not-grouped; in_text = text_here (goal.at.in_order-requires c).Else-not-laid; some = omega (arith, c.if-card-lt3.false); grouped = grouped_here (goal.at.in_order-requires c).Else-not-grouped }
 
 pub returns : goal.returns
 returns c = (
   λ e.
       record {
-        three = c.if-count-lt3.false;
+        three = c.if-card-lt3.false;
         laid = (laid_here (goal.at.returns c).Else-not-laid).ended;
         sound = sound_here (goal.at.returns c).Else-not-sound_leaves;
         grouped = grouped_here (goal.at.returns c).Else-not-grouped;

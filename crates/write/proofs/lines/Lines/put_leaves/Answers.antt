@@ -25,11 +25,11 @@ loop-row-preserved c =
     c.put_separator-going.ensures
 
 -- the last leaf, and its CR
-last_row : (c : After-wide-2) → c.loop-row.row + 1 ≡ c.args.count
+last_row : (c : After-wide-2) → c.loop-row.row + 1 ≡ c.args.leaves.count
 last_row c = omega (arith, c.requires.some, c.loop-row-test.false, c.loop-row.auto.row-end)
 
-last_length : (c : After-wide-2) → c.wide-2.result ≡ length_in c.args.leaves.now c.loop-row.row
-last_length c = c.wide-2.ensures.0 ∙ ap (length_in c.args.leaves.now) (let e : c.args.count - 1 ≡ c.loop-row.row = omega (arith, last_row c) in e)
+last_length : (c : After-wide-2) → c.wide-2.result ≡ length_in c.args.leaves.rows.now c.loop-row.row
+last_length c = c.wide-2.ensures.0 ∙ ap (length_in c.args.leaves.rows.now) (let e : c.args.leaves.count - 1 ≡ c.loop-row.row = omega (arith, last_row c) in e)
 
 pub put_text-put-requires-2 : goal.put_text-put-requires-2
 put_text-put-requires-2 c =

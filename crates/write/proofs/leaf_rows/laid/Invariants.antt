@@ -1,7 +1,0 @@
--- `write::leaf_rows::laid` meets its contract. The loop's invariant: the rows up to here are laid out.
--- Assumes nothing.
-use Rattle.write.proofs.LaidRows.{Laying}
-use Rattle.write.proofs.leaf_rows.laid.Given as goal
-
-abbrev pub invariant-loop-i : goal.invariant-loop-i
-invariant-loop-i l = Laying l.rows l.finish l.count l.i l.start
