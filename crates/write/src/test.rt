@@ -5,7 +5,7 @@ ghost use Rattle.order.specs.Owners.{level, former_level};
 ghost use Rattle.order.specs.inner.Levels.{level_in};
 ghost use Rattle.write.specs.inner.ReadsBack.{is_table};
 ghost use Rattle.table.specs.Lent.{lent, within_limits};
-ghost use Rattle.write.specs.inner.Tests.{Decides, SoundRows, table_with, size_back, lent_size, sound_leaves, in_order};
+ghost use Rattle.write.specs.inner.Tests.{Decides, SoundRows, table_with, of_counts, size_back, lent_size, sound_leaves, in_order};
 ghost use Rattle.write.specs.inner.Asked.{Testable, CountedTable, RowsAsked, LaidOut, KindsAndLeaves};
 
 use crate::leaf_rows::Leaves;
@@ -59,15 +59,16 @@ pub(crate) fn table_bytes(
     }
     let many = card.segments * rows::SEGMENT_ROW;
     let size = card.leaves * rows::LEAF_ROW;
-    let end = card.text;
-    counted_bytes(
-        limits,
-        levels,
-        card,
-        &segments[..many],
-        &leaves[..size],
-        &text[..end],
-    )
+    let segments = Segments {
+        rows: &segments[..many],
+        count: card.segments,
+    };
+    let leaves = Leaves {
+        rows: &leaves[..size],
+        text: &text[..card.text],
+        count: card.leaves,
+    };
+    counted_bytes(limits, levels, card, segments, leaves)
 }
 
 // Whether a card's counts keep to the limits (T6).
@@ -83,25 +84,18 @@ fn counted_bytes(
     limits: Limits,
     levels: &[u8; 84],
     card: Card,
-    segments: &[Entry],
-    leaves: &[Entry],
-    text: &[u8],
+    segments: Segments,
+    leaves: Leaves,
 ) -> Option<usize>
-    requires { CountedTable limits (level_in levels.now) (table_with card segments.now leaves.now text.now) }
-    ensures { result ≡ size_back limits (level_in levels.now) (table_with card segments.now leaves.now text.now) }
+    requires { CountedTable limits (level_in levels.now)
+        (table_with (of_counts card segments.count leaves.count) segments.rows.now leaves.rows.now leaves.text.now) }
+    ensures { result ≡ size_back limits (level_in levels.now)
+        (table_with (of_counts card segments.entry.count leaves.entry.count)
+        segments.entry.rows.now leaves.entry.rows.now leaves.entry.text.now) }
 {
-    if !sound_rows(levels, card, segments, leaves, text) {
+    if !sound_rows(levels, card, segments, leaves) {
         return None;
     }
-    let segments = Segments {
-        rows: segments,
-        count: card.segments,
-    };
-    let leaves = Leaves {
-        rows: leaves,
-        text,
-        count: card.leaves,
-    };
     let bytes = segments.message_bytes(limits, leaves);
     if bytes <= limits.bytes {
         Some(bytes)
@@ -111,26 +105,14 @@ fn counted_bytes(
 }
 
 // Whether the counted rows and the text pass every test but that of the message's bytes.
-fn sound_rows(
-    levels: &[u8; 84],
-    card: Card,
-    segments: &[Entry],
-    leaves: &[Entry],
-    text: &[u8],
-) -> bool
-    requires { RowsAsked (level_in levels.now) (table_with card segments.now leaves.now text.now) }
-    ensures { Decides result (SoundRows (level_in levels.now) (table_with card segments.now leaves.now text.now)) }
+fn sound_rows(levels: &[u8; 84], card: Card, segments: Segments, leaves: Leaves) -> bool
+    requires { RowsAsked (level_in levels.now)
+        (table_with (of_counts card segments.count leaves.count) segments.rows.now leaves.rows.now leaves.text.now) }
+    ensures { Decides result (SoundRows (level_in levels.now)
+        (table_with (of_counts card segments.entry.count leaves.entry.count)
+        segments.entry.rows.now leaves.entry.rows.now leaves.entry.text.now)) }
 {
-    let segments = Segments {
-        rows: segments,
-        count: card.segments,
-    };
-    let leaves = Leaves {
-        rows: leaves,
-        text,
-        count: card.leaves,
-    };
-    if card.leaves < 3 {
+    if leaves.count < 3 {
         return false;
     }
     if !leaves.laid(card.text) {

@@ -150,3 +150,8 @@ lent_size L levels l = elim (is_table L levels l) [ true ↦ Some (length (writt
 -- a table of some counted entries
 abbrev pub table_with : Card → (segment_rows leaf_rows text : List ℕ) → Table
 table_with card segment_rows leaf_rows text = record { card = card; segment_rows = segment_rows; leaf_rows = leaf_rows; text = text }
+
+-- a card with other counts of rows
+abbrev pub of_counts : Card → (segments leaves : ℕ) → Card
+of_counts card segments leaves =
+    record { separator = card.separator; context = card.context; segments = segments; leaves = leaves; text = card.text }

@@ -6,14 +6,14 @@ use Rattle.std.specs.Prelude.{Some}
 use Prim.Native.Nat.{ℕ}
 use Rattle.order.specs.inner.Levels.{level_in}
 use Rattle.table.specs.Rows.{Table}
-use Rattle.write.specs.inner.Tests.{table_with, SoundRows}
+use Rattle.write.specs.inner.Tests.{table_with, of_counts, SoundRows}
 use Rattle.write.proofs.TableTest.{laid_in_text, refused-size, passed-size}
 use Rattle.write.proofs.test.counted_bytes.Goals as goal
 use Rattle.write.proofs.test.counted_bytes.Goals.{Else-not-sound_rows, Start}
 
 -- the table that is tested
 abbrev table : Start → Table
-table s = table_with s.args.card s.args.segments.now s.args.leaves.now s.args.text.now
+table s = table_with (of_counts s.args.card s.args.segments.count s.args.leaves.count) s.args.segments.rows.now s.args.leaves.rows.now s.args.leaves.text.now
 
 -- the levels it is tested by
 abbrev by_levels : Start → ℕ → ℕ → ℕ

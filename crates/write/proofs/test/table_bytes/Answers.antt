@@ -48,14 +48,14 @@ overflow_mul-many c = omega (arith, (within (goal.at.overflow_mul-many c).Else-n
 pub overflow_mul-size : goal.overflow_mul-size
 overflow_mul-size c = omega (arith, (within (goal.at.overflow_mul-size c).Else-not-counts_fit).leaf_rows)
 
-pub slice_bounds-counted_bytes-end : goal.slice_bounds-counted_bytes-end
-slice_bounds-counted_bytes-end c = sym (length-take-le (c.args.card.segments * segment_row_size) c.args.segments.now (within (goal.at.slice_bounds-counted_bytes-end c).Else-not-counts_fit).segment_rows)
+pub slice_bounds-segments-end : goal.slice_bounds-segments-end
+slice_bounds-segments-end c = sym (length-take-le (c.args.card.segments * segment_row_size) c.args.segments.now (within (goal.at.slice_bounds-segments-end c).Else-not-counts_fit).segment_rows)
 
-pub slice_bounds-counted_bytes-end-2 : goal.slice_bounds-counted_bytes-end-2
-slice_bounds-counted_bytes-end-2 c = sym (length-take-le (c.args.card.leaves * leaf_row_size) c.args.leaves.now (within (goal.at.slice_bounds-counted_bytes-end-2 c).Else-not-counts_fit).leaf_rows)
+pub slice_bounds-leaves-end : goal.slice_bounds-leaves-end
+slice_bounds-leaves-end c = sym (length-take-le (c.args.card.leaves * leaf_row_size) c.args.leaves.now (within (goal.at.slice_bounds-leaves-end c).Else-not-counts_fit).leaf_rows)
 
-pub slice_bounds-counted_bytes-end-3 : goal.slice_bounds-counted_bytes-end-3
-slice_bounds-counted_bytes-end-3 c = sym (length-take-le c.args.card.text c.args.text.now (within (goal.at.slice_bounds-counted_bytes-end-3 c).Else-not-counts_fit).text)
+pub slice_bounds-leaves-end-2 : goal.slice_bounds-leaves-end-2
+slice_bounds-leaves-end-2 c = sym (length-take-le c.args.card.text c.args.text.now (within (goal.at.slice_bounds-leaves-end-2 c).Else-not-counts_fit).text)
 
 pub counted_bytes-requires : goal.counted_bytes-requires
 unfolding counted
