@@ -1,4 +1,5 @@
-// The tests of leaf rows (S2, S4, T3, T4): each row against the one before it, each text by its bytes.
+// The tests of leaf rows (S2, S4, T3, T4): each row against the one before it, each text by its
+// bytes.
 ghost use Rattle.std.specs.Prelude.{ℕ, ◌≡◌, ◌<◌, suc, ◌-◌, eqb, get_or, take, drop};
 ghost use Rattle.std.specs.List.{list_all};
 ghost use Rattle.laws.specs.Tables.{values};
@@ -22,14 +23,16 @@ fn one_more(before: Entry, after: Entry) -> bool
     rows::wide(before) + 1 == rows::wide(after)
 }
 
-// Whether some numbers of a place are all 1, as those are that are finer than a number that has risen.
+// Whether some numbers of a place are all 1, as those are that are finer than a number that has
+// risen.
 fn all_one(numbers: &[Entry]) -> bool
     ensures { result ≡ list_all (λ number. eqb number 1) numbers.now }
 {
     numbers.iter().all(|number| *number == 1)
 }
 
-// Whether the place at `to` comes next after the one at `from`: some number is one more, the coarser are the same and the finer are 1.
+// Whether the place at `to` comes next after the one at `from`: some number is one more, the
+// coarser are the same and the finer are 1.
 fn next_place(rows: &[Entry], from: usize, to: usize) -> bool
     requires { TwoPlaces rows.now from to }
     ensures { result ≡ next_place (take 5 (drop from rows.now)) (take 5 (drop to rows.now)) }
@@ -45,7 +48,8 @@ fn next_place(rows: &[Entry], from: usize, to: usize) -> bool
     false
 }
 
-// Whether each byte of a text is of class 0, so that it may be a leaf's text under the separators that the classes are of.
+// Whether each byte of a text is of class 0, so that it may be a leaf's text under the separators
+// that the classes are of.
 fn leaf_text(class: &[u8; 256], text: &[u8]) -> bool
     ensures all { result ≡ list_all (λ b. eqb (get_or class.now b 0) 0) text.now }
     ensures bytes { (i : ℕ) → get_or text.now i 0 < 256 }
@@ -62,7 +66,8 @@ pub struct Leaves<'a> {
 }
 
 impl Leaves<'_> {
-    // Whether so many leaf rows are laid out: their texts lie end to end, from 0 up to `finish`, and each stands at the next place.
+    // Whether so many leaf rows are laid out: their texts lie end to end, from 0 up to `finish`,
+    // and each stands at the next place.
     pub(crate) fn laid(self, finish: usize) -> bool
         requires { SomeRows self.rows.now self.count }
         ensures { Decides result (Laid self.entry.rows.now self.entry.count finish) }
@@ -84,8 +89,8 @@ impl Leaves<'_> {
         start == finish
     }
 
-    // Whether leaf rows that are laid out begin after the header's two at field 3 (S4), with texts that may be a leaf's from there on: these are
-    // the text from the third leaf's start on.
+    // Whether leaf rows that are laid out begin after the header's two at field 3 (S4), with texts
+    // that may be a leaf's from there on: these are the text from the third leaf's start on.
     pub(crate) fn go_on_from(self, separators: Separators) -> bool
         requires { Headed self.rows.now self.text.now self.count }
         ensures { result ≡ go_on_from (splitting separators) third_place
@@ -100,7 +105,8 @@ impl Leaves<'_> {
         leaf_text(&class, &self.text[start..])
     }
 
-    // Whether the first two of leaf rows that are laid out are a header's: `H` in field 1, four bytes in field 2 (S4).
+    // Whether the first two of leaf rows that are laid out are a header's: `H` in field 1, four
+    // bytes in field 2 (S4).
     pub(crate) fn header_leaves(self) -> bool
         requires { LaidOut self.rows.now self.text.now self.count }
         ensures { result ≡ header_leaves_at self.entry.rows.now self.entry.text.now }
@@ -123,7 +129,8 @@ impl Leaves<'_> {
         self.rows[rows::LEAF_ROW + rows::LENGTH] == 4
     }
 
-    // The separators of a table: the card has the field separator (T5), the text of the second leaf the others (S4).
+    // The separators of a table: the card has the field separator (T5), the text of the second leaf
+    // the others (S4).
     pub(crate) fn separators_at(self, field: u8) -> Separators
         requires { FourWithin self.rows.now self.text.now }
         ensures { result ≡ separators_at field self.entry.rows.now self.entry.text.now }

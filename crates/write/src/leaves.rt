@@ -1,4 +1,5 @@
-// The leaves of a table one after the other, with one separator between two neighbours (S2), as lines (W1).
+// The leaves of a table one after the other, with one separator between two neighbours (S2), as
+// lines (W1).
 ghost use Rattle.std.specs.Prelude.{[], ◌∷◌, ◌≡◌};
 ghost use Rattle.write.specs.inner.Filling.{stand, puts};
 ghost use Rattle.write.specs.inner.Passing.{leading, Writable, WrittenOut};
@@ -10,8 +11,9 @@ use form::separators::Separators;
 use table::rows;
 use table::rows::Entry;
 
-// The separator between the leaf of a row and the next one of its segment: that of the first number of their places that differs. Some
-// number does, since the next leaf stands at the place that comes next.
+// The separator between the leaf of a row and the next one of its segment: that of the first number
+// of their places that differs. Some number does, since the next leaf stands at the place that
+// comes next.
 fn separator(separators: Separators, leaves: &[Entry], row: usize) -> u8
     requires { NextInside leaves.now row }
     ensures { result ≡ leading separators leaves.now row }
@@ -31,7 +33,8 @@ fn separator(separators: Separators, leaves: &[Entry], row: usize) -> u8
 }
 
 impl Lines {
-    // The separator between the leaf of a row and the next one goes into the output; between two segments it is CR.
+    // The separator between the leaf of a row and the next one goes into the output; between two
+    // segments it is CR.
     fn put_separator(self, going: Going, leaves: &[Entry], row: usize, output: &mut [u8]) -> Going
         requires { SeparatorFits self.limits self.separators (stand output.old going) leaves.now row }
         ensures { stand output.new result
@@ -45,8 +48,9 @@ impl Lines {
         self.put_inside(going, byte, output)
     }
 
-    // The message of so many leaves, each with its separator after it, at the front of the output: how many bytes and lines it is. Their texts
-    // lie end to end, so each begins where the one before it ended.
+    // The message of so many leaves, each with its separator after it, at the front of the output:
+    // how many bytes and lines it is. Their texts lie end to end, so each begins where the one
+    // before it ended.
     pub(crate) fn put_leaves(self, leaves: Leaves, output: &mut [u8]) -> Going
         requires { Writable self.limits self.separators leaves.rows.now leaves.count leaves.text.now output.old }
         ensures { WrittenOut self.limits self.separators leaves.entry.rows.now leaves.entry.count leaves.entry.text.now output.old result output.new }

@@ -1,5 +1,6 @@
-// The lines of segments as they are filled (W1): separators one by one, texts in parts, as much at a time as the line begun has room for. An
-// addendum is begun only where a line is full and more of its segment follows.
+// The lines of segments as they are filled (W1): separators one by one, texts in parts, as much at
+// a time as the line begun has room for. An addendum is begun only where a line is full and more of
+// its segment follows.
 ghost use Rattle.std.specs.Prelude.{[], ◌∷◌, ◌≡◌};
 ghost use Rattle.write.specs.inner.Filling.{stand, placed, filled, segment_closed, broken, line_opened, puts};
 ghost use Rattle.write.specs.inner.Asked.{Opens, RoomForByte, RoomForText, RoomForEnd, ByteInside, TextInside};
@@ -10,7 +11,8 @@ use form::separators::Separators;
 // CR ends a line (L1).
 pub(crate) const CR: u8 = 13;
 
-// How far the output is written: its bytes, the bytes that the line begun still holds, the lines closed.
+// How far the output is written: its bytes, the bytes that the line begun still holds, the lines
+// closed.
 #[derive(Clone, Copy)]
 pub struct Going {
     pub out: usize,
@@ -85,7 +87,8 @@ impl Lines {
         }
     }
 
-    // A line with room for one more byte of the segment: the line begun, or an addendum where that is full.
+    // A line with room for one more byte of the segment: the line begun, or an addendum where that
+    // is full.
     fn open_line(self, going: Going, output: &mut [u8]) -> Going
         requires { Opens self.limits self.separators.field (stand output.old going) }
         ensures { stand output.new result ≡ line_opened self.limits self.separators.field (stand output.old going) }
@@ -105,13 +108,15 @@ impl Lines {
         place(open, byte, output)
     }
 
-    // The bytes of a text, none of which is CR: lines are filled and broken as long as more bytes are left than the line has room for.
+    // The bytes of a text, none of which is CR: lines are filled and broken as long as more bytes
+    // are left than the line has room for.
     pub(crate) fn put_text(self, going: Going, text: &[u8], output: &mut [u8]) -> Going
         requires { TextInside self.limits self.separators.field (stand output.old going) text.now }
         ensures { stand output.new result ≡ puts self.limits self.separators.field (stand output.old going) text.now }
     {
         let mut going = going;
         let mut left = text;
+        // kept (plainer): a turn takes what the line has room for, and the turn before decides that.
         while going.room < left.len() {
             let (part, others) = left.split_at(going.room);
             let full = fill(going, part, output);

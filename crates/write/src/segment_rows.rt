@@ -19,7 +19,8 @@ use order::{levels, owners};
 use table::rows;
 use table::rows::Entry;
 
-// A number that names something, or none where it is 0.
+// A number that names something, or none where it is 0, as `Kind::named` and `Context::named` of
+// the crate form have it.
 fn known(number: u8) -> Option<u8>
     ensures { result ≡ known number }
 {
@@ -27,8 +28,9 @@ fn known(number: u8) -> Option<u8>
 }
 
 impl<'a> Leaves<'a> {
-    // Whether the segment that begins at the leaf `first` has so many leaves: the last of them stands in it and the leaf after that does not.
-    // No leaf between has to be looked at, since segment numbers never fall along places that follow each other.
+    // Whether the segment that begins at the leaf `first` has so many leaves: the last of them
+    // stands in it and the leaf after that does not. No leaf between has to be looked at, since
+    // segment numbers never fall along places that follow each other.
     fn has_leaves(self, first: usize, leaves: usize) -> bool
         requires { Following self.rows.now self.count first }
         ensures { Decides result (SegmentEnd self.entry.rows.now self.entry.count first (first + leaves)) }
@@ -63,7 +65,8 @@ impl<'a> Leaves<'a> {
         }
     }
 
-    // The one leaf of a field among the leaves from `first` up to `end`, or none where the field is missing or is more than one leaf.
+    // The one leaf of a field among the leaves from `first` up to `end`, or none where the field is
+    // missing or is more than one leaf.
     fn field_leaf(self, field: Entry, first: usize, end: usize) -> Option<usize>
         requires { UpTo self.rows.now first end }
         ensures { FieldLeaf self.entry.rows.now field first end result }
@@ -87,7 +90,8 @@ impl<'a> Leaves<'a> {
         &self.text[start..end]
     }
 
-    // The kind of the segment of the leaves from `first` up to `end`, if it has one (S1). Its first leaf is of field 1, as each segment's is.
+    // The kind of the segment of the leaves from `first` up to `end`, if it has one (S1). Its first
+    // leaf is of field 1, as each segment's is.
     fn kind_of(self, first: usize, end: usize) -> Option<u8>
         requires { SegmentThere self.rows.now self.text.now self.count first end }
         ensures { result ≡ known (kind_among (leaves_between self.entry.rows.now self.entry.text.now first end)) }
@@ -96,7 +100,8 @@ impl<'a> Leaves<'a> {
         known(Kind::named(self.text_of(leaf)))
     }
 
-    // The context that field 7 of the first segment names, if it names one (C1). That segment's leaves go up to `end`.
+    // The context that field 7 of the first segment names, if it names one (C1). That segment's
+    // leaves go up to `end`.
     pub(crate) fn context_of(self, end: usize) -> Option<u8>
         requires { FirstSegment self.rows.now self.text.now self.count end }
         ensures { result ≡ known (context_among (groups_in self.entry.rows.now self.entry.text.now self.entry.count)) }
@@ -105,7 +110,8 @@ impl<'a> Leaves<'a> {
         known(Context::named(self.text_of(leaf)))
     }
 
-    // The bytes of the texts of the leaves from `first` up to `end`, which lie end to end: from the first one's start up to the last one's end.
+    // The bytes of the texts of the leaves from `first` up to `end`, which lie end to end: from the
+    // first one's start up to the last one's end.
     fn text_bytes(self, first: usize, end: usize) -> usize
         requires { Stretch self.rows.now self.text.now self.count first end }
         ensures { (result ≡ length (text_of (leaves_between self.entry.rows.now self.entry.text.now first end)))
@@ -117,8 +123,9 @@ impl<'a> Leaves<'a> {
         finish - rows::wide(self.rows[first * rows::LEAF_ROW + rows::START])
     }
 
-    // The bytes that are written for the segment of the leaves from `first` up to `end` (W1, W2): its texts and separators, a CR for each line,
-    // and `A` and separator for each line but the first.
+    // The bytes that are written for the segment of the leaves from `first` up to `end` (W1, W2):
+    // its texts and separators, a CR for each line, and `A` and separator for each line but the
+    // first.
     fn segment_bytes(self, limits: Limits, first: usize, end: usize) -> usize
         requires { LawfulStretch limits self.rows.now self.text.now self.count first end }
         ensures { result ≡ written_bytes limits (leaves_between self.entry.rows.now self.entry.text.now first end) }
@@ -147,7 +154,8 @@ impl Segments<'_> {
             && rows::wide(self.rows[at + rows::COUNT]) == count
     }
 
-    // Whether the segment rows state the kinds, the first leaves and the leaf counts of the leaves' segments.
+    // Whether the segment rows state the kinds, the first leaves and the leaf counts of the leaves'
+    // segments.
     pub(crate) fn grouped(self, leaves: Leaves) -> bool
         requires { Groupable self.rows.now self.count leaves.rows.now leaves.text.now leaves.count }
         ensures { result ≡ groups_stated self.entry.rows.now 0 self.entry.count 1

@@ -32,7 +32,9 @@ impl Owners {
     }
 }
 
-// The bytes that the writer gives for a table of a form, whatever the buffers hold; 0 where no message reads to it (W3, W4).
+// The bytes that the writer gives for a table of a form, whatever the buffers hold; 0 where no
+// message reads to it (W3, W4).
+// kept (C): the clause of `written_bytes` names `written_size`, which is 0 there.
 pub fn written_bytes(
     form: Form,
     card: Card,
@@ -45,7 +47,8 @@ pub fn written_bytes(
     bytes_by(form, Owners::InForce, card, segments, leaves, text).unwrap_or(0)
 }
 
-// The same with the owners of either levels, or none where no message reads to the table. The test is called here alone, so that it is compiled for the one line rule of both forms.
+// The same with the owners of either levels, or none where no message reads to the table. The test
+// is called here alone, so that it is compiled for the one line rule of both forms.
 pub(crate) fn bytes_by(
     form: Form,
     owners: Owners,

@@ -1,4 +1,5 @@
-// The table test (W4): whether some message within the limits reads to a table, and how many bytes are written for it.
+// The table test (W4): whether some message within the limits reads to a table, and how many bytes
+// are written for it.
 ghost use Rattle.std.specs.Prelude.{◌≡◌};
 ghost use Rattle.form.specs.Forms.{limits_of};
 ghost use Rattle.order.specs.Owners.{level, former_level};
@@ -18,8 +19,8 @@ use order::followers;
 use table::rows::Entry;
 use table::{Card, rows};
 
-// Yes exactly where some message within the form's limits reads to the table that the card counts in the lent buffers, whatever these hold
-// (W4).
+// Yes exactly where some message within the form's limits reads to the table that the card counts
+// in the lent buffers, whatever these hold (W4).
 pub fn is_table(form: Form, card: Card, segments: &[Entry], leaves: &[Entry], text: &[u8]) -> bool
     ensures { result ≡ is_table (limits_of form) level (lent card segments.now leaves.now text.now) }
 {
@@ -39,7 +40,8 @@ pub fn is_former_table(
     size::bytes_by(form, Owners::Former, card, segments, leaves, text).is_some()
 }
 
-// The bytes that are written for a table under any limits and levels, if some message within them reads to it.
+// The bytes that are written for a table under any limits and levels, if some message within them
+// reads to it.
 pub(crate) fn table_bytes(
     limits: Limits,
     levels: &[u8; 84],
@@ -78,8 +80,9 @@ fn within_limits(limits: Limits, card: Card) -> bool
     card.segments <= limits.segments && card.leaves <= limits.leaves && card.text <= limits.bytes
 }
 
-// The bytes that are written for the table of the counted entries, if some message reads to it. All tests but the last are one call, so
-// that few branches stand before the count of bytes: behind many the compiler would leave it a call of its own.
+// The bytes that are written for the table of the counted entries, if some message reads to it. All
+// tests but the last are one call, so that few branches stand before the count of bytes: behind
+// many the compiler would leave it a call of its own.
 fn counted_bytes(
     limits: Limits,
     levels: &[u8; 84],
@@ -130,7 +133,8 @@ fn sound_rows(levels: &[u8; 84], card: Card, segments: Segments, leaves: Leaves)
     in_order(card.context, segments, leaves)
 }
 
-// Whether the header's rows keep the header rule (H2, S4) and the leaf rows after them go on soundly.
+// Whether the header's rows keep the header rule (H2, S4) and the leaf rows after them go on
+// soundly.
 fn sound_leaves(field: u8, leaves: Leaves) -> bool
     requires { LaidOut leaves.rows.now leaves.text.now leaves.count }
     ensures { result ≡ sound_leaves field leaves.entry.rows.now leaves.entry.text.now leaves.entry.count }
@@ -142,8 +146,8 @@ fn sound_leaves(field: u8, leaves: Leaves) -> bool
     separators.sound() && leaves.go_on_from(separators)
 }
 
-// Whether field 7 of the first segment names the context (C1) and the kinds stand where it allows them (C2, C3). The first segment row counts
-// that segment's leaves.
+// Whether field 7 of the first segment names the context (C1) and the kinds stand where it allows
+// them (C2, C3). The first segment row counts that segment's leaves.
 fn in_order(context: u8, segments: Segments, leaves: Leaves) -> bool
     requires { KindsAndLeaves segments.rows.now segments.count leaves.rows.now leaves.text.now leaves.count }
     ensures { result ≡ in_order context segments.entry.rows.now segments.entry.count

@@ -7,7 +7,7 @@ use Prim.Native.Nat.{ℕ}
 use Rattle.order.specs.inner.Levels.{level_in}
 use Rattle.table.specs.Rows.{Table}
 use Rattle.write.specs.inner.Tests.{table_with, of_counts, SoundRows}
-use Rattle.write.proofs.TableTest.{laid_in_text, refused-size, passed-size}
+use Rattle.write.proofs.TableTest.{refused-size, passed-size}
 use Rattle.write.proofs.test.counted_bytes.Goals as goal
 use Rattle.write.proofs.test.counted_bytes.Goals.{Else-not-sound_rows, Start}
 
@@ -22,17 +22,8 @@ by_levels s = level_in s.args.levels.now
 sound_here : (c : Else-not-sound_rows) → SoundRows (by_levels (goal.at.Else-not-sound_rows c).Start) (table (goal.at.Else-not-sound_rows c).Start)
 sound_here c = c.sound_rows.ensures.0 (c.if-not-sound_rows.false)
 
-pub sound_rows-requires : goal.sound_rows-requires
-sound_rows-requires c = c.requires.rows
-
 pub returns-then-not-sound_rows : goal.returns-then-not-sound_rows
 returns-then-not-sound_rows c = refused-size c.requires (λ w. c.sound_rows.ensures.1 (c.if-not-sound_rows.true) w.rows)
-
-pub message_bytes-bytes-requires : goal.message_bytes-bytes-requires
-message_bytes-bytes-requires c =
-    let pre = c.requires in
-    let w = sound_here c in
-    record { lawful = pre.lawful; in_text = laid_in_text pre.rows.narrow w.laid; sized = pre.rows.narrow.sized.segment_rows; grouped = w.grouped }
 
 pub returns-then-bytes-limits : goal.returns-then-bytes-limits
 returns-then-bytes-limits c =

@@ -24,9 +24,6 @@ bounds-segments-3 c = omega (arith, (first-row (goal.at.bounds-segments-3 c).Sta
 pub context_of-requires : goal.context_of-requires
 context_of-requires c = record { in_text = c.requires.in_text; ends = (first-row (goal.at.context_of-requires c).Start).ends c.wide-end.ensures.0 }
 
-pub ordered-requires : goal.ordered-requires
-ordered-requires c = record { kinds = c.requires.kinds; followers_are = c.table.ensures }
-
 -- whether the context is the one that is named
 named_so : (c : After-eq)
     → c.eq.result ≡ (not (eqb c.args.context 0) && eqb (context_among (groups_in c.args.leaves.rows.now c.args.leaves.text.now c.args.leaves.count)) c.args.context)

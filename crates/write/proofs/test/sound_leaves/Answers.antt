@@ -19,9 +19,6 @@ returns-then-not-header_leaves c = no_header c.args.field c.args.leaves.rows.now
 pub separators_at-separators-requires : goal.separators_at-separators-requires
 separators_at-separators-requires c = header-four c.args.leaves.rows.now c.args.leaves.text.now c.requires (header_here c)
 
-pub go_on_from-requires : goal.go_on_from-requires
-go_on_from-requires c = record { laid = c.requires; header = header_here (goal.at.go_on_from-requires c).Else-not-header_leaves }
-
 pub returns-then-sound : goal.returns-then-sound
 returns-then-sound c =
     c.go_on_from.ensures

@@ -44,14 +44,8 @@ kinds_here c = narrow_kinds c.requires.narrow (grouped_here c)
 pub returns-then-leaves-lt3 : goal.returns-then-leaves-lt3
 returns-then-leaves-lt3 c = refuses (goal.at.returns-then-leaves-lt3 c).Start (λ w. omega (arith, w.three, c.if-leaves-lt3.true))
 
-pub laid-requires : goal.laid-requires
-laid-requires c = record { sized = c.requires.narrow.sized.leaf_rows; some = omega (arith, c.if-leaves-lt3.false) }
-
 pub returns-then-not-laid : goal.returns-then-not-laid
 returns-then-not-laid c = refuses (goal.at.returns-then-not-laid c).Start (λ w. c.laid.ensures.1 (c.if-not-laid.true) (sound-laid w))
-
-pub sound_leaves-requires : goal.sound_leaves-requires
-sound_leaves-requires c = record { in_text = text_here c; three = c.if-leaves-lt3.false; next = (laid_here c).next }
 
 pub returns-then-not-sound_leaves : goal.returns-then-not-sound_leaves
 returns-then-not-sound_leaves c = refuses (goal.at.returns-then-not-sound_leaves c).Start (λ w. never_both w.sound (answered_no c.sound_leaves.ensures c.if-not-sound_leaves.true))

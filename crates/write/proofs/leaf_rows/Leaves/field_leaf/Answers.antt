@@ -7,9 +7,6 @@ use Rattle.write.proofs.leaf_rows.Leaves.field_leaf.Goals as goal
 pub loop-i-init : goal.loop-i-init
 loop-i-init c = seeking_begins (omega arith)
 
-pub alone-requires : goal.alone-requires
-alone-requires c = record { long = omega arith; within = omega arith; there = c.if-self-i.true }
-
 pub returns-then-self-i : goal.returns-then-self-i
 returns-then-self-i c = seeking_found c.loop-i.invariant c.alone.ensures
 

@@ -17,14 +17,8 @@ use Rattle.write.proofs.leaf_rows.Leaves.go_on_from.Goals.{Start, After-wide-sta
 rows-there : (s : Start) → 3 * leaf_row_size ≤ length s.args.self.rows.now
 rows-there s = let laid = s.requires.laid in omega (arith, laid.in_text.sized, laid.three)
 
-pub bounds-self : goal.bounds-self
-bounds-self c = omega (arith, rows-there (goal.at.bounds-self c).Start)
-
 pub returns-then-self-ne3 : goal.returns-then-self-ne3
 returns-then-self-ne3 c = third_elsewhere (splitting c.args.separators) c.args.self.rows.now c.args.self.text.now c.args.self.count c.requires.laid.three c.if-self-ne3.true
-
-pub bounds-self-2 : goal.bounds-self-2
-bounds-self-2 c = omega (arith, rows-there (goal.at.bounds-self-2 c).Start)
 
 -- the third text begins within
 third_starts : (c : After-wide-start) → c.wide-start.result ≤ length c.args.self.text.now

@@ -6,12 +6,6 @@ use Prim.Native.Nat.{◌+◌, ◌-◌}
 use Rattle.write.proofs.Rising.{segment-whole, segment_decides}
 use Rattle.write.proofs.leaf_rows.Leaves.has_leaves.Goals as goal
 
-pub returns-then-leaves-eq0 : goal.returns-then-leaves-eq0
-returns-then-leaves-eq0 c = (λ e. absurd (false≢true e), λ e w. omega (arith, w.from, c.if-leaves-eq0.true))
-
-pub returns-then-self-first : goal.returns-then-self-first
-returns-then-self-first c = (λ e. absurd (false≢true e), λ e w. omega (arith, w.to, c.if-self-first.true))
-
 pub returns-then-self-end : goal.returns-then-self-end
 returns-then-self-end c = (λ e. absurd (false≢true e), λ e w. c.if-self-end.true (w.within (c.args.first + c.args.leaves - 1) (omega (arith, c.if-leaves-eq0.false)) (omega (arith, c.if-leaves-eq0.false))))
 

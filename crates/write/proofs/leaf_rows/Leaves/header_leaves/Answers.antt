@@ -18,9 +18,6 @@ use Rattle.write.proofs.leaf_rows.Leaves.header_leaves.Goals.{Start}
 rows-there : (s : Start) → 3 * leaf_row_size ≤ length s.args.self.rows.now
 rows-there s = omega (arith, s.requires.in_text.sized, s.requires.three)
 
-pub bounds-self-0 : goal.bounds-self-0
-bounds-self-0 c = omega (arith, rows-there (goal.at.bounds-self-0 c).Start)
-
 pub returns-then-self-ne1 : goal.returns-then-self-ne1
 returns-then-self-ne1 c = not_segment_one c.args.self.rows.now c.args.self.text.now c.requires c.if-self-ne1.true
 
@@ -28,21 +25,12 @@ returns-then-self-ne1 c = not_segment_one c.args.self.rows.now c.args.self.text.
 finer_ones : (s : Start) → all_ones (take 4 (drop 1 s.args.self.rows.now)) ≡ same (1 ∷ 1 ∷ 1 ∷ 1 ∷ []) (finer s.args.self.rows.now 0 1)
 finer_ones s = first_ones s.args.self.rows.now (omega (arith, rows-there s))
 
-pub slice_bounds-all_one-end : goal.slice_bounds-all_one-end
-slice_bounds-all_one-end c = omega (arith, rows-there (goal.at.slice_bounds-all_one-end c).Start)
-
 pub returns-then-not-all_one : goal.returns-then-not-all_one
 returns-then-not-all_one c =
     not_first c.args.self.rows.now c.args.self.text.now c.requires (sym (c.all_one.ensures ∙ finer_ones (goal.at.returns-then-not-all_one c).Start) ∙ c.if-not-all_one.true)
 
-pub bounds-self-6 : goal.bounds-self-6
-bounds-self-6 c = omega (arith, rows-there (goal.at.bounds-self-6 c).Start)
-
 pub returns-then-self-ne1-2 : goal.returns-then-self-ne1-2
 returns-then-self-ne1-2 c = not_one_byte c.args.self.rows.now c.args.self.text.now c.requires c.if-self-ne1-2.true
-
-pub bounds-self-5 : goal.bounds-self-5
-bounds-self-5 c = omega (arith, rows-there (goal.at.bounds-self-5 c).Start)
 
 pub bounds-self-wide : goal.bounds-self-wide
 bounds-self-wide c =
@@ -52,14 +40,8 @@ bounds-self-wide c =
 pub returns-then-self-wide-ne72 : goal.returns-then-self-wide-ne72
 returns-then-self-wide-ne72 c = not_letter c.args.self.rows.now c.args.self.text.now c.requires c.if-self-ne1-2.false c.wide.ensures.0 c.if-self-wide-ne72.true
 
-pub bounds-self : goal.bounds-self
-bounds-self c = omega (arith, rows-there (goal.at.bounds-self c).Start)
-
 pub returns-then-self-ne2 : goal.returns-then-self-ne2
 returns-then-self-ne2 c = not_field_two c.args.self.rows.now c.args.self.text.now c.requires c.if-self-ne1-2.false c.wide.ensures.0 c.if-self-ne2.true
-
-pub bounds-self-2 : goal.bounds-self-2
-bounds-self-2 c = omega (arith, rows-there (goal.at.bounds-self-2 c).Start)
 
 pub returns : goal.returns
 returns c =

@@ -11,11 +11,6 @@ use Rattle.write.proofs.LaidRows.{in_text_fits}
 use Rattle.write.proofs.Groups.{field_missing, field_found}
 use Rattle.write.proofs.leaf_rows.Leaves.kind_of.Goals as goal
 
-pub alone-requires : goal.alone-requires
-alone-requires c =
-    let leaves = c.requires.leaves in
-    record { long = omega (arith, leaves.in_text.sized, leaves.to); within = leaves.from; there = c.requires.head }
-
 pub returns-in_err-leaf : goal.returns-in_err-leaf
 unfolding kind_among
 returns-in_err-leaf c =

@@ -15,11 +15,6 @@ loop-i-init c = laying_begins c.args.self.rows.now c.args.finish c.args.self.cou
 pub returns-then-wide-start : goal.returns-then-wide-start
 returns-then-wide-start c = (λ e. absurd (false≢true e), λ e. laying_elsewhere c.loop-i.invariant (omega arith) (λ q. c.if-wide-start.true (c.wide.ensures.0 ∙ q)))
 
-pub next_place-requires : goal.next_place-requires
-next_place-requires c =
-    let sized = c.requires.sized in
-    record { former = omega (arith, sized, c.loop-i.invariant.some); latter = omega (arith, sized) }
-
 pub returns-then-not-next_place : goal.returns-then-not-next_place
 returns-then-not-next_place c = (λ e. absurd (false≢true e), λ e. laying_misplaced c.loop-i.invariant (omega arith) (sym c.next_place.ensures ∙ c.if-not-next_place.true))
 

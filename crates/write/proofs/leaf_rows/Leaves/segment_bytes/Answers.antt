@@ -25,18 +25,6 @@ few_here : (c : After-lines) → c.lines.result ≤ c.text_bytes.result + (c.arg
 few_here c =
     omega (arith, lines_are c, few-lines c.args.limits c.requires.lawful (c.text_bytes.result + (c.args.end - c.args.first - 1)))
 
-pub text_bytes-requires : goal.text_bytes-requires
-text_bytes-requires c = c.requires.leaves
-
-pub overflow_sub-bytes : goal.overflow_sub-bytes
-overflow_sub-bytes c = omega (arith, c.requires.leaves.from)
-
-pub overflow_sub-bytes-2 : goal.overflow_sub-bytes-2
-overflow_sub-bytes-2 c = omega (arith, c.requires.leaves.from)
-
-pub overflow_add-bytes : goal.overflow_add-bytes
-overflow_add-bytes c = let in_text = c.requires.leaves.in_text in omega (arith, few_bytes c, in_text.few, in_text.short)
-
 pub overflow_mul-result : goal.overflow_mul-result
 overflow_mul-result c =
     let in_text = c.requires.leaves.in_text in

@@ -7,7 +7,7 @@ use Rattle.line.specs.Lines.{CR}
 use Rattle.write.specs.inner.Filling.{Stand, stand, puts, Fits}
 use Rattle.write.specs.inner.Passing.{leading}
 use Rattle.write.proofs.Filling.{close_fits, closed-one}
-use Rattle.write.proofs.RowPlaces.{other-segment, inside-clear, next-inside}
+use Rattle.write.proofs.RowPlaces.{other-segment, inside-clear}
 use Rattle.write.proofs.lines.Lines.put_separator.Goals as goal
 use Rattle.write.proofs.lines.Lines.put_separator.Goals.{Start, Then-leaves-at}
 
@@ -23,9 +23,6 @@ close-requires c = close_fits c.args.self.limits c.args.self.separators.field (h
 
 pub returns-then-leaves-at : goal.returns-then-leaves-at
 returns-then-leaves-at c = closed-one c.args.self.limits c.args.self.separators.field (here (goal.at.returns-then-leaves-at c).Start) (leading c.args.self.separators c.args.leaves.now c.args.row) (ends (goal.at.returns-then-leaves-at c).Then-leaves-at) c.close.ensures
-
-pub separator-byte-requires : goal.separator-byte-requires
-separator-byte-requires c = next-inside c.args.self.separators c.requires.row_there c.if-leaves-at.false
 
 pub put_inside-requires : goal.put_inside-requires
 put_inside-requires c =

@@ -24,26 +24,10 @@ named c = is_known (sym c.in-Some.is ∙ c.kind_of.ensures)
 pub loop-i-init : goal.loop-i-init
 loop-i-init c = (grouping_begins, record { head = λ l. c.requires.head })
 
-pub has_leaves-requires : goal.has_leaves-requires
-has_leaves-requires c =
-    let pre = c.requires in
-    record { sized = pre.in_text.sized; to = c.loop-i.invariant.0.to; next = pre.next }
-
 pub returns-then-not-has_leaves : goal.returns-then-not-has_leaves
 returns-then-not-has_leaves c =
     grouping_otherwise c.loop-i.invariant.0 (omega arith) c.wide-size.ensures.0
     (c.has_leaves.ensures.1 (c.if-not-has_leaves.true))
-
-pub overflow_add-end : goal.overflow_add-end
-overflow_add-end c = omega (arith, (ended c).to, c.requires.in_text.few)
-
-pub kind_of-requires : goal.kind_of-requires
-kind_of-requires c =
-    let v = ended c in
-    record {
-      leaves = record { in_text = c.requires.in_text; from = v.from; to = v.to };
-      head = c.loop-i.invariant.1.head (omega (arith, v.from, v.to));
-    }
 
 pub returns-in_default : goal.returns-in_default
 returns-in_default c =
@@ -51,12 +35,6 @@ returns-in_default c =
     unknown (sym c.in_default.is ∙ c.kind_of.ensures) in
     stated_wrong c.loop-i.invariant.0 (omega arith) c.wide-size.result (ended (goal.at.returns-in_default c).Else-not-has_leaves) refl refl
     (sym (states_unknown c.args.self.rows.now c.loop-i.i _ (c.loop-i.first + 1) c.wide-size.result none))
-
-pub overflow_add-first : goal.overflow_add-first
-overflow_add-first c = omega (arith, c.loop-i.invariant.0.to, c.requires.in_text.few)
-
-pub row_states-requires : goal.row_states-requires
-row_states-requires c = record { row = omega (arith, c.requires.sized); some = (named c).some }
 
 pub returns-then-not-row_states : goal.returns-then-not-row_states
 returns-then-not-row_states c =

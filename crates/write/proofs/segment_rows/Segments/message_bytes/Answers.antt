@@ -15,9 +15,6 @@ ended c =
 pub loop-i-init : goal.loop-i-init
 loop-i-init c = (grouping_begins, counting-begins)
 
-pub overflow_add-end : goal.overflow_add-end
-overflow_add-end c = omega (arith, (ended c).ends.to, c.requires.in_text.few)
-
 pub segment_bytes-total-requires : goal.segment_bytes-total-requires
 segment_bytes-total-requires c =
     let pre = c.requires in

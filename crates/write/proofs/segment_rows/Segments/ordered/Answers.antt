@@ -10,9 +10,6 @@ use Rattle.write.proofs.segment_rows.Segments.ordered.Goals as goal
 pub loop-i-init : goal.loop-i-init
 loop-i-init c = ordering_begins c.begin-watcher.ensures
 
-pub overflow_cast-kind : goal.overflow_cast-kind
-overflow_cast-kind c = omega (arith, c.requires.kinds.kinds c.loop-i.i (omega arith))
-
 pub returns-then-not-told : goal.returns-then-not-told
 returns-then-not-told c =
     ordered-fails c.loop-i.invariant (omega arith) refl

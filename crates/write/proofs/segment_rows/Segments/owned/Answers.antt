@@ -9,9 +9,6 @@ use Rattle.write.proofs.segment_rows.Segments.owned.Goals as goal
 pub loop-i-init : goal.loop-i-init
 loop-i-init c = owning_begins (level_in c.args.table.now c.args.context) c.args.self.rows.now c.args.self.count c.no_rows-nearest.ensures
 
-pub overflow_cast-kind : goal.overflow_cast-kind
-overflow_cast-kind c = omega (arith, c.requires.kinds.kinds c.loop-i.i (omega arith))
-
 pub returns-then-owner_of-self : goal.returns-then-owner_of-self
 returns-then-owner_of-self c = owning_fails c.loop-i.invariant (c.requires.low c.args.context) (omega arith) refl refl c.level_of-level.ensures c.owner_of.ensures c.if-owner_of-self.true
 
