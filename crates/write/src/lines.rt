@@ -116,7 +116,7 @@ impl Lines {
     {
         let mut going = going;
         let mut left = text;
-        // kept (plainer): a turn takes what the line has room for, and the turn before decides that.
+        // kept (plainer): a turn takes what the line has room for, which the turn before decides.
         while going.room < left.len() {
             let (part, others) = left.split_at(going.room);
             let full = fill(going, part, output);
