@@ -1,14 +1,14 @@
 -- What a class says of a byte of a leaf's text: one of class 0 may stand there, one of another class may not.
 -- Assumes nothing.
-use mathlib.Core.Bool.{true, false, not}
-use mathlib.Core.List.{List}
+use mathlib.Core.Bool.{Bool, true, false, not, ◌&&◌}
+use mathlib.Core.List.{List, [], ◌∷◌}
 use mathlib.Core.Logic.{◌⊎◌, inl, inr}
-use mathlib.Core.Path.{◌≡◌, ap, sym, ◌∙◌}
-use Prim.Native.Nat.{ℕ, ◌≤◌, ◌<◌}
+use mathlib.Core.Path.{◌≡◌, refl, ap, ap₂, sym, ◌∙◌}
+use Prim.Native.Nat.{ℕ, suc, ◌≤◌, ◌<◌}
 use native.Mathlib.Omega.{arith}
-use lib.Dec.{leb}
+use lib.Dec.{leb, eqb}
 use lib.ListN.{get_or}
-use borrow.Author.Tests.{le-leb, lt-leb}
+use borrow.Author.Tests.{eqb-true, eqb-false, le-leb, lt-leb}
 use Rattle.laws.specs.Lists.{among}
 use Rattle.laws.proofs.Cases.{less_or_not}
 use Rattle.laws.proofs.Tests.{Tested, passed, failed, tested, and_both, and_fails_first, and_fails_second}
@@ -16,6 +16,8 @@ use Rattle.form.specs.declared.separators.Separators.{Separators}
 use Rattle.form.specs.Header.{splitting}
 use Rattle.table.specs.inner.Classes.{class_of, class_table}
 use Rattle.table.proofs.Classes.{class_at, class_low, class_high, sort_none, sort_some}
+use Rattle.std.specs.List.{list_all}
+use Rattle.table.specs.inner.RowTests.{leaf_text}
 use Rattle.write.specs.inner.Tests.{leaf_byte}
 
 -- as the table has it at a byte's index
@@ -43,3 +45,19 @@ module _ (ps : Separators) {table : List ℕ} (e : table ≡ class_table ps) {b 
       go (inl h) t = let z : ⊥ = omega (arith, none, class_low ps b h) in absurd z
       go (inr h) (passed m) = let z : ⊥ = omega (arith, none, class_high ps b h, sort_some ps b m) in absurd z
       go (inr h) (failed m) = and_both (le-leb 32 b h) (ap not m)
+
+  -- so the class decides
+  class_decides : eqb (get_or table i 0) 0 ≡ leaf_byte (splitting ps) b
+  class_decides = go (tested (eqb (get_or table i 0) 0))
+    where
+      go : Tested (eqb (get_or table i 0) 0) → eqb (get_or table i 0) 0 ≡ leaf_byte (splitting ps) b
+      go (passed q) = q ∙ sym (text_goes_on (eqb-true (get_or table i 0) 0 q))
+      go (failed q) = q ∙ sym (text-ends (eqb-false (get_or table i 0) 0 q))
+
+-- a text of which each byte is of class 0
+pub text_by_classes : (ps : Separators) {table : List ℕ} → table ≡ class_table ps → (s : List ℕ) → ((i : ℕ) → get_or s i 0 < 256)
+    → list_all (λ (b : ℕ). eqb (get_or table b 0) 0) s ≡ leaf_text (splitting ps) s
+unfolding leaf_text leaf_byte
+text_by_classes ps e [] bytes = refl
+text_by_classes ps {table} e (b ∷ s) bytes =
+    ap₂ (λ (x y : Bool). x && y) (class_decides ps e refl (bytes 0)) (text_by_classes ps e s (λ i. bytes (suc i)))

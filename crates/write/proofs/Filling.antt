@@ -3,11 +3,11 @@
 use mathlib.Core.Bool.{true, false}
 use mathlib.Core.List.{List, [], ◌∷◌, ◌++◌}
 use mathlib.Core.Path.{◌≡◌, refl, sym, ap, ap₂, ◌∙◌, subst}
-use Prim.Native.Nat.{ℕ, zero, suc, ◌+◌, ◌-◌, ◌≤◌}
+use Prim.Native.Nat.{ℕ, zero, suc, ◌≤◌}
 use native.Mathlib.Omega.{arith}
 use lib.Dec.{eqb}
 use lib.ListN.{length, length-set}
-use lib.Seq.{sets, length-sets}
+use lib.Seq.{length-sets}
 use borrow.Author.Tests.{eqb-false, eq-eqb, ne_eqb}
 use Rattle.laws.specs.Every.{none, also}
 use Rattle.laws.proofs.Stores.{sets_first}
@@ -18,7 +18,7 @@ use Rattle.line.specs.Joining.{letter_a}
 use Rattle.write.specs.declared.lines.Going.{Going}
 use Rattle.form.proofs.RoundedUp.{some_more}
 use Rattle.write.specs.inner.Asked.{Opens, RoomForByte, RoomForEnd, ByteInside}
-use Rattle.write.specs.inner.Filling.{Stand, stand, placed, segment_closed, broken, line_opened, put_byte, puts, Fits, InSegment}
+use Rattle.write.specs.inner.Filling.{Stand, stand, placed, filled, segment_closed, broken, line_opened, put_byte, puts, Fits, InSegment}
 
 -- how far an output is written, from its three numbers
 abbrev pub going : ℕ → ℕ → ℕ → Going
@@ -157,8 +157,8 @@ module _ (L : Limits) (f : ℕ) where
   -- bytes that a line has room for go into it
   pub puts-room : (t : Stand) {x : List ℕ} → InSegment x → length x ≤ t.going.room
       → puts L f t x
-      ≡ stand (sets t.output t.going.out x) (going (t.going.out + length x) (t.going.room - length x) t.going.lines)
-  unfolding puts placed
+      ≡ filled t x
+  unfolding puts placed filled
   puts-room t none h =
       puts_none t ∙ stand_self t ∙ ap (stand t.output) (same-going (omega arith) (omega arith) refl)
   puts-room t (also {a} {s} w ws) h =

@@ -1,15 +1,16 @@
 -- Segment rows against the leaves of their segments, one segment after the other.
 -- Assumes nothing.
-use mathlib.Core.Bool.{Bool, true, false, ◌&&◌, cond}
+use mathlib.Core.Bool.{Bool, true, false, ◌&&◌}
 use mathlib.Core.List.{List, [], ◌∷◌, ◌++◌}
 use mathlib.Core.Logic.{◌⊎◌, inl, inr}
 use mathlib.Core.Path.{◌≡◌, refl, sym, ap, ap₂, ◌∙◌, subst}
+use Rattle.std.specs.Prelude.{Option, Some, None}
 use Prim.Native.Nat.{ℕ, zero, suc, ◌+◌, ◌-◌, ◌≤◌, ◌<◌}
 use native.Mathlib.Omega.{arith}
 use native.Mathlib.Numerals.{add-one}
 use lib.Dec.{eqb}
 use lib.ListN.{length, get_or}
-use borrow.Author.Tests.{eqb-true, eq-eqb, ne_eqb, lt-ltb, le-ltb}
+use borrow.Author.Tests.{eqb-true, eq-eqb, ne_eqb}
 use Rattle.laws.specs.Every.{All}
 use Rattle.laws.specs.Tables.{values}
 use Rattle.laws.proofs.Cases.{less_or_not}
@@ -25,7 +26,7 @@ use Rattle.table.specs.inner.Back.{leaf_at}
 use Rattle.table.specs.inner.BySegment.{segment_of, with_leaf, by_segment, kind_among, number_of_field, context_among}
 use Rattle.table.proofs.BySegment.{InSegment, Ended, group_first}
 use Rattle.write.specs.inner.Asked.{KindsAndLeaves}
-use Rattle.write.specs.inner.Tests.{groups_in, leaves_between, SegmentEnd, FieldLeaf, row_states, groups_stated}
+use Rattle.write.specs.inner.Tests.{groups_in, leaves_between, SegmentEnd, FieldLeaf, number_at, row_states, groups_stated}
 use Rattle.write.proofs.Said.{answered_no, answered_yes}
 use Rattle.write.proofs.SegmentTests.{row-segment, leaves_cons, leaves_none, SomeEnd, segment-ends, states_all, states_another}
 
@@ -74,14 +75,14 @@ module _ (rows text : List ℕ) {count first end : ℕ} (w : SegmentEnd rows cou
   segment-count = length-values (leaf_at rows text) first (end - first)
 
 -- the number of a field where its leaf was found, and where not
-module _ {rows : List ℕ} {field first end at : ℕ} (w : FieldLeaf rows field first end at) (names : List (List ℕ)) (text : List ℕ) where
-  pub field_missing : at ≡ end → 0 ≡ number_of_field names field (leaves_between rows text first end)
-  field_missing e =
-      sym (w.number names text ∙ ap (λ (b : Bool). cond b (number_among names (leaf_at rows text at).text) 0) (le-ltb at end (omega arith)))
+module _ {rows : List ℕ} {field first end : ℕ} {found : Option ℕ} (w : FieldLeaf rows field first end found) (names : List (List ℕ)) (text : List ℕ) where
+  pub field_missing : found ≡ None → number_of_field names field (leaves_between rows text first end) ≡ 0
+  unfolding number_at
+  field_missing e = w.number names text ∙ ap (number_at names rows text) e
 
-  pub field_found : (at ≡ end → ⊥) → number_among names (leaf_at rows text at).text ≡ number_of_field names field (leaves_between rows text first end)
-  field_found n =
-      sym (w.number names text ∙ ap (λ (b : Bool). cond b (number_among names (leaf_at rows text at).text) 0) (lt-ltb at end (omega (arith, w.to, n))))
+  pub field_found : {at : ℕ} → found ≡ Some at → number_of_field names field (leaves_between rows text first end) ≡ number_among names (leaf_at rows text at).text
+  unfolding number_at
+  field_found e = w.number names text ∙ ap (number_at names rows text) e
 
 -- the context: field 7 of the first segment
 pub context-first : (rows text : List ℕ) {count end : ℕ} → SegmentEnd rows count 0 end

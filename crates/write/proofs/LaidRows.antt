@@ -15,7 +15,6 @@ use Rattle.laws.proofs.Tests.{never_both}
 use Rattle.table.specs.Rows.{leaf_row_size, text_of, start_in, length_in, place_in, width}
 use Rattle.table.specs.inner.Back.{leaf_at}
 use Rattle.table.specs.inner.RowTests.{next_place}
-use Rattle.write.specs.inner.Asked.{TextStated}
 use Rattle.write.specs.inner.Tests.{Decides, InText, Laid, leaves_between}
 use Rattle.write.proofs.LeafTests.{Ending, ending_begins, ending_fails, ending_on, ending_done}
 use Rattle.write.proofs.SegmentTests.{row-length}
@@ -24,9 +23,6 @@ use Rattle.table.proofs.EndToEnd.{ended-within, ended-next, ended-first}
 -- each row of a text that is all its leaves' states a part of it
 pub in_text_fits : {rows text : List ℕ} {count : ℕ} → InText rows text count → (k : ℕ) → k < count → start_in rows k + length_in rows k ≤ length text
 in_text_fits {rows} {text} {count} w = ended-within rows (length text) count w.ended
-
-pub stated-within : {rows text : List ℕ} {count k start end : ℕ} → InText rows text count → k < count → TextStated rows k start end → end ≤ length text
-stated-within {k = k} w l v = omega (arith, in_text_fits w k l, v.starts, v.ends)
 
 -- the bytes of texts that lie end to end: from the first one's start up to the last one's end
 module _ (rows text : List ℕ) (count : ℕ) (w : InText rows text count) where

@@ -23,8 +23,8 @@ use Rattle.table.specs.Leaves.{Leaf}
 use Rattle.table.specs.inner.Back.{leaf_at, between, unsplit_from, unsplit}
 use Rattle.write.specs.declared.lines.Going.{Going}
 use Rattle.write.specs.inner.Filling.{Stand, stand, segment_closed, puts, Fits, InSegment}
-use Rattle.write.specs.inner.Asked.{PartInside, RoomForEnd, SeparatorFits}
-use Rattle.write.proofs.SegmentTests.{stated-text}
+use Rattle.write.specs.inner.Asked.{TextInside, RoomForEnd, SeparatorFits}
+use Rattle.write.proofs.SegmentTests.{row-text}
 use Rattle.write.specs.inner.Passing.{LeafWithin, lines_of_rows, leading, Writable, WrittenOut}
 use Rattle.write.proofs.Filling.{going, puts-append, puts-kept, fits-first, fits_next, close_fits, closed-one}
 use Rattle.write.proofs.LinesFilled.{lines-filled}
@@ -52,15 +52,13 @@ module _ (ps : Separators) (rows : List ℕ) (count row : ℕ) where
 -- the text of a leaf, by the start and the length that its row states
 module _ (rows text : List ℕ) (i : ℕ) {start size : ℕ} (a : start ≡ start_in rows i) (b : size ≡ length_in rows i) where
   leaf_part : take (start + size - start) (drop start text) ≡ (leaf_at rows text i).text
-  leaf_part = stated-text rows text i (record { starts = a; ends = ap (λ (n : ℕ). start + n) b })
+  leaf_part = row-text rows text i a b
 
   leaf-asked : {L : Limits} {f : ℕ} {s : Stand} → Lawful L → LeafWithin rows text i → Fits L f s (leaf_at rows text i).text
-      → PartInside L f s text start (start + size)
+      → TextInside L f s (take (start + size - start) (drop start text))
   leaf-asked {L} {f} {s} lawful w fits =
       record {
         lawful = lawful;
-        up_to = omega arith;
-        within = omega (arith, w.within);
         inside = subst InSegment (sym leaf_part) w.in_segment;
         fits = subst (Fits L f s) (sym leaf_part) fits;
       }
@@ -152,7 +150,7 @@ module _ {L : Limits} {ps : Separators} {rows : List ℕ} {count : ℕ} {text ou
   unfolding own
   part_is = leaf_part rows text row (w.here less) is
 
-  pub leaf-fits : PartInside L f s text from (from + size)
+  pub leaf-fits : TextInside L f s (take (from + size - from) (drop from text))
   unfolding own
   leaf-fits = leaf-asked rows text row (w.here less) is a.lawful (a.leaves row less) (fits-first L f s own (behind) split-fits)
 

@@ -16,7 +16,7 @@ use Rattle.table.specs.Lent.{Lent, within_limits, within_buffers, counted}
 use Rattle.table.proofs.Lent.{few-segments, few-leaves, few_bytes}
 use Rattle.table.proofs.Width.{form_fits}
 use Rattle.write.specs.inner.ReadsBack.{reads_back, is_table}
-use Rattle.write.specs.Answer.{written_size}
+use Rattle.write.specs.inner.Tests.{lent_size}
 use Rattle.write.specs.declared.size.Owners.{Owners}
 use Rattle.write.specs.declared.size.Owners.TheVariants.{InForce, Former}
 use Rattle.write.specs.inner.EitherOwners.{levels_by, level_table_by}
@@ -76,5 +76,5 @@ module _ (f : Form) {L : Limits} (e : L ≡ limits_of f) (o : Owners) {table : L
   pub form_asked : Testable L (level_in table)
   form_asked = record { fits = subst⁻¹ FitsRows e (form_fits f); low = owners-below o made }
 
-  pub form_size : (l : Lent) → written_size L (level_in table) l ≡ written_size (limits_of f) (levels_by o) l
-  form_size l = ap₂ (λ (M : Limits) (lv : ℕ → ℕ → ℕ). written_size M lv l) e (owners_are o made)
+  pub form_size : (l : Lent) → lent_size L (level_in table) l ≡ lent_size (limits_of f) (levels_by o) l
+  form_size l = ap₂ (λ (M : Limits) (lv : ℕ → ℕ → ℕ). lent_size M lv l) e (owners_are o made)

@@ -18,6 +18,7 @@ pub mod ClassTables
 pub mod LeafTests
 pub mod PlaceTests
 pub mod SegmentTests
+pub mod Known
 pub mod LaidRows
 pub mod HeaderTest
 pub mod Rising

@@ -5,7 +5,6 @@ use mathlib.Core.List.{List}
 use mathlib.Core.Path.{◌≡◌, sym, ap, ◌∙◌}
 use Prim.Native.Nat.{ℕ}
 use lib.Dec.{eqb}
-use borrow.Author.Tests.{eq-eqb, ne_eqb}
 use Rattle.laws.proofs.Tests.{and_passed, and_both, and_fails_first, and_fails_second}
 use Rattle.form.specs.declared.separators.Separators.{Separators}
 use Rattle.form.specs.Header.{all_allowed, different, five, splitting}
@@ -44,14 +43,12 @@ module _ (context : ℕ) (segments : List ℕ) (many : ℕ) (rows text : List �
   abbrev ordered : Bool
   ordered = eqb (misplaced context (kind_column segments many)) 0
 
-  pub no_context : context ≡ 0 → false ≡ in_order context segments many rows text count
-  unfolding in_order
-  no_context e = sym (and_fails_first ordered (and_fails_first (eqb named context) (ap not (eq-eqb context 0 e))))
+  -- as the code tests it
+  module _ {r : Bool} (said : r ≡ (not (eqb context 0) && eqb named context)) where
+    pub other-context : r ≡ false → r ≡ in_order context segments many rows text count
+    unfolding in_order
+    other-context e = e ∙ sym (and_fails_first ordered (sym said ∙ e))
 
-  pub other-context : (named ≡ context → ⊥) → false ≡ in_order context segments many rows text count
-  unfolding in_order
-  other-context n = sym (and_fails_first ordered (and_fails_second (not (eqb context 0)) (ne_eqb named context n)))
-
-  pub order_decides : (context ≡ 0 → ⊥) → named ≡ context → ordered ≡ in_order context segments many rows text count
-  unfolding in_order
-  order_decides n e = sym (and_passed ordered (and_both (ap not (ne_eqb context 0 n)) (eq-eqb named context e)))
+    pub order_decides : r ≡ true → ordered ≡ in_order context segments many rows text count
+    unfolding in_order
+    order_decides e = sym (and_passed ordered (sym said ∙ e))

@@ -1,27 +1,27 @@
 -- The tests of segments as loops make them over leaf rows: where a segment ends, where one of its fields stands, what its texts count.
 -- Assumes nothing.
-use mathlib.Core.Bool.{Bool, true, false, not, ◌&&◌, cond}
+use mathlib.Core.Bool.{Bool, true, false, not, ◌&&◌, and_assoc}
 use mathlib.Core.List.{List, [], ◌∷◌}
 use mathlib.Core.Logic.{◌⊎◌, inl, inr}
 use mathlib.Core.Path.{◌≡◌, refl, sym, ap, ap₂, ◌∙◌}
+use Rattle.std.specs.Prelude.{Option, Some, None}
 use Prim.Native.Nat.{ℕ, zero, suc, ◌+◌, ◌-◌, ◌*◌, ◌≤◌, ◌<◌}
 use native.Mathlib.Omega.{arith}
 use native.Mathlib.Numerals.{add-one}
 use lib.Dec.{eqb}
 use lib.ListN.{length, take, drop, get_or, length-drop}
 use lib.Seq.{get_or-drop, length-take-le, get_or-take}
-use borrow.Author.Tests.{eqb-true, eqb-false, eq-eqb, ne_eqb, lt-ltb, le-ltb, not-true}
+use borrow.Author.Tests.{eqb-true, eqb-false, eq-eqb, ne_eqb, not-true}
 use Rattle.laws.specs.Tables.{values}
 use Rattle.laws.proofs.Cases.{less_or_not, equal_or_not}
 use Rattle.laws.proofs.Tests.{and_first, and_second, and_passed, and_both, and_fails_first, and_fails_second}
-use Rattle.form.specs.Names.{number_among}
 use Rattle.table.specs.Rows.{leaf_row_size, kind_in, first_in, count_in, start_in, length_in}
 use Rattle.table.specs.inner.Columns.{segment_in, field_in}
 use Rattle.table.specs.inner.Back.{leaf_at}
 use Rattle.table.specs.inner.BySegment.{segment_of, field_of, goes_on, number_of_field}
 use Rattle.table.proofs.FieldNames.{number-one, number_more, number-later}
-use Rattle.write.specs.inner.Asked.{FieldThere, TextStated}
-use Rattle.write.specs.inner.Tests.{leaves_between, SegmentEnd, FieldLeaf, row_states}
+use Rattle.write.specs.inner.Asked.{FieldThere}
+use Rattle.write.specs.inner.Tests.{leaves_between, SegmentEnd, FieldLeaf, number_at, row_states}
 
 -- what a row states: its segment, its field, its text
 module _ (rows text : List ℕ) (i : ℕ) where
@@ -44,10 +44,10 @@ module _ (rows text : List ℕ) (i : ℕ) where
       (omega (arith, length-drop (start_in rows i) text))
 
   -- its text, by where it lies
-  pub stated-text : {start end : ℕ} → TextStated rows i start end → take (end - start) (drop start text) ≡ (leaf_at rows text i).text
+  pub row-text : {start size : ℕ} → start ≡ start_in rows i → size ≡ length_in rows i → take (start + size - start) (drop start text) ≡ (leaf_at rows text i).text
   unfolding leaf_at
-  stated-text {start} {end} w =
-      ap₂ (λ (n k : ℕ). take n (drop k text)) (let e : end - start ≡ length_in rows i = omega (arith, w.ends) in e) w.starts
+  row-text {start} {size} starts sized =
+      ap₂ (λ (n k : ℕ). take n (drop k text)) (let e : start + size - start ≡ length_in rows i = omega (arith, sized) in e) starts
 
 -- the leaves from one on, one by one
 pub leaves_cons : (rows text : List ℕ) (i end : ℕ) → i < end → leaves_between rows text i end ≡ leaf_at rows text i ∷ leaves_between rows text (i + 1) end
@@ -114,19 +114,18 @@ module _ {rows : List ℕ} {field at end : ℕ} (w : FieldThere rows field at en
   e : field_in rows at ≡ field
   e = w.there
 
-  field_one : ((text : List ℕ) → goes_on field (leaves_between rows text (at + 1) end) ≡ false) → FieldLeaf rows field at end at
+  field_one : ((text : List ℕ) → goes_on field (leaves_between rows text (at + 1) end) ≡ false) → FieldLeaf rows field at end (Some at)
+  unfolding number_at
   field_one g =
       record {
-        from = omega arith;
-        to = omega arith;
+        within = λ k q. let same : at ≡ k = cc in (omega arith, omega arith);
         number =
             λ names text.
             ap (number_of_field names field) (leaves_cons rows text at end h)
-            ∙ number-one names field (leaf_at rows text at) (leaves_between rows text (at + 1) end) (row_field rows text at ∙ e) (g text)
-            ∙ ap (λ (b : Bool). cond b (number_among names (leaf_at rows text at).text) 0) (sym (lt-ltb at end h));
+            ∙ number-one names field (leaf_at rows text at) (leaves_between rows text (at + 1) end) (row_field rows text at ∙ e) (g text);
       }
 
-  pub field_last : at + 1 ≡ end → FieldLeaf rows field at end at
+  pub field_last : end ≤ at + 1 → FieldLeaf rows field at end (Some at)
   unfolding goes_on
   field_last l = field_one (λ text. ap (goes_on field) (leaves_none rows text (at + 1) end (omega arith)))
 
@@ -135,20 +134,19 @@ module _ {rows : List ℕ} {field at end : ℕ} (w : FieldThere rows field at en
   next_field text l =
       ap (goes_on field) (leaves_cons rows text (at + 1) end l) ∙ ap (λ (n : ℕ). eqb n field) (row_field rows text (at + 1))
 
-  pub field_alone : at + 1 < end → (field_in rows (at + 1) ≡ field → ⊥) → FieldLeaf rows field at end at
+  pub field_alone : at + 1 < end → (field_in rows (at + 1) ≡ field → ⊥) → FieldLeaf rows field at end (Some at)
   field_alone l n = field_one (λ text. next_field text l ∙ ne_eqb (field_in rows (at + 1)) field n)
 
-  pub field_twice : at + 1 < end → field_in rows (at + 1) ≡ field → FieldLeaf rows field at end end
+  pub field_twice : at + 1 < end → field_in rows (at + 1) ≡ field → FieldLeaf rows field at end None
+  unfolding number_at
   field_twice l f =
       record {
-        from = omega arith;
-        to = omega arith;
+        within = λ k q. cc;
         number =
             λ names text.
             ap (number_of_field names field) (leaves_cons rows text at end h)
             ∙ number_more names field (leaf_at rows text at) (leaves_between rows text (at + 1) end) (row_field rows text at ∙ e)
-            (next_field text l ∙ eq-eqb (field_in rows (at + 1)) field f)
-            ∙ ap (λ (b : Bool). cond b (number_among names (leaf_at rows text end).text) 0) (sym (le-ltb end end (omega arith)));
+            (next_field text l ∙ eq-eqb (field_in rows (at + 1)) field f);
       }
 
 pub record Seeking (rows : List ℕ) (field first end i : ℕ) : Type 0 where
@@ -161,9 +159,12 @@ pub seeking_begins : {rows : List ℕ} {field first end : ℕ} → first ≤ end
 seeking_begins h = record { after = omega arith; within = h; so = λ names text. refl }
 
 module _ {rows : List ℕ} {field first end i : ℕ} (w : Seeking rows field first end i) where
-  pub seeking_found : {r : ℕ} → FieldLeaf rows field i end r → FieldLeaf rows field first end r
+  pub seeking_found : {found : Option ℕ} → FieldLeaf rows field i end found → FieldLeaf rows field first end found
   seeking_found f =
-      record { from = omega (arith, w.after, f.from); to = f.to; number = λ names text. w.so names text ∙ f.number names text }
+      record {
+        within = λ k q. (omega (arith, w.after, (f.within k q).0), (f.within k q).1);
+        number = λ names text. w.so names text ∙ f.number names text;
+      }
 
   pub seeking_on : i < end → (field_in rows i ≡ field → ⊥) → Seeking rows field first end (i + 1)
   seeking_on h n =
@@ -177,17 +178,12 @@ module _ {rows : List ℕ} {field first end i : ℕ} (w : Seeking rows field fir
             ∙ number-later names field (leaf_at rows text i) (leaves_between rows text (i + 1) end) (λ e. n (sym (row_field rows text i) ∙ e));
       }
 
-  pub seeking_done : end ≤ i → FieldLeaf rows field first end end
-  unfolding number_of_field
+  pub seeking_done : end ≤ i → FieldLeaf rows field first end None
+  unfolding number_of_field number_at
   seeking_done h =
       record {
-        from = omega (arith, w.after, w.within);
-        to = omega arith;
-        number =
-            λ names text.
-            w.so names text
-            ∙ ap (number_of_field names field) (leaves_none rows text i end h)
-            ∙ ap (λ (b : Bool). cond b (number_among names (leaf_at rows text end).text) 0) (sym (le-ltb end end (omega arith)));
+        within = λ k q. cc;
+        number = λ names text. w.so names text ∙ ap (number_of_field names field) (leaves_none rows text i end h);
       }
 
 -- what a segment row states
@@ -235,21 +231,16 @@ module _ (rows : List ℕ) (i kind first count : ℕ) where
   unfolding row_states
   states_another n = and_fails_second (known && kind_is && first_is) (ne_eqb (count_in rows i) count n)
 
+  -- as the code tests it
+  pub states_no : (kind_is && first_is) ≡ false → false ≡ row_states rows i kind first count
+  unfolding row_states
+  states_no e = sym (and_fails_first count_is (and_assoc known kind_is first_is ∙ and_fails_second known e))
+
+  pub states_count : 1 ≤ kind → (kind_is && first_is) ≡ true → count_is ≡ row_states rows i kind first count
+  unfolding row_states
+  states_count some e =
+      sym (and_passed count_is (and_assoc known kind_is first_is ∙ and_both (ap not (ne_eqb kind 0 (λ z. let n : ⊥ = omega arith in n))) e))
+
   pub states_unknown : kind ≡ 0 → false ≡ row_states rows i kind first count
   unfolding row_states
   states_unknown e = sym (and_fails_first count_is (and_fails_first first_is (and_fails_first kind_is (ap not (eq-eqb kind 0 e)))))
-
-  pub states_kind : (kind_in rows i ≡ kind → ⊥) → false ≡ row_states rows i kind first count
-  unfolding row_states
-  states_kind n = sym (and_fails_first count_is (and_fails_first first_is (and_fails_second known (ne_eqb (kind_in rows i) kind n))))
-
-  pub states_first : (first_in rows i ≡ first → ⊥) → false ≡ row_states rows i kind first count
-  unfolding row_states
-  states_first n = sym (and_fails_first count_is (and_fails_second (known && kind_is) (ne_eqb (first_in rows i) first n)))
-
-  pub states_count : (kind ≡ 0 → ⊥) → kind_in rows i ≡ kind → first_in rows i ≡ first
-      → eqb (count_in rows i) count ≡ row_states rows i kind first count
-  unfolding row_states
-  states_count n k f =
-      sym (and_passed count_is
-      (and_both (and_both (ap not (ne_eqb kind 0 n)) (eq-eqb (kind_in rows i) kind k)) (eq-eqb (first_in rows i) first f)))

@@ -1,5 +1,6 @@
 -- The table test as the code makes it: its tests are passed exactly where some message reads to the table.
 -- Assumes nothing.
+use Rattle.std.specs.Prelude.{Some, None}
 use mathlib.Core.Bool.{Bool, true, false, not, ◌&&◌}
 use mathlib.Core.List.{List, [], ◌∷◌, map}
 use mathlib.Core.Path.{◌≡◌, sym, ap, ◌∙◌, subst}
@@ -140,11 +141,11 @@ module _ (L : Limits) (levels : ℕ → ℕ → ℕ) (t : Table) (sized : Sized 
 
 -- the cases of `size_back`
 module _ (L : Limits) (levels : ℕ → ℕ → ℕ) (t : Table) where
-  pub size-there : reads_back L levels t ≡ true → size_back L levels t ≡ length (written L t)
+  pub size-there : reads_back L levels t ≡ true → size_back L levels t ≡ Some (length (written L t))
   unfolding size_back
   size-there e = rw (e, size_back)
 
-  pub size_none : reads_back L levels t ≡ false → size_back L levels t ≡ 0
+  pub size_none : reads_back L levels t ≡ false → size_back L levels t ≡ None
   unfolding size_back
   size_none e = rw (e, size_back)
 
@@ -197,11 +198,11 @@ module _ {L : Limits} {levels : ℕ → ℕ → ℕ} {t : Table} (w : CountedTab
   accepted_so v = sym ((row_by_row L w.lawful levels t).1 (so_many, passed-rows L levels t so_many w.segments w.leaves v))
 
   -- and the bytes that are counted where all are passed are those that are written; elsewhere there are none
-  pub passed-size : Passed L levels t → sum_of (written_bytes L) (groups L levels t so_many) ≡ size_back L levels t
+  pub passed-size : Passed L levels t → Some (sum_of (written_bytes L) (groups L levels t so_many)) ≡ size_back L levels t
   unfolding groups_of leaves_of
   passed-size v =
-      local_bytes w.lawful (rows_local so_many (passed-rows L levels t so_many w.segments w.leaves v))
+      ap (λ (n : ℕ). Some n) (local_bytes w.lawful (rows_local so_many (passed-rows L levels t so_many w.segments w.leaves v)))
       ∙ sym (size-there L levels t (sym (accepted_so v)))
 
-  pub refused-size : (Passed L levels t → ⊥) → 0 ≡ size_back L levels t
+  pub refused-size : (Passed L levels t → ⊥) → None ≡ size_back L levels t
   refused-size n = sym (size_none L levels t (sym (refused_so n)))

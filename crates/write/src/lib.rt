@@ -1,4 +1,5 @@
-// The writer (rules W1 to W4): from a table back to the message, and the test whether some message reads to a table.
+// The writer (rules W1 to W4): from a table back to the message, and the test whether some message
+// reads to a table.
 #![tactic(auto)]
 
 ghost use Rattle.std.specs.Prelude.{◌≡◌};
@@ -21,7 +22,9 @@ mod segment_rows;
 pub mod size;
 pub mod test;
 
-// What comes back (N1, W3): a number, its place, and the bytes and lines written. On a refusal all but the number are zero (N3).
+// What comes back (N1, W3): a number, its place, and the bytes and lines written. On a refusal all
+// but the number are zero (N3).
+// kept (C): this public type, and `WroteAs` of `write`, have these numbers; 0 is no refusal.
 #[derive(Clone, Copy)]
 pub struct Written {
     pub number: u8,
@@ -30,8 +33,9 @@ pub struct Written {
     pub lines: usize,
 }
 
-// Writes the message of a table of a form at the front of the output (W1): any card and any buffers. An output under the form's size (T6, T8)
-// is refused with 12, a table that no message of the form reads to with 13 (N1, N2, W4); output bytes past the message stay as they were (W3).
+// Writes the message of a table of a form at the front of the output (W1): any card and any
+// buffers. An output under the form's size (T6, T8) is refused with 12, a table that no message of
+// the form reads to with 13 (N1, N2, W4); output bytes past the message stay as they were (W3).
 pub fn write(
     form: Form,
     card: Card,

@@ -4,8 +4,8 @@ ghost use Rattle.write.specs.inner.Message.{message_written};
 ghost use Rattle.write.specs.inner.Asked.{MessageFits};
 
 use crate::Written;
-use crate::leaf_rows::separators_at;
-use crate::leaves::put_leaves;
+use crate::leaf_rows::Leaves;
+use crate::lines::Lines;
 use form::limits::Limits;
 use table::Card;
 use table::rows::Entry;
@@ -21,8 +21,16 @@ pub(crate) fn write_message(
     requires { MessageFits limits card leaves.now text.now output.old }
     ensures { GivesWriting (message_written limits card leaves.now text.now) output.old result output.new }
 {
-    let separators = separators_at(card.separator, leaves, text);
-    let going = put_leaves(limits, separators, leaves, card.leaves, text, output);
+    let leaves = Leaves {
+        rows: leaves,
+        text,
+        count: card.leaves,
+    };
+    let lines = Lines {
+        limits,
+        separators: leaves.separators_at(card.separator),
+    };
+    let going = lines.put_leaves(leaves, output);
     Written {
         number: 0,
         place: 0,

@@ -1,28 +1,30 @@
-// The table test (W4): whether some message within the limits reads to a table, and how many bytes are written for it.
+// The table test (W4): whether some message within the limits reads to a table, and how many bytes
+// are written for it.
 ghost use Rattle.std.specs.Prelude.{◌≡◌};
 ghost use Rattle.form.specs.Forms.{limits_of};
 ghost use Rattle.order.specs.Owners.{level, former_level};
 ghost use Rattle.order.specs.inner.Levels.{level_in};
 ghost use Rattle.write.specs.inner.ReadsBack.{is_table};
-ghost use Rattle.write.specs.Answer.{written_size};
 ghost use Rattle.table.specs.Lent.{lent, within_limits};
-ghost use Rattle.write.specs.inner.Tests.{Decides, SoundRows, table_with, size_back, sound_leaves, in_order};
+ghost use Rattle.write.specs.inner.Tests.{Decides, SoundRows, table_with, of_counts, size_back, lent_size, sound_leaves, in_order};
 ghost use Rattle.write.specs.inner.Asked.{Testable, CountedTable, RowsAsked, LaidOut, KindsAndLeaves};
 
+use crate::leaf_rows::Leaves;
+use crate::segment_rows::Segments;
+use crate::size;
 use crate::size::Owners;
-use crate::{leaf_rows, segment_rows, size};
 use form::forms::Form;
 use form::limits::Limits;
 use order::followers;
 use table::rows::Entry;
 use table::{Card, rows};
 
-// Yes exactly where some message within the form's limits reads to the table that the card counts in the lent buffers, whatever these hold
-// (W4). Such a message has some bytes.
+// Yes exactly where some message within the form's limits reads to the table that the card counts
+// in the lent buffers, whatever these hold (W4).
 pub fn is_table(form: Form, card: Card, segments: &[Entry], leaves: &[Entry], text: &[u8]) -> bool
     ensures { result ≡ is_table (limits_of form) level (lent card segments.now leaves.now text.now) }
 {
-    size::written_bytes(form, card, segments, leaves, text) != 0
+    size::bytes_by(form, Owners::InForce, card, segments, leaves, text).is_some()
 }
 
 // The same with the former owners (O4): whether a reader gave the table while they were in force.
@@ -35,10 +37,11 @@ pub fn is_former_table(
 ) -> bool
     ensures { result ≡ is_table (limits_of form) former_level (lent card segments.now leaves.now text.now) }
 {
-    size::bytes_by(form, Owners::Former, card, segments, leaves, text) != 0
+    size::bytes_by(form, Owners::Former, card, segments, leaves, text).is_some()
 }
 
-// The bytes that are written for a table under any limits and levels; 0 where no message within them reads to it.
+// The bytes that are written for a table under any limits and levels, if some message within them
+// reads to it.
 pub(crate) fn table_bytes(
     limits: Limits,
     levels: &[u8; 84],
@@ -46,137 +49,110 @@ pub(crate) fn table_bytes(
     segments: &[Entry],
     leaves: &[Entry],
     text: &[u8],
-) -> usize
+) -> Option<usize>
     requires { Testable limits (level_in levels.now) }
-    ensures { result ≡ written_size limits (level_in levels.now) (lent card segments.now leaves.now text.now) }
+    ensures { result ≡ lent_size limits (level_in levels.now) (lent card segments.now leaves.now text.now) }
 {
     if !within_limits(limits, card) {
-        return 0;
+        return None;
     }
     if !rows::counts_fit(card, segments.len(), leaves.len(), text.len()) {
-        return 0;
+        return None;
     }
     let many = card.segments * rows::SEGMENT_ROW;
     let size = card.leaves * rows::LEAF_ROW;
-    let end = card.text;
-    counted_bytes(
-        limits,
-        levels,
-        card,
-        &segments[..many],
-        &leaves[..size],
-        &text[..end],
-    )
+    let segments = Segments {
+        rows: &segments[..many],
+        count: card.segments,
+    };
+    let leaves = Leaves {
+        rows: &leaves[..size],
+        text: &text[..card.text],
+        count: card.leaves,
+    };
+    counted_bytes(limits, levels, card, segments, leaves)
 }
 
 // Whether a card's counts keep to the limits (T6).
 fn within_limits(limits: Limits, card: Card) -> bool
     ensures { result ≡ within_limits limits card }
 {
-    if limits.segments < card.segments {
-        return false;
-    }
-    if limits.leaves < card.leaves {
-        return false;
-    }
-    card.text <= limits.bytes
+    card.segments <= limits.segments && card.leaves <= limits.leaves && card.text <= limits.bytes
 }
 
-// The bytes that are written for the table of the counted entries; 0 where no message reads to it. All tests but the last are one call, so
-// that few branches stand before the count of bytes: behind many the compiler would leave it a call of its own.
+// The bytes that are written for the table of the counted entries, if some message reads to it. All
+// tests but the last are one call, so that few branches stand before the count of bytes: behind
+// many the compiler would leave it a call of its own.
 fn counted_bytes(
     limits: Limits,
     levels: &[u8; 84],
     card: Card,
-    segments: &[Entry],
-    leaves: &[Entry],
-    text: &[u8],
-) -> usize
-    requires { CountedTable limits (level_in levels.now) (table_with card segments.now leaves.now text.now) }
-    ensures { result ≡ size_back limits (level_in levels.now) (table_with card segments.now leaves.now text.now) }
+    segments: Segments,
+    leaves: Leaves,
+) -> Option<usize>
+    requires { CountedTable limits (level_in levels.now)
+        (table_with (of_counts card segments.count leaves.count) segments.rows.now leaves.rows.now leaves.text.now) }
+    ensures { result ≡ size_back limits (level_in levels.now)
+        (table_with (of_counts card segments.entry.count leaves.entry.count)
+        segments.entry.rows.now leaves.entry.rows.now leaves.entry.text.now) }
 {
-    if !sound_rows(levels, card, segments, leaves, text) {
-        return 0;
+    if !sound_rows(levels, card, segments, leaves) {
+        return None;
     }
-    let bytes = segment_rows::message_bytes(
-        limits,
-        segments,
-        card.segments,
-        leaves,
-        text,
-        card.leaves,
-    );
-    if limits.bytes < bytes {
-        return 0;
+    let bytes = segments.message_bytes(limits, leaves);
+    if bytes <= limits.bytes {
+        Some(bytes)
+    } else {
+        None
     }
-    bytes
 }
 
 // Whether the counted rows and the text pass every test but that of the message's bytes.
-fn sound_rows(
-    levels: &[u8; 84],
-    card: Card,
-    segments: &[Entry],
-    leaves: &[Entry],
-    text: &[u8],
-) -> bool
-    requires { RowsAsked (level_in levels.now) (table_with card segments.now leaves.now text.now) }
-    ensures { Decides result (SoundRows (level_in levels.now) (table_with card segments.now leaves.now text.now)) }
+fn sound_rows(levels: &[u8; 84], card: Card, segments: Segments, leaves: Leaves) -> bool
+    requires { RowsAsked (level_in levels.now)
+        (table_with (of_counts card segments.count leaves.count) segments.rows.now leaves.rows.now leaves.text.now) }
+    ensures { Decides result (SoundRows (level_in levels.now)
+        (table_with (of_counts card segments.entry.count leaves.entry.count)
+        segments.entry.rows.now leaves.entry.rows.now leaves.entry.text.now)) }
 {
-    let count = card.leaves;
-    if count < 3 {
+    if leaves.count < 3 {
         return false;
     }
-    if !leaf_rows::laid(leaves, count, card.text) {
+    if !leaves.laid(card.text) {
         return false;
     }
-    if !sound_leaves(card.separator, leaves, text, count) {
+    if !sound_leaves(card.separator, leaves) {
         return false;
     }
-    if !segment_rows::grouped(segments, card.segments, leaves, text, count) {
+    if !segments.grouped(leaves) {
         return false;
     }
-    if !segment_rows::owned(levels, card.context, segments, card.segments) {
+    if !segments.owned(levels, card.context) {
         return false;
     }
-    in_order(card.context, segments, card.segments, leaves, text, count)
+    in_order(card.context, segments, leaves)
 }
 
-// Whether the header's rows keep the header rule (H2, S4) and the leaf rows after them go on soundly. Only the contract reads `count`.
-fn sound_leaves(field: u8, leaves: &[Entry], text: &[u8], count: usize) -> bool
-    requires { LaidOut leaves.now text.now count }
-    ensures { result ≡ sound_leaves field leaves.now text.now count }
+// Whether the header's rows keep the header rule (H2, S4) and the leaf rows after them go on
+// soundly.
+fn sound_leaves(field: u8, leaves: Leaves) -> bool
+    requires { LaidOut leaves.rows.now leaves.text.now leaves.count }
+    ensures { result ≡ sound_leaves field leaves.entry.rows.now leaves.entry.text.now leaves.entry.count }
 {
-    if !leaf_rows::header_leaves(leaves, text, count) {
+    if !leaves.header_leaves() {
         return false;
     }
-    let separators = leaf_rows::separators_at(field, leaves, text);
-    if !separators.sound() {
-        return false;
-    }
-    leaf_rows::go_on_from(separators, leaves, text, count)
+    let separators = leaves.separators_at(field);
+    separators.sound() && leaves.go_on_from(separators)
 }
 
-// Whether field 7 of the first segment names the context (C1) and the kinds stand where it allows them (C2, C3). The first segment row counts
-// that segment's leaves. Only the contract reads `count`.
-fn in_order(
-    context: u8,
-    segments: &[Entry],
-    many: usize,
-    leaves: &[Entry],
-    text: &[u8],
-    count: usize,
-) -> bool
-    requires { KindsAndLeaves segments.now many leaves.now text.now count }
-    ensures { result ≡ in_order context segments.now many leaves.now text.now count }
+// Whether field 7 of the first segment names the context (C1) and the kinds stand where it allows
+// them (C2, C3). The first segment row counts that segment's leaves.
+fn in_order(context: u8, segments: Segments, leaves: Leaves) -> bool
+    requires { KindsAndLeaves segments.rows.now segments.count leaves.rows.now leaves.text.now leaves.count }
+    ensures { result ≡ in_order context segments.entry.rows.now segments.entry.count
+        leaves.entry.rows.now leaves.entry.text.now leaves.entry.count }
 {
-    if context == 0 {
-        return false;
-    }
-    let end = rows::wide(segments[rows::COUNT]);
-    if segment_rows::context_of(leaves, text, count, end) != context {
-        return false;
-    }
-    let followers = followers::table();
-    segment_rows::ordered(&followers, context, segments, many)
+    let end = rows::wide(segments.rows[rows::COUNT]);
+    leaves.context_of(end) == Some(context) && segments.ordered(&followers::table(), context)
 }

@@ -1,6 +1,6 @@
 -- What each function of the table test and of the writing pass asks.
 -- Assumes nothing.
-use Rattle.std.specs.Prelude.{true, List, [], ◌∷◌, ◌≡◌, ℕ, ◌+◌, ◌-◌, ◌*◌, ◌≤◌, ◌<◌, length, take, drop}
+use Rattle.std.specs.Prelude.{true, List, [], ◌∷◌, ◌≡◌, ℕ, ◌+◌, ◌*◌, ◌≤◌, ◌<◌, length}
 use Rattle.form.specs.declared.limits.Limits.{Limits}
 use Rattle.form.specs.declared.separators.Separators.{Separators}
 use Rattle.form.specs.Limits.{Lawful}
@@ -97,10 +97,15 @@ pub record FirstSegment (rows text : List ℕ) (count end : ℕ) : Type 0 where
   pub in_text : InText rows text count
   pub ends : SegmentEnd rows count 0 end
 
--- where the text of a leaf lies
-pub record TextStated (rows : List ℕ) (leaf start end : ℕ) : Type 0 where
-  pub starts : start ≡ start_in rows leaf
-  pub ends : end ≡ start + length_in rows leaf
+-- a leaf whose text lies in the text area
+pub record LeafThere (rows text : List ℕ) (leaf : ℕ) : Type 0 where
+  pub row : (leaf + 1) * leaf_row_size ≤ length rows
+  pub within : start_in rows leaf + length_in rows leaf ≤ length text
+
+-- a segment row, and a kind that it may state
+pub record RowThere (segments : List ℕ) (i kind : ℕ) : Type 0 where
+  pub row : (i + 1) * segment_row_size ≤ length segments
+  pub some : 1 ≤ kind
 
 -- leaves of which the first is of field 1
 pub record SegmentThere (rows text : List ℕ) (count first end : ℕ) : Type 0 where
@@ -141,10 +146,14 @@ pub record KindsAndLeaves (segments : List ℕ) (many : ℕ) (rows text : List �
   pub some : 0 < count
   pub grouped : groups_stated segments 0 many 1 (groups_in rows text count) ≡ true
 
--- a byte into the line begun; the end of the line; the end of the line, and an addendum
+-- a byte or a text into the line begun; the end of the line; the end of the line, and an addendum
 pub record RoomForByte (going : Going) (output : List ℕ) : Type 0 where
   pub within : going.out < length output
   pub room : 1 ≤ going.room
+
+pub record RoomForText (going : Going) (output text : List ℕ) : Type 0 where
+  pub within : going.out + length text ≤ length output
+  pub room : length text ≤ going.room
 
 pub record RoomForEnd (going : Going) (output : List ℕ) (size : ℕ) : Type 0 where
   pub within : going.out + size ≤ length output
@@ -161,13 +170,11 @@ pub record ByteInside (L : Limits) (f : ℕ) (s : Stand) (b : ℕ) : Type 0 wher
   pub fits : Fits L f s (b ∷ [])
   pub inside : b ≡ CR → ⊥
 
--- a part of the text, as bytes of the segment
-pub record PartInside (L : Limits) (f : ℕ) (s : Stand) (text : List ℕ) (from end : ℕ) : Type 0 where
+-- a text, as bytes of the segment
+pub record TextInside (L : Limits) (f : ℕ) (s : Stand) (text : List ℕ) : Type 0 where
   pub lawful : Lawful L
-  pub up_to : from ≤ end
-  pub within : end ≤ length text
-  pub inside : InSegment (take (end - from) (drop from text))
-  pub fits : Fits L f s (take (end - from) (drop from text))
+  pub inside : InSegment text
+  pub fits : Fits L f s text
 
 -- a leaf and the next one, in one segment or not
 pub record NextThere (rows : List ℕ) (row : ℕ) : Type 0 where

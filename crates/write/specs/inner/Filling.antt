@@ -23,6 +23,12 @@ placed s b =
     stand (set s.output s.going.out b)
     (record { out = s.going.out + 1; room = s.going.room - 1; lines = s.going.lines })
 
+-- a text in the line begun, which has room for it
+unfoldable pub filled : Stand → List ℕ → Stand
+filled s x =
+    stand (sets s.output s.going.out x)
+    (record { out = s.going.out + length x; room = s.going.room - length x; lines = s.going.lines })
+
 -- the line begun, and with it the segment, is closed
 unfoldable pub segment_closed : Limits → Stand → Stand
 segment_closed L s =

@@ -1,7 +1,7 @@
 -- The table test (W4) as loops make it (models that antt computes): each is a test of a card, of the counted rows as plain lists of numbers, and of
 -- the counted text.
 -- Assumes nothing.
-use Rattle.std.specs.Prelude.{Bool, true, false, not, ◌&&◌, cond, List, [], ◌∷◌, ◌≡◌, ℕ, zero, suc, ◌+◌, ◌-◌, ◌*◌, ◌≤◌, ◌<◌, leb, ltb, eqb, length, get_or}
+use Rattle.std.specs.Prelude.{Bool, true, false, not, ◌&&◌, cond, Option, Some, None, List, [], ◌∷◌, ◌≡◌, ℕ, zero, suc, ◌+◌, ◌-◌, ◌*◌, ◌≤◌, ◌<◌, leb, eqb, length, get_or}
 use Rattle.laws.specs.Lists.{same, among}
 use Rattle.laws.specs.Tables.{values}
 use Rattle.form.specs.declared.limits.Limits.{Limits}
@@ -17,7 +17,8 @@ use Rattle.order.specs.Owners.{owners}
 use Rattle.order.specs.inner.Place.{misplaced}
 use Rattle.table.specs.inner.BySegment.{by_segment, kind_among, context_among, number_of_field}
 use Rattle.table.specs.inner.RowTests.{end_to_end, next_place, go_on_from}
-use Rattle.write.specs.inner.ReadsBack.{reads_back}
+use Rattle.write.specs.inner.ReadsBack.{reads_back, is_table}
+use Rattle.table.specs.Lent.{Lent, counted}
 use Rattle.write.specs.inner.Local.{third_place}
 
 -- a test that is passed exactly where something holds
@@ -71,12 +72,20 @@ pub record SegmentEnd (rows : List ℕ) (count first end : ℕ) : Type 0 where
   pub within : (k : ℕ) → first ≤ k → k < end → segment_in rows k ≡ segment_in rows first
   pub other : end < count → segment_in rows end ≡ segment_in rows first → ⊥
 
--- the one leaf of a field among some leaves, or their end where the field is missing or is more than one leaf
-pub record FieldLeaf (rows : List ℕ) (field first end at : ℕ) : Type 0 where
-  pub from : first ≤ at
-  pub to : at ≤ end
+-- a number that names something, or none where it is 0
+abbrev pub known : ℕ → Option ℕ
+known number = cond (eqb number 0) None (Some number)
+
+-- the number that names give the text of a leaf, or 0 where there is no leaf
+unfoldable pub number_at : List (List ℕ) → List ℕ → List ℕ → Option ℕ → ℕ
+number_at names rows text None = 0
+number_at names rows text (Some at) = number_among names (leaf_at rows text at).text
+
+-- the one leaf of a field among some leaves, or none where the field is missing or is more than one leaf
+pub record FieldLeaf (rows : List ℕ) (field first end : ℕ) (found : Option ℕ) : Type 0 where
+  pub within : (at : ℕ) → found ≡ Some at → (first ≤ at) × (at < end)
   pub number : (names : List (List ℕ)) (text : List ℕ)
-      → number_of_field names field (leaves_between rows text first end) ≡ cond (ltb at end) (number_among names (leaf_at rows text at).text) 0
+      → number_of_field names field (leaves_between rows text first end) ≡ number_at names rows text found
 
 -- whether segment row i states a known kind, a first leaf and a leaf count
 unfoldable pub row_states : List ℕ → ℕ → ℕ → ℕ → ℕ → Bool
@@ -130,10 +139,19 @@ pub record SoundRows (levels : ℕ → ℕ → ℕ) (t : Table) : Type 0 where
       (owners (levels t.card.context) (kind_column t.segment_rows t.card.segments)) ≡ true
   pub ordered : in_order t.card.context t.segment_rows t.card.segments t.leaf_rows t.text t.card.leaves ≡ true
 
--- the bytes that are written for a table where some message reads to it, else 0
-unfoldable pub size_back : Limits → (ℕ → ℕ → ℕ) → Table → ℕ
-size_back L levels t = elim (reads_back L levels t) [ true ↦ length (written L t) | false ↦ 0 ]
+-- the bytes that are written for a table, if some message reads to it
+unfoldable pub size_back : Limits → (ℕ → ℕ → ℕ) → Table → Option ℕ
+size_back L levels t = elim (reads_back L levels t) [ true ↦ Some (length (written L t)) | false ↦ None ]
+
+-- the same of a lent table
+unfoldable pub lent_size : Limits → (ℕ → ℕ → ℕ) → Lent → Option ℕ
+lent_size L levels l = elim (is_table L levels l) [ true ↦ Some (length (written L (counted l))) | false ↦ None ]
 
 -- a table of some counted entries
 abbrev pub table_with : Card → (segment_rows leaf_rows text : List ℕ) → Table
 table_with card segment_rows leaf_rows text = record { card = card; segment_rows = segment_rows; leaf_rows = leaf_rows; text = text }
+
+-- a card with other counts of rows
+abbrev pub of_counts : Card → (segments leaves : ℕ) → Card
+of_counts card segments leaves =
+    record { separator = card.separator; context = card.context; segments = segments; leaves = leaves; text = card.text }

@@ -10,23 +10,22 @@ use Rattle.write.proofs.test.sound_leaves.Goals as goal
 use Rattle.write.proofs.test.sound_leaves.Goals.{Else-not-header_leaves}
 
 -- the first two rows are a header's
-header_here : (c : Else-not-header_leaves) → header_leaves_at c.args.leaves.now c.args.text.now ≡ true
+header_here : (c : Else-not-header_leaves) → header_leaves_at c.args.leaves.rows.now c.args.leaves.text.now ≡ true
 header_here c = answered_yes c.header_leaves.ensures c.if-not-header_leaves.false
 
 pub returns-then-not-header_leaves : goal.returns-then-not-header_leaves
-returns-then-not-header_leaves c = no_header c.args.field c.args.leaves.now c.args.text.now c.args.count (answered_no c.header_leaves.ensures c.if-not-header_leaves.true)
+returns-then-not-header_leaves c = no_header c.args.field c.args.leaves.rows.now c.args.leaves.text.now c.args.leaves.count (answered_no c.header_leaves.ensures c.if-not-header_leaves.true)
 
 pub separators_at-separators-requires : goal.separators_at-separators-requires
-separators_at-separators-requires c = header-four c.args.leaves.now c.args.text.now c.requires (header_here c)
+separators_at-separators-requires c = header-four c.args.leaves.rows.now c.args.leaves.text.now c.requires (header_here c)
 
-pub returns-then-not-sound : goal.returns-then-not-sound
-returns-then-not-sound c = no_rule c.args.field c.args.leaves.now c.args.text.now c.args.count c.separators_at-separators.ensures (answered_no c.sound.ensures c.if-not-sound.true)
-
-pub go_on_from-requires : goal.go_on_from-requires
-go_on_from-requires c = record { laid = c.requires; header = header_here (goal.at.go_on_from-requires c).Else-not-header_leaves }
-
-pub returns : goal.returns
-returns c =
+pub returns-then-sound : goal.returns-then-sound
+returns-then-sound c =
     c.go_on_from.ensures
-    ∙ others_decide c.args.field c.args.leaves.now c.args.text.now c.args.count c.separators_at-separators.ensures (header_here (goal.at.returns c).Else-not-header_leaves)
-    (answered_yes c.sound.ensures c.if-not-sound.false)
+    ∙ others_decide c.args.field c.args.leaves.rows.now c.args.leaves.text.now c.args.leaves.count c.separators_at-separators.ensures (header_here (goal.at.returns-then-sound c).Else-not-header_leaves)
+    (answered_yes c.sound.ensures c.if-sound.true)
+
+pub returns-else-sound : goal.returns-else-sound
+returns-else-sound c =
+    c.if-sound.false
+    ∙ no_rule c.args.field c.args.leaves.rows.now c.args.leaves.text.now c.args.leaves.count c.separators_at-separators.ensures (answered_no c.sound.ensures c.if-sound.false)

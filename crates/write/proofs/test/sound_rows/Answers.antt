@@ -7,7 +7,7 @@ use Prim.Native.Nat.{ℕ}
 use Rattle.laws.proofs.Tests.{never_both}
 use Rattle.order.specs.inner.Levels.{level_in}
 use Rattle.table.specs.Rows.{Table}
-use Rattle.write.specs.inner.Tests.{groups_in, table_with, InText, Laid, KindsStated, sound_leaves, groups_stated, Decides, SoundRows}
+use Rattle.write.specs.inner.Tests.{groups_in, table_with, of_counts, InText, Laid, KindsStated, sound_leaves, groups_stated, Decides, SoundRows}
 use Rattle.write.proofs.GoingOn.{sound-first}
 use Rattle.write.proofs.Said.{answered_no, answered_yes}
 use Rattle.write.proofs.TableTest.{sound-laid, laid_in_text, narrow_kinds}
@@ -16,7 +16,7 @@ use Rattle.write.proofs.test.sound_rows.Goals.{Else-not-grouped, Else-not-laid, 
 
 -- the table that is tested, the levels it is tested by, and a test of it that fails
 abbrev table : Start → Table
-table s = table_with s.args.card s.args.segments.now s.args.leaves.now s.args.text.now
+table s = table_with (of_counts s.args.card s.args.segments.count s.args.leaves.count) s.args.segments.rows.now s.args.leaves.rows.now s.args.leaves.text.now
 
 abbrev by_levels : Start → ℕ → ℕ → ℕ
 by_levels s = level_in s.args.levels.now
@@ -41,17 +41,11 @@ grouped_here c = answered_yes c.grouped.ensures c.if-not-grouped.false
 kinds_here : (c : Else-not-grouped) → KindsStated (table (goal.at.Else-not-grouped c).Start).segment_rows (table (goal.at.Else-not-grouped c).Start).card.segments
 kinds_here c = narrow_kinds c.requires.narrow (grouped_here c)
 
-pub returns-then-count-lt3 : goal.returns-then-count-lt3
-returns-then-count-lt3 c = refuses (goal.at.returns-then-count-lt3 c).Start (λ w. omega (arith, w.three, c.if-count-lt3.true))
-
-pub laid-requires : goal.laid-requires
-laid-requires c = record { sized = c.requires.narrow.sized.leaf_rows; some = omega (arith, c.if-count-lt3.false) }
+pub returns-then-leaves-lt3 : goal.returns-then-leaves-lt3
+returns-then-leaves-lt3 c = refuses (goal.at.returns-then-leaves-lt3 c).Start (λ w. omega (arith, w.three, c.if-leaves-lt3.true))
 
 pub returns-then-not-laid : goal.returns-then-not-laid
 returns-then-not-laid c = refuses (goal.at.returns-then-not-laid c).Start (λ w. c.laid.ensures.1 (c.if-not-laid.true) (sound-laid w))
-
-pub sound_leaves-requires : goal.sound_leaves-requires
-sound_leaves-requires c = record { in_text = text_here c; three = c.if-count-lt3.false; next = (laid_here c).next }
 
 pub returns-then-not-sound_leaves : goal.returns-then-not-sound_leaves
 returns-then-not-sound_leaves c = refuses (goal.at.returns-then-not-sound_leaves c).Start (λ w. never_both w.sound (answered_no c.sound_leaves.ensures c.if-not-sound_leaves.true))
@@ -76,13 +70,13 @@ pub returns-then-not-owned : goal.returns-then-not-owned
 returns-then-not-owned c = refuses (goal.at.returns-then-not-owned c).Start (λ w. never_both w.owned (answered_no c.owned.ensures c.if-not-owned.true))
 
 pub in_order-requires : goal.in_order-requires
-in_order-requires c = record { kinds = kinds_here (goal.at.in_order-requires c).Else-not-grouped; in_text = text_here (goal.at.in_order-requires c).Else-not-laid; some = omega (arith, c.if-count-lt3.false); grouped = grouped_here (goal.at.in_order-requires c).Else-not-grouped }
+in_order-requires c = record { kinds = kinds_here (goal.at.in_order-requires c).Else-not-grouped; in_text = text_here (goal.at.in_order-requires c).Else-not-laid; some = omega (arith, c.if-leaves-lt3.false); grouped = grouped_here (goal.at.in_order-requires c).Else-not-grouped }
 
 pub returns : goal.returns
 returns c = (
   λ e.
       record {
-        three = c.if-count-lt3.false;
+        three = c.if-leaves-lt3.false;
         laid = (laid_here (goal.at.returns c).Else-not-laid).ended;
         sound = sound_here (goal.at.returns c).Else-not-sound_leaves;
         grouped = grouped_here (goal.at.returns c).Else-not-grouped;

@@ -10,7 +10,7 @@ use Rattle.table.specs.Rows.{segment_row_size, leaf_row_size}
 use Rattle.table.specs.Lent.{Lent, lent, within_limits, within_buffers, counted}
 use Rattle.write.proofs.LentTables.{Within, within_buffers_lem}
 use Rattle.write.proofs.LentTest.{limits_refuse, buffers_refuse, counted-table}
-use Rattle.write.proofs.Sizes.{no_table_size, counted-size}
+use Rattle.write.proofs.Sizes.{no_lent_size, counted-size}
 use Rattle.write.proofs.Said.{answered_no, answered_yes}
 use Rattle.write.proofs.test.table_bytes.Goals as goal
 use Rattle.write.proofs.test.table_bytes.Goals.{Else-not-counts_fit, Start}
@@ -34,12 +34,12 @@ within c = (within_buffers_lem (table (goal.at.Else-not-counts_fit c).Start)).0 
 
 pub returns-then-not-within_limits : goal.returns-then-not-within_limits
 returns-then-not-within_limits c =
-    sym (no_table_size c.args.limits c.requires.fits.lawful (by_levels (goal.at.returns-then-not-within_limits c).Start) (table (goal.at.returns-then-not-within_limits c).Start)
+    sym (no_lent_size c.args.limits (by_levels (goal.at.returns-then-not-within_limits c).Start) (table (goal.at.returns-then-not-within_limits c).Start)
     (sym (limits_refuse c.args.limits (by_levels (goal.at.returns-then-not-within_limits c).Start) (table (goal.at.returns-then-not-within_limits c).Start) (answered_no c.within_limits.ensures c.if-not-within_limits.true))))
 
 pub returns-then-not-counts_fit : goal.returns-then-not-counts_fit
 returns-then-not-counts_fit c =
-    sym (no_table_size c.args.limits c.requires.fits.lawful (by_levels (goal.at.returns-then-not-counts_fit c).Start) (table (goal.at.returns-then-not-counts_fit c).Start)
+    sym (no_lent_size c.args.limits (by_levels (goal.at.returns-then-not-counts_fit c).Start) (table (goal.at.returns-then-not-counts_fit c).Start)
     (sym (buffers_refuse c.args.limits (by_levels (goal.at.returns-then-not-counts_fit c).Start) (table (goal.at.returns-then-not-counts_fit c).Start) (answered_no c.counts_fit.ensures c.if-not-counts_fit.true))))
 
 pub overflow_mul-many : goal.overflow_mul-many
@@ -48,14 +48,14 @@ overflow_mul-many c = omega (arith, (within (goal.at.overflow_mul-many c).Else-n
 pub overflow_mul-size : goal.overflow_mul-size
 overflow_mul-size c = omega (arith, (within (goal.at.overflow_mul-size c).Else-not-counts_fit).leaf_rows)
 
-pub slice_bounds-counted_bytes-end : goal.slice_bounds-counted_bytes-end
-slice_bounds-counted_bytes-end c = sym (length-take-le (c.args.card.segments * segment_row_size) c.args.segments.now (within (goal.at.slice_bounds-counted_bytes-end c).Else-not-counts_fit).segment_rows)
+pub slice_bounds-segments-end : goal.slice_bounds-segments-end
+slice_bounds-segments-end c = sym (length-take-le (c.args.card.segments * segment_row_size) c.args.segments.now (within (goal.at.slice_bounds-segments-end c).Else-not-counts_fit).segment_rows)
 
-pub slice_bounds-counted_bytes-end-2 : goal.slice_bounds-counted_bytes-end-2
-slice_bounds-counted_bytes-end-2 c = sym (length-take-le (c.args.card.leaves * leaf_row_size) c.args.leaves.now (within (goal.at.slice_bounds-counted_bytes-end-2 c).Else-not-counts_fit).leaf_rows)
+pub slice_bounds-leaves-end : goal.slice_bounds-leaves-end
+slice_bounds-leaves-end c = sym (length-take-le (c.args.card.leaves * leaf_row_size) c.args.leaves.now (within (goal.at.slice_bounds-leaves-end c).Else-not-counts_fit).leaf_rows)
 
-pub slice_bounds-counted_bytes-end-3 : goal.slice_bounds-counted_bytes-end-3
-slice_bounds-counted_bytes-end-3 c = sym (length-take-le c.args.card.text c.args.text.now (within (goal.at.slice_bounds-counted_bytes-end-3 c).Else-not-counts_fit).text)
+pub slice_bounds-leaves-end-2 : goal.slice_bounds-leaves-end-2
+slice_bounds-leaves-end-2 c = sym (length-take-le c.args.card.text c.args.text.now (within (goal.at.slice_bounds-leaves-end-2 c).Else-not-counts_fit).text)
 
 pub counted_bytes-requires : goal.counted_bytes-requires
 unfolding counted
@@ -63,4 +63,4 @@ counted_bytes-requires c = counted-table c.args.limits (by_levels (goal.at.count
 
 pub returns : goal.returns
 unfolding counted
-returns c = c.counted_bytes.ensures ∙ counted-size c.args.limits c.requires.fits.lawful (by_levels (goal.at.returns c).Start) (table (goal.at.returns c).Start) (few (goal.at.returns c).Else-not-counts_fit) (fit (goal.at.returns c).Else-not-counts_fit)
+returns c = c.counted_bytes.ensures ∙ counted-size c.args.limits (by_levels (goal.at.returns c).Start) (table (goal.at.returns c).Start) (few (goal.at.returns c).Else-not-counts_fit) (fit (goal.at.returns c).Else-not-counts_fit)

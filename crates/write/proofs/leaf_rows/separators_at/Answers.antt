@@ -1,7 +1,0 @@
--- `write::leaf_rows::separators_at` meets its contract: the second leaf is of four bytes, and its row says where they lie.
--- Assumes nothing.
-use Rattle.write.proofs.HeaderTest.{separators_read}
-use Rattle.write.proofs.leaf_rows.separators_at.Goals as goal
-
-pub returns : goal.returns
-returns c = separators_read c.args.field c.args.rows.now c.args.text.now c.requires c.wide-start.ensures.0

@@ -1,9 +1,0 @@
--- `write::lines::close` meets its contract: one store within.
--- Assumes nothing.
-use mathlib.Core.Path.{refl}
-use Rattle.write.specs.inner.Filling.{segment_closed}
-use Rattle.write.proofs.lines.close.Goals as goal
-
-pub returns : goal.returns
-unfolding segment_closed
-returns c = refl
