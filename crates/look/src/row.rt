@@ -16,18 +16,13 @@ pub fn next_row(
 ) -> usize
     ensures { result ≡ row_after segments.now card.segments after kind owner }
 {
-    let count = card.segments;
-    if !segments_fit(segments, count) {
+    if !segments_fit(segments, card.segments) {
         return 0;
     }
-    let mut row = after;
-    while row < count {
+    for row in after..card.segments {
         let at = row * rows::SEGMENT_ROW;
-        row += 1;
-        if segments[at] == kind {
-            if segments[at + rows::OWNER] == owner {
-                return row;
-            }
+        if segments[at] == kind && segments[at + rows::OWNER] == owner {
+            return row + 1;
         }
     }
     0
