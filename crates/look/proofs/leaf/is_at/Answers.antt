@@ -9,16 +9,10 @@ use Prim.Native.Nat.{◌+◌, ◌*◌}
 use Rattle.laws.specs.Lists.{same}
 use Rattle.table.specs.Rows.{leaf_row_size, place_in}
 use Rattle.look.specs.Looking.{numbers_of}
+use Rattle.look.proofs.Both.{goes_on, stops}
 use Rattle.look.proofs.Seeking.{five_tested}
 use Rattle.look.proofs.leaf.is_at.Goals as goal
 use Rattle.look.proofs.leaf.is_at.Goals.{Joined-leaves-at-3, then-leaves-at, else-leaves-at, then-leaves-at-2, else-leaves-at-2, then-leaves-at-3, else-leaves-at-3}
-
--- an `&&`, by the test that comes first
-goes_on : {a b v : Bool} → a ≡ true → v ≡ b → v ≡ (a && b)
-goes_on e k = k ∙ sym (rw e)
-
-stops : {a v : Bool} (b : Bool) → a ≡ false → v ≡ a → v ≡ (a && b)
-stops b e k = k ∙ e ∙ sym (rw e)
 
 -- the five tests, by the first four and the last
 decided : (c : Joined-leaves-at-3) → (c.if-leaves-at-3.value && eqb (get_or c.args.leaves.now (c.args.row * leaf_row_size + 4) 0) c.args.place.subsubfield)
