@@ -31,6 +31,7 @@ pub enum Sought {
 
 impl Sought {
     // The answer as a number: 1 found, 2 found empty, 0 not there.
+    // kept (C): a method and no `From`, since the public `number` ensures `sought_number`, the number that C gets.
     pub fn number(self) -> u8
         ensures { result ≡ sought_number self }
     {
@@ -55,7 +56,13 @@ pub fn find_leaf(
     ensures { result ≡ sought_in (lent card segments.now leaves.now text.now) place }
 {
     if rows::counts_fit(card, segments.len(), leaves.len(), text.len()) {
-        first_leaf(leaves, 0, card.leaves, card.text, |row| is_at(leaves, row, place))
+        first_leaf(
+            leaves,
+            0,
+            card.leaves,
+            card.text,
+            |row| is_at(leaves, row, place),
+        )
     } else {
         Sought::NotThere
     }
@@ -89,8 +96,16 @@ pub fn find_leaf_in_segment(
         return Sought::NotThere;
     }
     let from = first - 1;
-    let to = card.leaves.min(from + rows::wide(segments[at + rows::COUNT]));
-    first_leaf(leaves, from, to, card.text, |row| is_at_by_field(leaves, row, place))
+    let to = card
+        .leaves
+        .min(from + rows::wide(segments[at + rows::COUNT]));
+    first_leaf(
+        leaves,
+        from,
+        to,
+        card.text,
+        |row| is_at_by_field(leaves, row, place),
+    )
 }
 
 // The text of the leaf at a place (F1): no copy, but that part of the lent text area, told by block, offset and bytes; an empty part where the

@@ -33,7 +33,13 @@ pub fn same_order(
     let Sought::At(start, length) = order_text(card, segments, leaves, text, row) else {
         return false;
     };
-    let other = order_text(other_card, other_segments, other_leaves, other_text, other_row);
+    let other = order_text(
+        other_card,
+        other_segments,
+        other_leaves,
+        other_text,
+        other_row,
+    );
     let Sought::At(other_start, other_length) = other else {
         return false;
     };

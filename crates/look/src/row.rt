@@ -7,6 +7,7 @@ use table::{Card, rows};
 
 // The number of the next row that has a kind and an owner, behind row `after`, or from row 1 on where that is 0 (F2). 0 where there is
 // none, or where the segment rows are fewer than the card counts.
+// kept (C): a number and no Option, since `row_after` in this public function's clause says 0 for none.
 pub fn next_row(
     card: Card,
     segments: &[rows::Entry],

@@ -1,6 +1,6 @@
 -- How the lookups find what they answer: row by row, from the first on. What they answer is said in Matches.
 -- Assumes nothing.
-use Rattle.std.specs.Prelude.{Bool, true, false, ◌&&◌, List, ◌≡◌, ℕ, zero, suc, ◌-◌, ◌<◌, eqb, take, drop, get_or}
+use Rattle.std.specs.Prelude.{Bool, true, false, ◌&&◌, List, ◌≡◌, ℕ, zero, suc, ◌-◌, eqb, take, drop}
 use Rattle.laws.specs.Lists.{same}
 use Rattle.table.specs.Lent.{Lent, within_buffers}
 use Rattle.table.specs.Rows.{place_in, start_in, length_in}

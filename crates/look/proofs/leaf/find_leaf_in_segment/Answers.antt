@@ -2,7 +2,7 @@
 -- the buffers.
 -- Assumes nothing.
 use mathlib.Core.Bool.{true}
-use mathlib.Core.Path.{◌≡◌, refl, sym, ◌∙◌}
+use mathlib.Core.Path.{◌≡◌, sym, ◌∙◌}
 use Prim.Native.Nat.{ℕ, ◌*◌, ◌≤◌}
 use native.Mathlib.Omega.{arith}
 use lib.ListN.{length}
@@ -11,7 +11,7 @@ use Rattle.table.specs.Lent.{Lent, lent, within_buffers}
 use Rattle.table.specs.Rows.{segment_row_size}
 use Rattle.table.proofs.Lent.{segments-within, leaves-within}
 use Rattle.look.specs.declared.leaf.Place.{Place}
-use Rattle.look.specs.Looking.{numbers_of, named_fits}
+use Rattle.look.specs.Looking.{named_fits}
 use Rattle.look.proofs.Seeking.{sought_uncounted}
 use Rattle.look.proofs.NamedRows.{segment_zero, segment_past, none-found-first, named-found}
 use Rattle.look.proofs.leaf.find_leaf_in_segment.Goals as goal
