@@ -11,8 +11,9 @@ use Rattle.form.specs.declared.letters.Spelled.{Spelled}
 use Rattle.form.specs.Names.{name_of}
 use Rattle.form.specs.inner.Lettering.{spelled}
 use Rattle.form.proofs.Names.{short, spelled-whole, name-short}
-use Rattle.listing.specs.inner.Putting.{Put, PutWithin}
-use Rattle.listing.proofs.Putting.{put_as, put-within}
+use Rattle.listing.specs.declared.put.Pen.{Pen}
+use Rattle.listing.specs.inner.Putting.{Wrote}
+use Rattle.listing.proofs.Putting.{wrote_more, wrote_as}
 
 module _ (names : List (List ℕ)) (all_short : every short names ≡ true) where
   -- there is room for its letters, and putting them puts the name
@@ -20,7 +21,8 @@ module _ (names : List (List ℕ)) (all_short : every short names ≡ true) wher
     pub spelled-fits : (name.0 ≤ 3) × (length name.1 ≡ 3)
     spelled-fits = (omega (arith, ap (λ (s : Spelled). s.0) e, name-short names all_short n), ap (λ (s : Spelled). length s.1) e)
 
-    pub spelled-put : {output output' : List ℕ} {at next : ℕ} → Put output at (take name.0 name.1) output' next
-        → PutWithin 3 output at (name_of names n) output' next
-    spelled-put p =
-        put-within (put_as (ap (λ (s : Spelled). take s.0 s.1) e ∙ spelled-whole (name_of names n) (name-short names all_short n)) p) 3 (name-short names all_short n)
+    pub spelled-put : {p q : Pen} → Wrote (length (take name.0 name.1)) p (take name.0 name.1) q → Wrote 3 p (name_of names n) q
+    spelled-put w =
+        let whole : take name.0 name.1 ≡ name_of names n
+        = ap (λ (s : Spelled). take s.0 s.1) e ∙ spelled-whole (name_of names n) (name-short names all_short n) in
+        wrote_more (wrote_as w whole) (omega (arith, ap length whole, name-short names all_short n))

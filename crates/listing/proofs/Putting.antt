@@ -1,14 +1,14 @@
 -- Pieces put one behind the other are one piece.
 -- Assumes nothing.
 use mathlib.Core.List.{List, [], ◌++◌}
-use mathlib.Core.Path.{◌≡◌, refl, sym, ap, ◌∙◌}
-use Prim.Native.Nat.{ℕ, ◌+◌, ◌≤◌, ◌<◌}
+use mathlib.Core.Path.{◌≡◌, refl, ap, ◌∙◌}
+use Prim.Native.Nat.{ℕ, ◌+◌, ◌≤◌}
 use native.Mathlib.Omega.{arith}
-use lib.ListN.{length, drop, get_or, set, length-append, length-set, drop_of_length-le}
+use lib.ListN.{length, length-append}
 use lib.Seq.{sets, length-sets}
-use Rattle.laws.proofs.Parts.{left_cons}
-use Rattle.laws.proofs.Stores.{sets_first, sets-append}
-use Rattle.listing.specs.inner.Putting.{Put, PutWithin}
+use Rattle.laws.proofs.Stores.{sets-append}
+use Rattle.listing.specs.declared.put.Pen.{Pen}
+use Rattle.listing.specs.inner.Putting.{Put, PutWithin, Wrote}
 
 -- the same piece by another name
 pub put_as : {output piece same output' : List ℕ} {at next : ℕ} → piece ≡ same → Put output at piece output' next → Put output at same output' next
@@ -35,17 +35,6 @@ module _ {output : List ℕ} {at : ℕ} where
     pub put-length : length output₁ ≡ length output
     put-length = ap length p.stored ∙ length-sets output at first
 
-    -- a piece that is known to be short
-    pub put-within : (most : ℕ) → length first ≤ most → PutWithin most output at first output₁ next
-    put-within most few = record { put = p; few = omega (arith, p.reached, few) }
-
-    pub put_exact : PutWithin (length first) output at first output₁ next
-    put_exact = record { put = p; few = omega (arith, p.reached) }
-
-    -- room for it and for more leaves room for more
-    pub put-room : (more : ℕ) → at + (length first + more) ≤ length output → next + more ≤ length output₁
-    put-room more room = omega (arith, p.reached, put-length, room)
-
 pub within_as : {output piece same output' : List ℕ} {at most next : ℕ} → piece ≡ same → PutWithin most output at piece output' next
     → PutWithin most output at same output' next
 within_as e w = record { put = put_as e w.put; few = w.few }
@@ -63,32 +52,16 @@ pub within_more : {output piece output' : List ℕ} {at most more next : ℕ} �
     → PutWithin more output at piece output' next
 within_more h w = record { put = w.put; few = omega (arith, w.few, h) }
 
--- a text put byte by byte: what is left of it from i on gives the whole
-pub record Copying (text output₀ : List ℕ) (at : ℕ) (output : List ℕ) (i : ℕ) : Type 0 where
-  pub up_to : i ≤ length text
-  pub same : length output ≡ length output₀
-  pub left : sets output (at + i) (drop i text) ≡ sets output₀ at text
+-- the same of a pen
+module _ {p q : Pen} {piece : List ℕ} {most : ℕ} (w : Wrote most p piece q) where
+  pub wrote_then : {other : List ℕ} {more : ℕ} {r : Pen} → Wrote more q other r → Wrote (most + more) p (piece ++ other) r
+  wrote_then v = record { same_reference = v.same_reference ∙ w.same_reference; within = within_then w.within v.within }
 
-pub copying_begins : {text output : List ℕ} {at : ℕ} → Copying text output at output 0
-copying_begins {text} {output} {at} =
-    record { up_to = omega arith; same = refl; left = ap (λ (n : ℕ). sets output n text) (let e : at + 0 ≡ at = omega arith in e) }
+  pub wrote_more : {more : ℕ} → most ≤ more → Wrote more p piece q
+  wrote_more h = record { same_reference = w.same_reference; within = within_more h w.within }
 
-module _ {text output₀ : List ℕ} {at : ℕ} {output : List ℕ} {i : ℕ} (w : Copying text output₀ at output i) where
-  pub copying_more : i < length text → Copying text output₀ at (set output (at + i) (get_or text i 0)) (i + 1)
-  copying_more less =
-      record {
-        up_to = omega arith;
-        same = length-set output (at + i) (get_or text i 0) ∙ w.same;
-        left =
-            ap (λ (n : ℕ). sets (set output (at + i) (get_or text i 0)) n (drop (i + 1) text)) (let e : at + (i + 1) ≡ at + i + 1 = omega arith in e)
-            ∙ sym (sets_first output (at + i) (get_or text i 0) (drop (i + 1) text))
-            ∙ ap (sets output (at + i)) (sym (left_cons text i 0 less))
-            ∙ w.left;
-      }
+  pub wrote_as : {same : List ℕ} → piece ≡ same → Wrote most p same q
+  wrote_as e = record { same_reference = w.same_reference; within = within_as e w.within }
 
-  pub copying_done : length text ≤ i → Put output₀ at text output (at + i)
-  copying_done h =
-      record {
-        stored = ap (sets output (at + i)) (sym (drop_of_length-le text h)) ∙ w.left;
-        reached = omega (arith, w.up_to);
-      }
+  pub wrote_room : (more : ℕ) → p.at + (most + more) ≤ length p.output.now → q.at + more ≤ length q.output.now
+  wrote_room more room = within-room w.within more room

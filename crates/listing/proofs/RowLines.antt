@@ -2,16 +2,16 @@
 -- Assumes nothing.
 use mathlib.Core.List.{List, [], ◌++◌, append-nil}
 use mathlib.Core.Path.{◌≡◌, refl, sym, ap, ◌∙◌}
-use Prim.Native.Nat.{ℕ, ◌+◌, ◌*◌, ◌≤◌, ◌<◌}
+use Prim.Native.Nat.{ℕ, ◌+◌, ◌*◌}
 use native.Mathlib.Omega.{arith}
-use lib.ListN.{length}
 use Rattle.laws.specs.Lists.{concat}
 use Rattle.laws.specs.Tables.{values}
 use Rattle.laws.proofs.Sums.{concat-append}
 use Rattle.laws.proofs.Tables.{values-append}
 use Rattle.listing.specs.Listing.{row_line, row_lines}
-use Rattle.listing.specs.inner.Putting.{Put, PutWithin}
-use Rattle.listing.proofs.Putting.{put_as, put-nothing, put_then, put-length}
+use Rattle.listing.specs.declared.put.Pen.{Pen}
+use Rattle.listing.specs.inner.Putting.{Wrote}
+use Rattle.listing.proofs.Putting.{put_as, put-nothing, wrote_then, wrote_more, wrote_as}
 
 none_yet : (rows : List ℕ) → [] ≡ row_lines rows 0
 unfolding row_lines values concat
@@ -26,27 +26,16 @@ one_more rows i =
     ∙ ap (λ (k : ℕ). concat (values (row_line rows) 0 i) ++ row_line rows k) (let e : 0 + i ≡ i = omega arith in e))
 
 -- the lines of the rows before i stand, at most 32 bytes each
-pub record Rows (rows : List ℕ) (count : ℕ) (output₀ : List ℕ) (at : ℕ) (output : List ℕ) (next i : ℕ) : Type 0 where
-  pub up_to : i ≤ count
-  pub same : length output ≡ length output₀
-  pub few : next ≤ at + i * 32
-  pub put : Put output₀ at (row_lines rows i) output next
+pub record Rows (rows : List ℕ) (pen₀ pen : Pen) (i : ℕ) : Type 0 where
+  pub wrote : Wrote (i * 32) pen₀ (row_lines rows i) pen
 
-pub rows_begin : {rows : List ℕ} {count : ℕ} {output : List ℕ} {at : ℕ} → Rows rows count output at output at 0
-rows_begin {rows} = record { up_to = omega arith; same = refl; few = omega arith; put = put_as (none_yet rows) put-nothing }
+pub rows_begin : {rows : List ℕ} {pen : Pen} → Rows rows pen pen 0
+rows_begin {rows} =
+    record {
+      wrote =
+          record { same_reference = refl; within = record { put = put_as (none_yet rows) put-nothing; few = omega arith } };
+    }
 
-module _ {rows : List ℕ} {count : ℕ} {output₀ : List ℕ} {at : ℕ} {output : List ℕ} {next i : ℕ} (w : Rows rows count output₀ at output next i) where
-  pub rows_more : i < count → {output' : List ℕ} {after : ℕ} → PutWithin 32 output next (row_line rows i) output' after
-      → Rows rows count output₀ at output' after (i + 1)
-  rows_more less p =
-      record {
-        up_to = omega arith;
-        same = put-length p.put ∙ w.same;
-        few = omega (arith, p.few, w.few);
-        put = put_as (one_more rows i) (put_then w.put p.put);
-      }
-
-  pub rows-done : count ≤ i → PutWithin (count * 32) output₀ at (row_lines rows count) output next
-  rows-done h =
-      let e : i ≡ count = omega (arith, w.up_to) in
-      record { put = put_as (ap (row_lines rows) e) w.put; few = omega (arith, w.few, e) }
+pub rows_more : {rows : List ℕ} {pen₀ pen pen' : Pen} {i : ℕ} → Rows rows pen₀ pen i → Wrote 32 pen (row_line rows i) pen'
+    → Rows rows pen₀ pen' (i + 1)
+rows_more {rows} {i = i} w p = record { wrote = wrote_more (wrote_as (wrote_then w.wrote p) (one_more rows i)) (omega arith) }

@@ -2,103 +2,94 @@
 ghost use Rattle.std.specs.Prelude.{◌++◌, ◌+◌, ◌*◌, ◌≤◌, length};
 ghost use Rattle.listing.specs.Decimal.{decimal};
 ghost use Rattle.listing.specs.Listing.{and_number, columns, row_line, row_lines, answer_lines, context_line, count_lines, entry_of};
-ghost use Rattle.listing.specs.inner.Putting.{PutWithin, NumberReady, RowReady, RowsReady};
+ghost use Rattle.listing.specs.inner.Putting.{Wrote, NumberReady, RowReady, RowsReady};
 
-use crate::put::{put_byte, put_context, put_kind, put_number, put_text};
+use crate::put::Pen;
 use table::{Card, rows};
 
 const LF: u8 = b'\n';
 
 // A line of a name, with its `=`, and a number.
-fn put_entry(name: &[u8], n: usize, output: &mut [u8], at: usize) -> usize
-    requires { at + length name.now + 21 ≤ length output.old }
-    ensures { PutWithin (length name.now + 21) output.old at (entry_of name.now (decimal n)) output.new result }
+fn put_entry(pen: &mut Pen, name: &[u8], n: usize)
+    requires { pen.old.at + length name.now + 21 ≤ length pen.old.output.now }
+    ensures { Wrote (length name.now + 21) pen.old (entry_of name.now (decimal n)) pen.new }
 {
-    let named = put_text(name, output, at);
-    let valued = put_number(n, output, named);
-    put_byte(LF, output, valued)
+    pen.text(name);
+    pen.number(n);
+    pen.byte(LF);
 }
 
 // A comma and a number of a row, which has five digits at most.
-fn put_next(n: rows::Entry, output: &mut [u8], at: usize) -> usize
-    requires { NumberReady n output.old at }
-    ensures { PutWithin 6 output.old at (and_number n) output.new result }
+fn put_next(pen: &mut Pen, n: rows::Entry)
+    requires { NumberReady n pen.old.output.now pen.old.at }
+    ensures { Wrote 6 pen.old (and_number n) pen.new }
 {
-    let next = put_byte(b',', output, at);
-    put_number(n as usize, output, next)
+    pen.byte(b',');
+    pen.number(n as usize);
 }
 
 // The kind, owner, first leaf and leaf count of row i of the segment rows, counted from 0, a comma before each.
-fn put_columns(segments: &[rows::Entry], i: usize, output: &mut [u8], at: usize) -> usize
-    requires { RowReady segments.now i output.old at 22 }
-    ensures { PutWithin 22 output.old at (columns segments.now i) output.new result }
+fn put_columns(pen: &mut Pen, segments: &[rows::Entry], i: usize)
+    requires { RowReady segments.now i pen.old.output.now pen.old.at 22 }
+    ensures { Wrote 22 pen.old (columns segments.now i) pen.new }
 {
     let row = i * rows::SEGMENT_ROW;
-    let parted = put_byte(b',', output, at);
-    let kinded = put_kind(segments[row], output, parted);
-    let owned = put_next(segments[row + rows::OWNER], output, kinded);
-    let led = put_next(segments[row + rows::FIRST], output, owned);
-    put_next(segments[row + rows::COUNT], output, led)
+    pen.byte(b',');
+    pen.kind(segments[row]);
+    put_next(pen, segments[row + rows::OWNER]);
+    put_next(pen, segments[row + rows::FIRST]);
+    put_next(pen, segments[row + rows::COUNT]);
 }
 
 // The line of row i.
-fn put_row(segments: &[rows::Entry], i: usize, output: &mut [u8], at: usize) -> usize
-    requires { RowReady segments.now i output.old at 32 }
-    ensures { PutWithin 32 output.old at (row_line segments.now i) output.new result }
+fn put_row(pen: &mut Pen, segments: &[rows::Entry], i: usize)
+    requires { RowReady segments.now i pen.old.output.now pen.old.at 32 }
+    ensures { Wrote 32 pen.old (row_line segments.now i) pen.new }
 {
-    let named = put_text(b"seg=", output, at);
-    let numbered = put_number(i + 1, output, named);
-    let filled = put_columns(segments, i, output, numbered);
-    put_byte(LF, output, filled)
+    pen.text(b"seg=");
+    pen.number(i + 1);
+    put_columns(pen, segments, i);
+    pen.byte(LF);
 }
 
 // The lines of so many rows.
-pub(crate) fn put_rows(
-    segments: &[rows::Entry],
-    count: usize,
-    output: &mut [u8],
-    at: usize,
-) -> usize
-    requires { RowsReady segments.now count output.old at (count * 32) }
-    ensures { PutWithin (count * 32) output.old at (row_lines segments.now count) output.new result }
+pub(crate) fn put_rows(pen: &mut Pen, segments: &[rows::Entry], count: usize)
+    requires { RowsReady segments.now count pen.old.output.now pen.old.at (count * 32) }
+    ensures { Wrote (count * 32) pen.old (row_lines segments.now count) pen.new }
 {
-    let mut next = at;
-    let mut i = 0;
-    while i < count {
-        next = put_row(segments, i, output, next);
-        i += 1;
+    for i in 0..count {
+        put_row(pen, segments, i);
     }
-    next
 }
 
 // The first three lines: the listing's version, a number and its place.
-pub(crate) fn put_answer(number: u8, place: usize, output: &mut [u8]) -> usize
-    requires { 64 ≤ length output.old }
-    ensures { PutWithin 64 output.old 0 (answer_lines number place) output.new result }
+pub(crate) fn put_answer(pen: &mut Pen, number: u8, place: usize)
+    requires { pen.old.at + 64 ≤ length pen.old.output.now }
+    ensures { Wrote 64 pen.old (answer_lines number place) pen.new }
 {
-    let form = put_text(b"form=1\n", output, 0);
-    let answer = put_entry(b"answer=", number as usize, output, form);
-    put_entry(b"place=", place, output, answer)
+    pen.text(b"form=1\n");
+    put_entry(pen, b"answer=", number as usize);
+    put_entry(pen, b"place=", place);
 }
 
 // The line of a context.
-fn put_context_line(context: u8, output: &mut [u8], at: usize) -> usize
-    requires { at + 12 ≤ length output.old }
-    ensures { PutWithin 12 output.old at (context_line context) output.new result }
+fn put_context_line(pen: &mut Pen, context: u8)
+    requires { pen.old.at + 12 ≤ length pen.old.output.now }
+    ensures { Wrote 12 pen.old (context_line context) pen.new }
 {
-    let named = put_text(b"context=", output, at);
-    let valued = put_context(context, output, named);
-    put_byte(LF, output, valued)
+    pen.text(b"context=");
+    pen.context(context);
+    pen.byte(LF);
 }
 
 // The lines of a card, and of the bytes that the writer would give.
-pub(crate) fn put_counts(card: Card, size: usize, output: &mut [u8], at: usize) -> usize
-    requires { at + 128 ≤ length output.old }
-    ensures { PutWithin 128 output.old at (count_lines card size) output.new result }
+pub(crate) fn put_counts(pen: &mut Pen, card: Card, size: usize)
+    requires { pen.old.at + 128 ≤ length pen.old.output.now }
+    ensures { Wrote 128 pen.old (count_lines card size) pen.new }
 {
-    let context = put_context_line(card.context, output, at);
-    let segments = put_entry(b"segments=", card.segments, output, context);
-    let leaves = put_entry(b"leaves=", card.leaves, output, segments);
-    let text = put_entry(b"text=", card.text, output, leaves);
-    put_entry(b"written=", size, output, text)
+    put_context_line(pen, card.context);
+    put_entry(pen, b"segments=", card.segments);
+    put_entry(pen, b"leaves=", card.leaves);
+    put_entry(pen, b"text=", card.text);
+    put_entry(pen, b"written=", size);
 }

@@ -5,9 +5,10 @@ ghost use Rattle.order.specs.Owners.{level};
 ghost use Rattle.table.specs.Lent.{lent};
 ghost use Rattle.write.specs.Answer.{written_size};
 ghost use Rattle.listing.specs.Listing.{ListedAs, count_lines, row_lines};
-ghost use Rattle.listing.specs.inner.Putting.{PutWithin, RowsReady};
+ghost use Rattle.listing.specs.inner.Putting.{Wrote, RowsReady};
 
 use crate::lines::{put_answer, put_counts, put_rows};
+use crate::put::Pen;
 use form::forms::Form;
 use form::number::Number;
 use table::{Card, rows};
@@ -32,28 +33,32 @@ pub fn list(
         return 0;
     }
     let answer = read::read(Form::Small, message, text, segments, leaves);
-    let begun = put_answer(answer.number, answer.place, list);
+    let mut pen = Pen {
+        output: list,
+        at: 0,
+    };
+    put_answer(&mut pen, answer.number, answer.place);
     if answer.number != Number::ACCEPTED {
-        return begun;
+        return pen.at;
     }
-    put_table(answer.card, segments, leaves, text, list, begun)
+    put_table(&mut pen, answer.card, segments, leaves, text);
+    pen.at
 }
 
 // The lines of a table behind the first three.
 fn put_table(
+    pen: &mut Pen,
     card: Card,
     segments: &[rows::Entry],
     leaves: &[rows::Entry],
     text: &[u8],
-    list: &mut [u8],
-    at: usize,
-) -> usize
-    requires { RowsReady segments.now card.segments list.old at (128 + card.segments * 32) }
-    ensures { PutWithin (128 + card.segments * 32) list.old at
+)
+    requires { RowsReady segments.now card.segments pen.old.output.now pen.old.at (128 + card.segments * 32) }
+    ensures { Wrote (128 + card.segments * 32) pen.old
         (count_lines card (written_size small_form level (lent card segments.now leaves.now text.now))
-        ++ row_lines segments.now card.segments) list.new result }
+        ++ row_lines segments.now card.segments) pen.new }
 {
     let size = write::size::written_bytes(Form::Small, card, segments, leaves, text);
-    let counted = put_counts(card, size, list, at);
-    put_rows(segments, card.segments, list, counted)
+    put_counts(pen, card, size);
+    put_rows(pen, segments, card.segments);
 }

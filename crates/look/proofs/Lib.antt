@@ -1,3 +1,4 @@
+pub mod Both
 pub mod FirstFits
 pub mod Seeking
 pub mod NamedRows

@@ -3,10 +3,12 @@
 use mathlib.Core.Bool.{true, false, ◌&&◌}
 use mathlib.Core.Logic.{◌⊎◌, inl, inr}
 use mathlib.Core.Path.{◌≡◌, sym, ap, ◌∙◌}
+use Rattle.std.specs.Prelude.{min}
 use Prim.Native.Nat.{ℕ, suc, ◌+◌, ◌-◌, ◌<◌, ◌≤◌}
 use native.Mathlib.Omega.{arith}
 use borrow.Author.Tests.{le-leb, lt-leb, lt-ltb, le-ltb}
 use lib.Dec.{leb, ltb}
+use Rattle.laws.proofs.Cases.{less_or_not}
 use Rattle.laws.proofs.Tests.{Tested, passed, failed, tested, and_fails_first, and_fails_second}
 use Rattle.table.specs.Lent.{Lent, within_buffers}
 use Rattle.table.specs.Rows.{first_in, count_in}
@@ -105,19 +107,20 @@ module _ (t : Lent) (p : Place) (fit : within_buffers t ≡ true) where
     none-found-first h = first_zero least most (omega (arith, h, at_first))
 
     pub named-found : {many to : ℕ} → 1 ≤ first → many ≡ count_in t.segment_rows (number - 1)
-        → (to ≤ first - 1 + many) × (to ≤ t.card.leaves) × ((to ≡ first - 1 + many) ⊎ (to ≡ t.card.leaves))
+        → to ≡ min t.card.leaves (first - 1 + many)
         → sought_from (leaf_fits t p) t.leaf_rows (first - 1) (to - (first - 1)) ≡ sought_in_segment t p
-    named-found {many} {to} begins reads-many bounds =
+    named-found {many} {to} begins reads-many ends =
         ap (λ (k : ℕ). sought_from (leaf_fits t p) t.leaf_rows (k - 1) (to - (k - 1))) at_first
-        ∙ named_part least most (omega (arith, begins, at_first)) to (omega (arith, bounds.0, at_end)) bounds.1 (either bounds.2)
+        ∙ named_part least most (omega (arith, begins, at_first)) to (omega (arith, ends, at_end)) (omega (arith, ends))
+        (either (less_or_not t.card.leaves (first - 1 + many)))
       where
         at_end : first - 1 + many ≡ first_in t.segment_rows (p.segment - 1) - 1 + count_in t.segment_rows (p.segment - 1)
         at_end = omega (arith, at_first, reads-many ∙ ap (λ (n : ℕ). count_in t.segment_rows (n - 1)) row)
 
-        either : (to ≡ first - 1 + many) ⊎ (to ≡ t.card.leaves)
+        either : (t.card.leaves < first - 1 + many) ⊎ (first - 1 + many ≤ t.card.leaves)
             → (to ≡ first_in t.segment_rows (p.segment - 1) - 1 + count_in t.segment_rows (p.segment - 1)) ⊎ (to ≡ t.card.leaves)
-        either (inl e) = inl (e ∙ at_end)
-        either (inr e) = inr e
+        either (inl h) = inr (omega (arith, ends, h))
+        either (inr h) = inl (omega (arith, ends, h, at_end))
 
 -- a place past the counted segments has no leaf, whatever the buffers hold
 pub segment_past : (t : Lent) (p : Place) → t.card.segments < p.segment → NotThere ≡ sought_in_segment t p

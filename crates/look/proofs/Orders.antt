@@ -93,26 +93,25 @@ module _ (t : Lent) (row : ℕ) (u : Lent) (other : ℕ) where
       ap₂ (λ (x y : List ℕ). same x y) (part_long t.text a n) (part_long u.text b m)
       ∙ sym (same-order-texts ∙ ap₂ (λ (x y : Sought). same_texts t.text x u.text y) e f)
 
-  module _ {s : Sought} where
-    first_decides : order_text t row ≡ s → same_texts t.text s u.text (order_text u other) ≡ false → false ≡ same_order t row u other
-    first_decides e differ = sym (same-order-texts ∙ ap (λ (x : Sought). same_texts t.text x u.text (order_text u other)) e ∙ differ)
-
-    second_decides : order_text u other ≡ s → same_texts t.text (order_text t row) u.text s ≡ false → false ≡ same_order t row u other
-    second_decides e differ = sym (same-order-texts ∙ ap (λ (y : Sought). same_texts t.text (order_text t row) u.text y) e ∙ differ)
-
-  pub first_empty : order_text t row ≡ Empty → false ≡ same_order t row u other
+  -- an order that has no text, or that is none
+  pub first_without : ((a n : ℕ) → order_text t row ≡ At a n → ⊥) → false ≡ same_order t row u other
   unfolding same_texts
-  first_empty e = first_decides e refl
+  first_without none = go (order_text t row) refl
+    where
+      go : (s : Sought) → order_text t row ≡ s → false ≡ same_order t row u other
+      go (At a n) e = absurd (none a n e)
+      go Empty e = sym (same-order-texts ∙ ap (λ (x : Sought). same_texts t.text x u.text (order_text u other)) e)
+      go NotThere e = sym (same-order-texts ∙ ap (λ (x : Sought). same_texts t.text x u.text (order_text u other)) e)
 
-  pub first_not_there : order_text t row ≡ NotThere → false ≡ same_order t row u other
-  unfolding same_texts
-  first_not_there e = first_decides e refl
-
-  pub second_empty : order_text u other ≡ Empty → false ≡ same_order t row u other
-  second_empty e = second_decides e (empty_differs t.text (order_text t row) u.text)
-
-  pub second_not_there : order_text u other ≡ NotThere → false ≡ same_order t row u other
-  second_not_there e = second_decides e (not_there_differs t.text (order_text t row) u.text)
+  pub second_without : ((b m : ℕ) → order_text u other ≡ At b m → ⊥) → false ≡ same_order t row u other
+  second_without none = go (order_text u other) refl
+    where
+      go : (s : Sought) → order_text u other ≡ s → false ≡ same_order t row u other
+      go (At b m) e = absurd (none b m e)
+      go Empty e =
+          sym (same-order-texts ∙ ap (same_texts t.text (order_text t row) u.text) e ∙ empty_differs t.text (order_text t row) u.text)
+      go NotThere e =
+          sym (same-order-texts ∙ ap (same_texts t.text (order_text t row) u.text) e ∙ not_there_differs t.text (order_text t row) u.text)
 
 -- an order, by its test: one of the counted rows, of kind 5
 pub record CountedOrder (t : Lent) (order : ℕ) : Type 0 where

@@ -1,6 +1,7 @@
 -- The search for a leaf: what one row says, the turns of the loop over the rows, and that what is found lies within the text.
 -- Assumes nothing.
 use mathlib.Core.Bool.{Bool, true, false, ◌&&◌, and-true}
+use Rattle.std.proofs.Math.Bool.{and_assoc}
 use mathlib.Core.List.{List, [], ◌∷◌}
 use mathlib.Core.Logic.{◌⊎◌, inl, inr}
 use mathlib.Core.Path.{◌≡◌, refl, sym, ap, ap₂, ◌∙◌, subst, subst⁻¹}
@@ -24,9 +25,8 @@ use Rattle.table.proofs.Lent.{text-within}
 use Rattle.look.specs.declared.leaf.Sought.{Sought}
 use Rattle.look.specs.declared.leaf.Sought.TheVariants.{At, Empty, NotThere}
 use Rattle.look.specs.declared.leaf.Place.{Place}
-use Rattle.look.specs.declared.leaf.AskedFirst.{AskedFirst}
 use Rattle.look.specs.Looking.{numbers_of, fits, leaf_fits}
-use Rattle.look.specs.inner.Searching.{found_of, AsksFirst, sought_from, sought_by, sought_in}
+use Rattle.look.specs.inner.Searching.{found_of, sought_from, sought_by, sought_in}
 
 -- the five numbers of a row's place: the row has them where each is that of the place
 
@@ -57,46 +57,25 @@ module _ (rows : List ℕ) (i : ℕ) (within : (i + 1) * leaf_row_size ≤ lengt
   unfolding same numbers_of
   same-five = rw (five-numbers, and-true (eqb (number 4) p.subsubfield))
 
-  -- the number that is asked for first
-  number_in : (k : ℕ) → k < 5 → get_or (place_in rows i) k 0 ≡ number k
-  number_in k h = get_or-take 5 (drop (i * leaf_row_size) rows) k 0 h ∙ get_or-drop (i * leaf_row_size) rows k 0
+  -- as `&&` tests them one after the other
+  pub five_tested : {two three four : Bool}
+      → two ≡ (eqb (segment_in rows i) p.segment && eqb (field_in rows i) p.field)
+      → three ≡ (two && eqb (number 2) p.repetition)
+      → four ≡ (three && eqb (number 3) p.subfield)
+      → (four && eqb (number 4) p.subsubfield) ≡ SamePlace
+  five_tested e f g = rw (g, f, e, same-five) (simp and_assoc)
 
-  pub asked_differs : (asked : AskedFirst) → AsksFirst asked p → (number asked.column ≡ asked.number → ⊥) → false ≡ SamePlace
-  asked_differs asked w n = sym (by (tested SamePlace))
-    where
-      by : Tested SamePlace → SamePlace ≡ false
-      by (passed e) =
-          absurd
-          (n (sym (number_in asked.column w.column)
-          ∙ ap (λ (l : List ℕ). get_or l asked.column 0) (same_equal (place_in rows i) (numbers_of p) e) ∙ w.number))
-      by (failed e) = e
-
-  pub segment_differs : (segment_in rows i ≡ p.segment → ⊥) → false ≡ SamePlace
-  segment_differs n = rw (same-five, ne_eqb (segment_in rows i) p.segment n)
-
-  module _ (segment : segment_in rows i ≡ p.segment) where
-    after-segment : SamePlace
-        ≡ (eqb (field_in rows i) p.field && (eqb (number 2) p.repetition && (eqb (number 3) p.subfield && eqb (number 4) p.subsubfield)))
-    after-segment = rw (same-five, eq-eqb (segment_in rows i) p.segment segment)
-
-    pub field_differs : (field_in rows i ≡ p.field → ⊥) → false ≡ SamePlace
-    field_differs n = rw (after-segment, ne_eqb (field_in rows i) p.field n)
-
-    module _ (field : field_in rows i ≡ p.field) where
-      after_field : SamePlace ≡ (eqb (number 2) p.repetition && (eqb (number 3) p.subfield && eqb (number 4) p.subsubfield))
-      after_field = rw (after-segment, eq-eqb (field_in rows i) p.field field)
-
-      pub repetition_differs : (number 2 ≡ p.repetition → ⊥) → false ≡ SamePlace
-      repetition_differs n = rw (after_field, ne_eqb (number 2) p.repetition n)
-
-      module _ (repetition : number 2 ≡ p.repetition) where
-        pub subfield_differs : (number 3 ≡ p.subfield → ⊥) → false ≡ SamePlace
-        subfield_differs n = rw (after_field, eq-eqb (number 2) p.repetition repetition, ne_eqb (number 3) p.subfield n)
-
-        -- the last number decides
-        pub subsubfield_decides : number 3 ≡ p.subfield → eqb (number 4) p.subsubfield ≡ SamePlace
-        subsubfield_decides subfield =
-            rw (after_field, eq-eqb (number 2) p.repetition repetition, eq-eqb (number 3) p.subfield subfield)
+-- a row with another field has another place
+pub field_differs : (rows : List ℕ) (i : ℕ) (p : Place) → (field_in rows i ≡ p.field → ⊥) → false ≡ same (place_in rows i) (numbers_of p)
+unfolding numbers_of
+field_differs rows i p other = sym (by (tested (same (place_in rows i) (numbers_of p))))
+  where
+    by : Tested (same (place_in rows i) (numbers_of p)) → same (place_in rows i) (numbers_of p) ≡ false
+    by (passed e) =
+        absurd
+        (other (sym (get_or-take 5 (drop (i * leaf_row_size) rows) 1 0 (omega arith) ∙ get_or-drop (i * leaf_row_size) rows 1 0)
+        ∙ ap (λ (l : List ℕ). get_or l 1 0) (same_equal (place_in rows i) (numbers_of p) e)))
+    by (failed e) = e
 
 -- what is found in a row
 abbrev pub found_at : List ℕ → ℕ → Sought

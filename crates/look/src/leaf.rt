@@ -1,12 +1,12 @@
 // The lookups of a leaf by its place: among all counted leaf rows (F1), and among those that its segment row names (F4).
-ghost use Rattle.std.specs.Prelude.{◌⊎◌, ◌≡◌, ◌+◌, ◌*◌, ◌-◌, ◌≤◌, length};
+ghost use Rattle.std.specs.Prelude.{ℕ, ◌≡◌, ◌+◌, ◌*◌, ◌-◌, ◌≤◌, length};
 ghost use Rattle.laws.specs.Lists.{same};
 ghost use Rattle.laws.specs.Parts.{whole_of};
 ghost use Rattle.table.specs.Lent.{lent};
 ghost use Rattle.table.specs.Rows.{leaf_row_size, place_in};
 ghost use Rattle.look.specs.Looking.{numbers_of, fits, sought_number};
 ghost use Rattle.look.specs.Matches.{looked_up};
-ghost use Rattle.look.specs.inner.Searching.{found_of, sought_from, sought_in, sought_in_segment, AsksFirst};
+ghost use Rattle.look.specs.inner.Searching.{found_of, sought_from, sought_in, sought_in_segment, Tells};
 
 use table::{Card, rows};
 
@@ -31,6 +31,7 @@ pub enum Sought {
 
 impl Sought {
     // The answer as a number: 1 found, 2 found empty, 0 not there.
+    // kept (C): a method and no `From`, since the public `number` ensures `sought_number`, the number that C gets.
     pub fn number(self) -> u8
         ensures { result ≡ sought_number self }
     {
@@ -55,13 +56,16 @@ pub fn find_leaf(
     ensures { result ≡ sought_in (lent card segments.now leaves.now text.now) place }
 {
     if rows::counts_fit(card, segments.len(), leaves.len(), text.len()) {
-        let asked = AskedFirst {
-            column: rows::SEGMENT,
-            number: place.segment,
-        };
-        return first_leaf(leaves, 0, card.leaves, card.text, place, asked);
+        first_leaf(
+            leaves,
+            0,
+            card.leaves,
+            card.text,
+            |row| is_at(leaves, row, place),
+        )
+    } else {
+        Sought::NotThere
     }
-    Sought::NotThere
 }
 
 // The same among the counted leaf rows that the segment row of the place names (F4): of every table that some message reads to, the same answer
@@ -92,12 +96,16 @@ pub fn find_leaf_in_segment(
         return Sought::NotThere;
     }
     let from = first - 1;
-    let to = lesser(from + rows::wide(segments[at + rows::COUNT]), card.leaves);
-    let asked = AskedFirst {
-        column: rows::FIELD,
-        number: place.field,
-    };
-    first_leaf(leaves, from, to, card.text, place, asked)
+    let to = card
+        .leaves
+        .min(from + rows::wide(segments[at + rows::COUNT]));
+    first_leaf(
+        leaves,
+        from,
+        to,
+        card.text,
+        |row| is_at_by_field(leaves, row, place),
+    )
 }
 
 // The text of the leaf at a place (F1): no copy, but that part of the lent text area, told by block, offset and bytes; an empty part where the
@@ -122,30 +130,21 @@ pub fn leaf_text<'a>(
     }
 }
 
-// The number of a place that a row is asked for first, and its column: that which tells most rows apart.
-#[derive(Clone, Copy)]
-struct AskedFirst {
-    column: usize,
-    number: rows::Entry,
-}
-
 // What the first leaf row says, of those from one on and before another, counted from 0, that has the place and stays within so many bytes.
-fn first_leaf(
+fn first_leaf<F: Fn(usize) -> bool>(
     leaves: &[rows::Entry],
     from: usize,
     to: usize,
     bytes: usize,
-    place: Place,
-    asked: AskedFirst,
+    has_place: F,
 ) -> Sought
-    requires { (to * leaf_row_size ≤ length leaves.now) × AsksFirst asked place }
-    ensures { result ≡ sought_from (fits leaves.now bytes place) leaves.now from (to - from) }
+    requires within { to * leaf_row_size ≤ length leaves.now }
+    requires asks { (row : ℕ) → (row + 1) * leaf_row_size ≤ length leaves.now → F.pre has_place row }
+    ensures { (place : Place) → Tells (F.post has_place) leaves.now place
+        → result ≡ sought_from (fits leaves.now bytes place) leaves.now from (to - from) }
 {
-    let mut next = from;
-    while next < to {
-        let row = next;
-        next += 1;
-        if is_at(leaves, row, place, asked) {
+    for row in from..to {
+        if has_place(row) {
             let at = row * rows::LEAF_ROW;
             let start = rows::wide(leaves[at + rows::START]);
             let length = rows::wide(leaves[at + rows::LENGTH]);
@@ -162,41 +161,29 @@ fn found(start: usize, length: usize) -> Sought
     ensures { result ≡ found_of start length }
 {
     if length == 0 {
-        return Sought::Empty;
+        Sought::Empty
+    } else {
+        Sought::At(start, length)
     }
-    Sought::At(start, length)
-}
-
-// The lesser of two numbers.
-fn lesser(one: usize, other: usize) -> usize
-    ensures { (result ≤ one) × (result ≤ other) × ((result ≡ one) ⊎ (result ≡ other)) }
-{
-    if one < other {
-        return one;
-    }
-    other
 }
 
 // Whether a leaf row, counted from 0, is that of a place.
-fn is_at(leaves: &[rows::Entry], row: usize, place: Place, asked: AskedFirst) -> bool
-    requires { ((row + 1) * leaf_row_size ≤ length leaves.now) × AsksFirst asked place }
+fn is_at(leaves: &[rows::Entry], row: usize, place: Place) -> bool
+    requires { (row + 1) * leaf_row_size ≤ length leaves.now }
     ensures { result ≡ same (place_in leaves.now row) (numbers_of place) }
 {
     let at = row * rows::LEAF_ROW;
-    if leaves[at + asked.column] != asked.number {
-        return false;
-    }
-    if leaves[at] != place.segment {
-        return false;
-    }
-    if leaves[at + rows::FIELD] != place.field {
-        return false;
-    }
-    if leaves[at + rows::REPETITION] != place.repetition {
-        return false;
-    }
-    if leaves[at + rows::SUBFIELD] != place.subfield {
-        return false;
-    }
-    leaves[at + rows::SUBSUBFIELD] == place.subsubfield
+    leaves[at] == place.segment
+        && leaves[at + rows::FIELD] == place.field
+        && leaves[at + rows::REPETITION] == place.repetition
+        && leaves[at + rows::SUBFIELD] == place.subfield
+        && leaves[at + rows::SUBSUBFIELD] == place.subsubfield
+}
+
+// The same, asked for the field first, which tells most rows of a segment apart.
+fn is_at_by_field(leaves: &[rows::Entry], row: usize, place: Place) -> bool
+    requires { (row + 1) * leaf_row_size ≤ length leaves.now }
+    ensures { result ≡ same (place_in leaves.now row) (numbers_of place) }
+{
+    leaves[row * rows::LEAF_ROW + rows::FIELD] == place.field && is_at(leaves, row, place)
 }

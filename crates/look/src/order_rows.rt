@@ -30,28 +30,23 @@ pub fn same_order(
         ≡ same_order (lent card segments.now leaves.now text.now) row
         (lent other_card other_segments.now other_leaves.now other_text.now) other_row }
 {
-    match order_text(card, segments, leaves, text, row) {
-        Sought::At(start, length) => {
-            let order = order_text(
-                other_card,
-                other_segments,
-                other_leaves,
-                other_text,
-                other_row,
-            );
-            match order {
-                Sought::At(other_start, other_length) => {
-                    let end = start + length;
-                    let other_end = other_start + other_length;
-                    same_bytes(&text[start..end], &other_text[other_start..other_end])
-                }
-                Sought::Empty => false,
-                Sought::NotThere => false,
-            }
-        }
-        Sought::Empty => false,
-        Sought::NotThere => false,
-    }
+    let Sought::At(start, length) = order_text(card, segments, leaves, text, row) else {
+        return false;
+    };
+    let other = order_text(
+        other_card,
+        other_segments,
+        other_leaves,
+        other_text,
+        other_row,
+    );
+    let Sought::At(other_start, other_length) = other else {
+        return false;
+    };
+    same_bytes(
+        &text[start..start + length],
+        &other_text[other_start..other_start + other_length],
+    )
 }
 
 // Where the text of leaf 9.4.2 of an order lies; a row that is no OBR has none.
@@ -64,32 +59,26 @@ fn order_text(
 ) -> Sought
     ensures { result ≡ order_text (lent card segments.now leaves.now text.now) row }
 {
-    if is_order(segments, card.segments, row) {
-        let place = Place {
-            segment: row,
-            field: 4,
-            repetition: 1,
-            subfield: 2,
-            subsubfield: 1,
-        };
-        return leaf::find_leaf(card, segments, leaves, text, place);
+    if !is_order(segments, card.segments, row) {
+        return Sought::NotThere;
     }
-    Sought::NotThere
+    let place = Place {
+        segment: row,
+        field: 4,
+        repetition: 1,
+        subfield: 2,
+        subsubfield: 1,
+    };
+    leaf::find_leaf(card, segments, leaves, text, place)
 }
 
 // Whether a row is one of so many counted rows and an OBR. Row 0, a row past the count, and a count past the segment rows are no.
 pub fn is_order(segments: &[rows::Entry], count: usize, row: rows::Entry) -> bool
     ensures { result ≡ is_order segments.now count row }
 {
-    if !segments_fit(segments, count) {
-        return false;
-    }
     let number = row as usize;
-    if number < 1 {
-        return false;
-    }
-    if count < number {
-        return false;
-    }
-    segments[(number - 1) * rows::SEGMENT_ROW] == Kind::OBR as rows::Entry
+    segments_fit(segments, count)
+        && number >= 1
+        && number <= count
+        && segments[(number - 1) * rows::SEGMENT_ROW] == Kind::OBR as rows::Entry
 }

@@ -7,6 +7,7 @@ use table::{Card, rows};
 
 // The number of the next row that has a kind and an owner, behind row `after`, or from row 1 on where that is 0 (F2). 0 where there is
 // none, or where the segment rows are fewer than the card counts.
+// kept (C): a number and no Option, since `row_after` in this public function's clause says 0 for none.
 pub fn next_row(
     card: Card,
     segments: &[rows::Entry],
@@ -16,18 +17,13 @@ pub fn next_row(
 ) -> usize
     ensures { result ≡ row_after segments.now card.segments after kind owner }
 {
-    let count = card.segments;
-    if !segments_fit(segments, count) {
+    if !segments_fit(segments, card.segments) {
         return 0;
     }
-    let mut row = after;
-    while row < count {
+    for row in after..card.segments {
         let at = row * rows::SEGMENT_ROW;
-        row += 1;
-        if segments[at] == kind {
-            if segments[at + rows::OWNER] == owner {
-                return row;
-            }
+        if segments[at] == kind && segments[at + rows::OWNER] == owner {
+            return row + 1;
         }
     }
     0

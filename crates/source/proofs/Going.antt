@@ -2,8 +2,8 @@
 -- Assumes nothing.
 use mathlib.Core.Bool.{true, false}
 use mathlib.Core.List.{List, [], ◌∷◌}
-use mathlib.Core.Logic.{◌⊎◌, inl, inr, ⊎_elim}
-use mathlib.Core.Path.{◌≡◌, refl, sym, ap, ap₂, ◌∙◌, subst⁻¹}
+use Rattle.std.specs.Prelude.{Some, None}
+use mathlib.Core.Path.{◌≡◌, refl, sym, ap, ap₂, ◌∙◌, subst}
 use Prim.Native.Nat.{ℕ, suc, ◌+◌, ◌-◌, ◌≤◌, ◌<◌}
 use native.Mathlib.Omega.{arith}
 use lib.Dec.{lit≤}
@@ -18,7 +18,7 @@ use Rattle.line.specs.inner.Ending.{handed_out}
 use Rattle.line.specs.declared.finder.Found.{Found}
 use Rattle.line.specs.declared.finder.Found.TheVariants.{Line, End, Fault}
 use Rattle.line.proofs.Handing.{walk_from-found, line-within}
-use Rattle.line.proofs.Finding.{next_of_line, found-end}
+use Rattle.line.proofs.Finding.{next_of_line}
 use Rattle.source.specs.Places.{addenda_ahead, lines_from, place_ahead}
 use Rattle.source.specs.inner.Going.{behind_addendum, addenda_from}
 use Rattle.source.specs.declared.row.LineRun.{LineRun}
@@ -39,13 +39,20 @@ module _ (f : ℕ) where
 
 -- the step over a line, by whether it is an addendum
 module _ {r : Found} (f : ℕ) (m : List ℕ) (at e n : ℕ) (h : r ≡ Line e n) where
-  pub behind_carrying : addendum f (take (e - at) (drop at m)) ≡ true → behind_addendum f m at r ≡ n
+  pub behind_carrying : addendum f (take (e - at) (drop at m)) ≡ true → behind_addendum f m at r ≡ Some n
   unfolding behind_addendum
   behind_carrying t = ap (behind_addendum f m at) h ∙ rw (t, behind_addendum)
 
-  pub behind_beginning : addendum f (take (e - at) (drop at m)) ≡ false → behind_addendum f m at r ≡ at
+  pub behind_beginning : addendum f (take (e - at) (drop at m)) ≡ false → behind_addendum f m at r ≡ None
   unfolding behind_addendum
   behind_beginning t = ap (behind_addendum f m at) h ∙ rw (t, behind_addendum)
+
+-- no step over what is no line
+pub behind_no_line : (r : Found) (f : ℕ) (m : List ℕ) (at : ℕ) → ((e n : ℕ) → r ≡ Line e n → ⊥) → behind_addendum f m at r ≡ None
+unfolding behind_addendum
+behind_no_line (Line e n) f m at none = absurd (none e n refl)
+behind_no_line End f m at none = refl
+behind_no_line (Fault k p) f m at none = refl
 
 module _ (L : Limits) (some : 1 ≤ L.line) (m : List ℕ) where
   -- the text of a line that is found at `at` and ends at e
@@ -74,9 +81,9 @@ module _ (L : Limits) (some : 1 ≤ L.line) (m : List ℕ) where
 
   -- What stands at a place: no line, an addendum, or the first line of a row.
   pub data Stands (f : ℕ) (at : ℕ) : Type 0 where
-    nothing : lines_from L m at ≡ [] → behind_addendum f m at (found_at L m at) ≡ at → Stands f at
-    carrying : (e n : ℕ) → found_at L m at ≡ Line e n → addendum f (text_to at e) ≡ true → behind_addendum f m at (found_at L m at) ≡ n → Stands f at
-    beginning : (e n : ℕ) → found_at L m at ≡ Line e n → addendum f (text_to at e) ≡ false → behind_addendum f m at (found_at L m at) ≡ at → Stands f at
+    nothing : lines_from L m at ≡ [] → behind_addendum f m at (found_at L m at) ≡ None → Stands f at
+    carrying : (e n : ℕ) → found_at L m at ≡ Line e n → addendum f (text_to at e) ≡ true → behind_addendum f m at (found_at L m at) ≡ Some n → Stands f at
+    beginning : (e n : ℕ) → found_at L m at ≡ Line e n → addendum f (text_to at e) ≡ false → behind_addendum f m at (found_at L m at) ≡ None → Stands f at
 
   pub stands : (f at : ℕ) → Stands f at
   unfolding behind_addendum
@@ -90,6 +97,15 @@ module _ (L : Limits) (some : 1 ≤ L.line) (m : List ℕ) where
       by (Line e n) h = by_line e n h (tested (addendum f (text_to at e)))
       by End h = nothing (lines_end at h) (ap (behind_addendum f m at) h)
       by (Fault k p) h = nothing (lines-fault at k p h) (ap (behind_addendum f m at) h)
+
+  -- where no line is found none stands
+  pub lines_none : (at : ℕ) → ((e n : ℕ) → found_at L m at ≡ Line e n → ⊥) → lines_from L m at ≡ []
+  lines_none at none = by (stands 0 at)
+    where
+      by : Stands 0 at → lines_from L m at ≡ []
+      by (nothing e b) = e
+      by (carrying e n h t b) = absurd (none e n h)
+      by (beginning e n h t b) = absurd (none e n h)
 
   -- an addendum at `at`, behind which comes n: one addendum more than there are from n on
   pub record AddendumHere (f at n : ℕ) : Type 0 where
@@ -111,17 +127,6 @@ module _ (L : Limits) (some : 1 ≤ L.line) (m : List ℕ) where
   none_ahead : (f at : ℕ) → lines_from L m at ≡ [] → addenda_ahead f (lines_from L m at) ≡ 0
   unfolding addenda_ahead
   none_ahead f at e = ap (addenda_ahead f) e
-
-  -- what the step over an addendum tells
-  pub step_tells : (f at : ℕ) → ((behind_addendum f m at (found_at L m at) ≡ at) × (addenda_ahead f (lines_from L m at) ≡ 0))
-      ⊎ AddendumHere f at (behind_addendum f m at (found_at L m at))
-  step_tells f at = by (stands f at)
-    where
-      by : Stands f at → ((behind_addendum f m at (found_at L m at) ≡ at) × (addenda_ahead f (lines_from L m at) ≡ 0))
-          ⊎ AddendumHere f at (behind_addendum f m at (found_at L m at))
-      by (nothing e b) = inl (b, none_ahead f at e)
-      by (carrying e n h t b) = inr (rw b (carries f at e n h t))
-      by (beginning e n h t b) = inl (b, ap (addenda_ahead f) (lines-line at e n h) ∙ ahead_none f (text_to at e) (lines_from L m n) t)
 
   -- the addenda at a place and those from n on, as the loop comes to them
   pub record Ahead (f at lines n : ℕ) : Type 0 where
@@ -151,19 +156,19 @@ module _ (L : Limits) (some : 1 ≤ L.line) (m : List ℕ) where
       let there : n ≡ place_ahead L m at (addenda_ahead f (lines_from L m at)) = sym (ap (place_ahead L m n) none) ∙ a.place in
       (ap₂ {C = LineRun} (λ (k p : ℕ). record { lines = k; next = p }) all there, a.short)
 
-  -- at the message's end there is none
-  pub ahead-ends : (f at lines n : ℕ) → Ahead f at lines n → length m ≤ n → (record { lines = lines; next = n } ≡ addenda_from L f m at) × (lines ≤ length m)
-  ahead-ends f at lines n a h = ahead_stops f at lines n a (none_ahead f n (lines_end n (found-end L.line m n h)))
+  -- a step that finds no addendum tells that none stands there, and one that finds one that one does
+  pub step_none : (f n : ℕ) → behind_addendum f m n (found_at L m n) ≡ None → addenda_ahead f (lines_from L m n) ≡ 0
+  step_none f n e = by (stands f n)
+    where
+      by : Stands f n → addenda_ahead f (lines_from L m n) ≡ 0
+      by (nothing none b) = none_ahead f n none
+      by (carrying end next h t b) = absurd (cc (e, b))
+      by (beginning end next h t b) = ap (addenda_ahead f) (lines-line n end next h) ∙ ahead_none f (text_to n end) (lines_from L m next) t
 
-  -- the step over an addendum that stays tells that none stands there, and one that goes on that one does
-  pub step-taken : (f n : ℕ) → behind_addendum f m n (found_at L m n) ≡ n → addenda_ahead f (lines_from L m n) ≡ 0
-  step-taken f n e =
-      ⊎_elim (λ (s : (behind_addendum f m n (found_at L m n) ≡ n) × (addenda_ahead f (lines_from L m n) ≡ 0)). s.1)
-      (λ (s : AddendumHere f n (behind_addendum f m n (found_at L m n))). absurd (omega (arith, e, s.later)))
-      (step_tells f n)
-
-  pub step_left : (f n r : ℕ) → r ≡ behind_addendum f m n (found_at L m n) → (r ≡ n → ⊥) → AddendumHere f n r
-  step_left f n r e other =
-      ⊎_elim (λ (s : (behind_addendum f m n (found_at L m n) ≡ n) × (addenda_ahead f (lines_from L m n) ≡ 0)). absurd (other (e ∙ s.0)))
-      (λ (s : AddendumHere f n (behind_addendum f m n (found_at L m n))). subst⁻¹ (AddendumHere f n) e s)
-      (step_tells f n)
+  pub step_some : (f n r : ℕ) → behind_addendum f m n (found_at L m n) ≡ Some r → AddendumHere f n r
+  step_some f n r e = by (stands f n)
+    where
+      by : Stands f n → AddendumHere f n r
+      by (nothing none b) = absurd (cc (e, b))
+      by (carrying end next h t b) = let same : next ≡ r = cc (e, b) in subst (AddendumHere f n) same (carries f n end next h t)
+      by (beginning end next h t b) = absurd (cc (e, b))

@@ -2,7 +2,9 @@
 -- Assumes nothing.
 use mathlib.Core.Bool.{true, false}
 use mathlib.Core.List.{List, [], ◌∷◌, map}
-use mathlib.Core.Path.{◌≡◌, refl, sym, ap, ap₂, ◌∙◌}
+use mathlib.Core.Path.{◌≡◌, refl, sym, ap, ap₂, ◌∙◌, subst}
+use Rattle.std.specs.Prelude.{Option, Some, None, MatchOption}
+use Rattle.std.specs.Option.{unwrap_or}
 use Prim.Native.Nat.{ℕ, zero, suc, ◌+◌, ◌-◌, ◌≤◌, ◌<◌}
 use native.Mathlib.Omega.{arith}
 use lib.ListN.{get_or}
@@ -99,6 +101,13 @@ module _ (L : Limits) (one : 1 ≤ L.line) (f : ℕ) (m : List ℕ) where
   unfolding row_by first_taken place_ahead
   row-none at e = ap (λ (ls : List (List ℕ)). record { lines = first_taken f ls; next = place_ahead L m at (first_taken f ls) }) e
 
+  -- the row that was found at a place, or no lines
+  pub run_or : (at : ℕ) (r : Option LineRun)
+      → MatchOption r (lines_from L m at ≡ []) (λ (run : LineRun). (run ≡ row_by L f m at) × (1 ≤ run.lines))
+      → unwrap_or r (record { lines = 0; next = at }) ≡ row_by L f m at
+  run_or at (Some run) h = h.0
+  run_or at None h = sym (row-none at h)
+
   row-taken : (at e n : ℕ) → found_at L m at ≡ Line e n → first_taken f (lines_from L m at) ≡ suc (addenda_ahead f (lines_from L m n))
   unfolding first_taken
   row-taken at e n h = ap (first_taken f) (lines-line L one m at e n h)
@@ -122,9 +131,6 @@ module _ (L : Limits) (one : 1 ≤ L.line) (f : ℕ) (m : List ℕ) where
       by (nothing e b) = e
       by (carrying e n h t b) = absurd (some e n h)
       by (beginning e n h t b) = absurd (some e n h)
-
-  pub row_empty : (at : ℕ) → (row_by L f m at).lines ≡ 0 → places_from L f m at ≡ []
-  row_empty at z = places-none at (row-none-lines at z)
 
   -- a row that begins at a place is the first from there on, and the others come behind its lines
   pub record FirstHere (at : ℕ) : Type 0 where
@@ -171,19 +177,23 @@ module _ (L : Limits) (one : 1 ≤ L.line) (m : List ℕ) (row : ℕ) where
         rest = ap (λ (r : List RowPlace). get_or (no_row_place ∷ r) row no_row_place) there.rows;
       }
 
-  -- there is no row any more
-  pub seeking_none : (at left : ℕ) → Seeking L m row at left → (row_by L f m at).lines ≡ 0 → no_row_place ≡ place_of_row L m row
-  seeking_none at zero s z = s.rest
-  seeking_none at (suc left) s z = sym (ap (λ (r : List RowPlace). get_or r left no_row_place) (row_empty L one f m at z)) ∙ s.rest
+  -- there is no row 0, and no row any more where no line is
+  pub seeking_zero : row ≡ 0 → no_row_place ≡ place_of_row L m row
+  unfolding place_of_row
+  seeking_zero z = sym (ap (λ (n : ℕ). get_or (no_row_place ∷ row_places L m) n no_row_place) z)
+
+  pub seeking_none : (at left : ℕ) → Seeking L m row at left → lines_from L m at ≡ [] → no_row_place ≡ place_of_row L m row
+  seeking_none at zero s e = s.rest
+  seeking_none at (suc left) s e = sym (ap (λ (r : List RowPlace). get_or r left no_row_place) (places-none L one f m at e)) ∙ s.rest
 
   -- it is this one
-  pub seeking_here : (at : ℕ) → Seeking L m row at 1 → ((row_by L f m at).lines ≡ 0 → ⊥)
+  seeking_here : (at : ℕ) → Seeking L m row at 1 → ((row_by L f m at).lines ≡ 0 → ⊥)
       → record { start = at; lines = (row_by L f m at).lines } ≡ place_of_row L m row
   seeking_here at s some =
       sym (ap (λ (r : List RowPlace). get_or r 0 no_row_place) (row-begins L one f m at s.head some).rows) ∙ s.rest
 
   -- it is a later one
-  pub seeking_on : (at left : ℕ) → Seeking L m row at left → ((row_by L f m at).lines ≡ 0 → ⊥) → 1 < left → Seeking L m row (row_by L f m at).next (left - 1)
+  seeking_on : (at left : ℕ) → Seeking L m row at left → ((row_by L f m at).lines ≡ 0 → ⊥) → 1 < left → Seeking L m row (row_by L f m at).next (left - 1)
   seeking_on at zero s some h = absurd (omega arith)
   seeking_on at (suc zero) s some h = absurd (omega arith)
   seeking_on at (suc (suc left)) s some h =
@@ -197,5 +207,18 @@ module _ (L : Limits) (one : 1 ≤ L.line) (m : List ℕ) (row : ℕ) where
             ∙ s.rest;
       }
 
-  pub seeking_over : (at : ℕ) → Seeking L m row at 0 → no_row_place ≡ place_of_row L m row
-  seeking_over at s = s.rest
+  -- the same by the row that was found here, by the message's own field separator
+  module _ {separator : ℕ} (named : separator ≡ f) (at : ℕ) {run : LineRun} (found : (run ≡ row_by L separator m at) × (1 ≤ run.lines)) where
+    its_run : run ≡ row_by L f m at
+    its_run = found.0 ∙ ap (λ (k : ℕ). row_by L k m at) named
+
+    some : (row_by L f m at).lines ≡ 0 → ⊥
+    some z = omega (arith, z, found.1, ap (λ (r : LineRun). r.lines) its_run)
+
+    pub row_reached : Seeking L m row at 1 → record { start = at; lines = run.lines } ≡ place_of_row L m row
+    row_reached s =
+        ap {B = RowPlace} (λ (r : LineRun). record { start = at; lines = r.lines }) its_run ∙ seeking_here at s some
+
+    pub row_passed : (left : ℕ) → Seeking L m row at left → 1 < left → Seeking L m row run.next (left - 1)
+    row_passed left s more =
+        subst (λ (r : LineRun). Seeking L m row r.next (left - 1)) (sym its_run) (seeking_on at left s some more)

@@ -17,23 +17,17 @@ pub struct Position {
 pub fn position_of(message: &[u8], offset: usize) -> Position
     ensures { result ≡ position_of message.now offset }
 {
-    if offset < message.len() {
-        return position_behind(&message[..offset]);
-    }
-    position_behind(message)
+    position_behind(&message[..offset.min(message.len())])
 }
 
 // The position behind some bytes.
 pub fn position_behind(bytes: &[u8]) -> Position
     ensures { result ≡ position_behind bytes.now }
 {
-    let mut at = 0;
     let mut ends = 0;
     let mut since = 0;
-    while at < bytes.len() {
-        let b = bytes[at];
-        at += 1;
-        if b == CR {
+    for byte in bytes {
+        if *byte == CR {
             ends += 1;
             since = 0;
         } else {

@@ -2,6 +2,7 @@
 -- Assumes nothing.
 use Rattle.std.specs.Prelude.{List, ◌≡◌, ℕ, ◌+◌, ◌*◌, ◌≤◌, ◌<◌, length, get_or}
 use Rattle.std.proofs.lemmas.List.Edits.{sets}
+use Rattle.listing.specs.declared.put.Pen.{Pen}
 use Rattle.table.specs.Rows.{segment_row_size, owner_in, first_in, count_in}
 
 -- a piece stands at a place of the output, and the next place is reached
@@ -13,6 +14,11 @@ pub record Put (output : List ℕ) (at : ℕ) (piece output' : List ℕ) (next :
 pub record PutWithin (most : ℕ) (output : List ℕ) (at : ℕ) (piece output' : List ℕ) (next : ℕ) : Type 0 where
   pub put : Put output at piece output' next
   pub few : next ≤ at + most
+
+-- a pen put a piece of so many bytes at most, and is still at the same output
+pub record Wrote (most : ℕ) (pen : Pen) (piece : List ℕ) (pen' : Pen) : Type 0 where
+  pub same_reference : pen'.output.ghost_name ≡ pen.output.ghost_name
+  pub within : PutWithin most pen.output.now pen.at piece pen'.output.now pen'.at
 
 -- the least number of six digits
 abbrev pub six_digits : ℕ

@@ -1,19 +1,17 @@
 -- How the lookups find what they answer: row by row, from the first on. What they answer is said in Matches.
 -- Assumes nothing.
-use Rattle.std.specs.Prelude.{Bool, true, false, ◌&&◌, List, ◌≡◌, ℕ, zero, suc, ◌-◌, ◌<◌, eqb, take, drop, get_or}
+use Rattle.std.specs.Prelude.{Bool, true, false, ◌&&◌, List, ◌≡◌, ℕ, zero, suc, ◌-◌, eqb, take, drop}
 use Rattle.laws.specs.Lists.{same}
 use Rattle.table.specs.Lent.{Lent, within_buffers}
-use Rattle.table.specs.Rows.{start_in, length_in}
+use Rattle.table.specs.Rows.{place_in, start_in, length_in}
 use Rattle.look.specs.declared.leaf.Sought.{Sought}
 use Rattle.look.specs.declared.leaf.Sought.TheVariants.{At, Empty, NotThere}
 use Rattle.look.specs.declared.leaf.Place.{Place}
-use Rattle.look.specs.declared.leaf.AskedFirst.{AskedFirst}
 use Rattle.look.specs.Looking.{numbers_of, leaf_fits, named_fits, segments_fit, has_kind_and_owner, order_at, order_place}
 
--- a number that rows are asked for first is the place's own in that column
-pub record AsksFirst (asked : AskedFirst) (p : Place) : Type 0 where
-  pub column : asked.column < 5
-  pub number : get_or (numbers_of p) asked.column 0 ≡ asked.number
+-- a test of rows, by what it may answer of a row, tells whether the row has a place
+pub record Tells (answers : ℕ → Bool → Type 0) (rows : List ℕ) (p : Place) : Type 0 where
+  pub tells : (i : ℕ) (b : Bool) → answers i b → b ≡ same (place_in rows i) (numbers_of p)
 
 -- what a row's start and length come to: found, or found empty where there is no byte
 unfoldable pub found_of : (start length : ℕ) → Sought

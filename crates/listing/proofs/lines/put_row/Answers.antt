@@ -7,21 +7,19 @@ use Rattle.laws.specs.Texts.{bytes}
 use Rattle.listing.specs.Decimal.{decimal}
 use Rattle.listing.specs.Listing.{entry_of, entry, row_line}
 use Rattle.listing.proofs.Decimal.{five_digits}
-use Rattle.listing.proofs.Putting.{put_exact, put-within, put-room, within-room, within_then}
+use Rattle.listing.proofs.Putting.{wrote_then, wrote_more, wrote_room}
 use Rattle.listing.proofs.lines.put_row.Goals as goal
-use Rattle.listing.proofs.lines.put_row.Goals.{After-put_text-named}
+use Rattle.listing.proofs.lines.put_row.Goals.{After-text}
 
-few : (c : After-put_text-named) → length (decimal (c.args.i + 1)) ≤ 5
+few : (c : After-text) → length (decimal (c.args.i + 1)) ≤ 5
 few c = five_digits (c.args.i + 1) c.requires.number
 
-pub overflow_add-i : goal.overflow_add-i
-overflow_add-i c = omega arith
+pub number-requires : goal.number-requires
+number-requires c =
+    omega (arith, wrote_room c.text.ensures 28 (omega (arith, c.requires.room)), few (goal.at.number-requires c).After-text)
 
-pub put_number-numbered-requires : goal.put_number-numbered-requires
-put_number-numbered-requires c = omega (arith, put-room c.put_text-named.ensures 28 (omega (arith, c.requires.room)), few (goal.at.put_number-numbered-requires c).After-put_text-named)
-
-pub put_columns-filled-requires : goal.put_columns-filled-requires
-put_columns-filled-requires c =
+pub put_columns-requires : goal.put_columns-requires
+put_columns-requires c =
     let pre = c.requires in
     record {
       rows-there = pre.rows-there;
@@ -32,19 +30,19 @@ put_columns-filled-requires c =
       room =
           omega (
             arith,
-            put-room c.put_number-numbered.ensures 23
-                (omega (arith, put-room c.put_text-named.ensures 28 (omega (arith, pre.room)), few (goal.at.put_columns-filled-requires c).After-put_text-named)),
+            wrote_room (wrote_then c.text.ensures (wrote_more c.number.ensures (few (goal.at.put_columns-requires c).After-text))) 23
+                (omega (arith, pre.room)),
           );
     }
 
-pub put_byte-requires : goal.put_byte-requires
-put_byte-requires c =
-    within-room c.put_columns-filled.ensures 1
-    (put-room c.put_number-numbered.ensures 23
-    (omega (arith, put-room c.put_text-named.ensures 28 (omega (arith, c.requires.room)), few (goal.at.put_byte-requires c).After-put_text-named)))
+pub byte-requires : goal.byte-requires
+byte-requires c =
+    wrote_room
+    (wrote_then (wrote_then c.text.ensures (wrote_more c.number.ensures (few (goal.at.byte-requires c).After-text))) c.put_columns.ensures) 1
+    (omega (arith, c.requires.room))
 
 pub returns : goal.returns
 unfolding row_line entry entry_of bytes
 returns c =
-    within_then (put_exact c.put_text-named.ensures)
-    (within_then (within_then (put-within c.put_number-numbered.ensures 5 (few (goal.at.returns c).After-put_text-named)) c.put_columns-filled.ensures) (put_exact c.put_byte.ensures))
+    wrote_then c.text.ensures
+    (wrote_then (wrote_then (wrote_more c.number.ensures (few (goal.at.returns c).After-text)) c.put_columns.ensures) c.byte.ensures)

@@ -1,7 +1,7 @@
 -- `listing::list::list` meets its contract: a short buffer, a refused message, an accepted one.
 -- Assumes nothing.
-use mathlib.Core.Path.{◌∙◌}
 use native.Mathlib.Omega.{arith}
+use Rattle.std.proofs.Common.{rules}
 use Rattle.form.specs.declared.forms.Form.TheVariants.{Small}
 use Rattle.form.specs.Forms.{small_form, limits_of}
 use Rattle.form.proofs.TwoForms.{form_lawful}
@@ -21,56 +21,48 @@ returns-then-list-lt-SIZE c =
       within = omega arith;
     }
 
-pub shape_of-text-then-answer-ne-ACCEPTED : goal.shape_of-text-then-answer-ne-ACCEPTED
-shape_of-text-then-answer-ne-ACCEPTED c = c.read-answer.auto.text
-
-pub shape_of-segments-then-answer-ne-ACCEPTED : goal.shape_of-segments-then-answer-ne-ACCEPTED
-shape_of-segments-then-answer-ne-ACCEPTED c = c.read-answer.auto.segments
-
-pub shape_of-leaves-then-answer-ne-ACCEPTED : goal.shape_of-leaves-then-answer-ne-ACCEPTED
-shape_of-leaves-then-answer-ne-ACCEPTED c = c.read-answer.auto.leaves
-
-pub shape_of-list-then-answer-ne-ACCEPTED : goal.shape_of-list-then-answer-ne-ACCEPTED
-shape_of-list-then-answer-ne-ACCEPTED c = c.put_answer-begun.auto.output
-
 pub returns-then-answer-ne-ACCEPTED : goal.returns-then-answer-ne-ACCEPTED
 unfolding listing_size limits_of
 returns-then-answer-ne-ACCEPTED c =
+    let refused =
+    list_refused small_form level c.args.message.now c.args.text.now c.args.segments.now c.args.leaves.now c.args.list.now
+    c.read-answer.ensures c.if-list-lt-SIZE.false c.if-answer-ne-ACCEPTED.true c.put_answer.ensures.within in
     record {
       listed_as =
-          list_refused small_form level c.args.message.now c.args.text.now c.args.segments.now c.args.leaves.now c.args.list.now
-          c.read-answer.ensures c.if-list-lt-SIZE.false c.if-answer-ne-ACCEPTED.true c.put_answer-begun.ensures;
-      within = omega (arith, c.put_answer-begun.ensures.few, c.if-list-lt-SIZE.false);
+          record {
+            bytes = refused.bytes;
+            listing = search (rules, refused.listing);
+            text_area = refused.text_area;
+            segment_rows = refused.segment_rows;
+            leaf_rows = refused.leaf_rows;
+          };
+      within = omega (arith, c.put_answer.ensures.within.few, c.if-list-lt-SIZE.false);
     }
 
 pub put_table-requires : goal.put_table-requires
 unfolding listing_size limits_of
 put_table-requires c =
     list_ready small_form level c.args.message.now c.args.text.now c.args.segments.now c.args.leaves.now c.args.list.now
-    c.read-answer.ensures c.if-list-lt-SIZE.false (form_lawful Small) (omega arith) (omega arith) c.if-answer-ne-ACCEPTED.false c.put_answer-begun.ensures
-
-pub shape_of-text : goal.shape_of-text
-shape_of-text c = c.read-answer.auto.text
-
-pub shape_of-segments : goal.shape_of-segments
-shape_of-segments c = c.read-answer.auto.segments
-
-pub shape_of-leaves : goal.shape_of-leaves
-shape_of-leaves c = c.read-answer.auto.leaves
-
-pub shape_of-list : goal.shape_of-list
-shape_of-list c = c.put_table.auto.list ∙ c.put_answer-begun.auto.output
+    c.read-answer.ensures c.if-list-lt-SIZE.false (form_lawful Small) (omega arith) (omega arith) c.if-answer-ne-ACCEPTED.false c.put_answer.ensures.within
 
 pub returns : goal.returns
 unfolding listing_size limits_of
 returns c =
     let ready =
     list_ready small_form level c.args.message.now c.args.text.now c.args.segments.now c.args.leaves.now c.args.list.now
-    c.read-answer.ensures c.if-list-lt-SIZE.false (form_lawful Small) (omega arith) (omega arith) c.if-answer-ne-ACCEPTED.false c.put_answer-begun.ensures in
+    c.read-answer.ensures c.if-list-lt-SIZE.false (form_lawful Small) (omega arith) (omega arith) c.if-answer-ne-ACCEPTED.false c.put_answer.ensures.within in
+    let listed =
+    list_accepted small_form level c.args.message.now c.args.text.now c.args.segments.now c.args.leaves.now c.args.list.now
+    c.read-answer.ensures c.if-list-lt-SIZE.false (form_lawful Small) (omega arith) (omega arith) c.if-answer-ne-ACCEPTED.false c.put_answer.ensures.within
+    c.put_table.ensures.within.put in
     record {
       listed_as =
-          list_accepted small_form level c.args.message.now c.args.text.now c.args.segments.now c.args.leaves.now c.args.list.now
-          c.read-answer.ensures c.if-list-lt-SIZE.false (form_lawful Small) (omega arith) (omega arith) c.if-answer-ne-ACCEPTED.false c.put_answer-begun.ensures
-          c.put_table.ensures.put;
-      within = omega (arith, c.put_table.ensures.few, ready.room, put-length c.put_answer-begun.ensures.put);
+          record {
+            bytes = listed.bytes;
+            listing = search (rules, listed.listing);
+            text_area = listed.text_area;
+            segment_rows = listed.segment_rows;
+            leaf_rows = listed.leaf_rows;
+          };
+      within = omega (arith, c.put_table.ensures.within.few, ready.room, put-length c.put_answer.ensures.within.put);
     }

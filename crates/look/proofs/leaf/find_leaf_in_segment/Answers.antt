@@ -2,15 +2,16 @@
 -- the buffers.
 -- Assumes nothing.
 use mathlib.Core.Bool.{true}
-use mathlib.Core.Path.{◌≡◌, refl, sym, ◌∙◌}
+use mathlib.Core.Path.{◌≡◌, sym, ◌∙◌}
 use Prim.Native.Nat.{ℕ, ◌*◌, ◌≤◌}
 use native.Mathlib.Omega.{arith}
 use lib.ListN.{length}
+use Rattle.std.proofs.Common.{rules}
 use Rattle.table.specs.Lent.{Lent, lent, within_buffers}
 use Rattle.table.specs.Rows.{segment_row_size}
 use Rattle.table.proofs.Lent.{segments-within, leaves-within}
 use Rattle.look.specs.declared.leaf.Place.{Place}
-use Rattle.look.specs.Looking.{numbers_of, named_fits}
+use Rattle.look.specs.Looking.{named_fits}
 use Rattle.look.proofs.Seeking.{sought_uncounted}
 use Rattle.look.proofs.NamedRows.{segment_zero, segment_past, none-found-first, named-found}
 use Rattle.look.proofs.leaf.find_leaf_in_segment.Goals as goal
@@ -77,20 +78,17 @@ returns-then-first-lt1 c =
 pub bounds-segments-at-2 : goal.bounds-segments-at-2
 bounds-segments-at-2 c = omega (arith, row_within (goal.at.bounds-segments-at-2 c).Else-number-lt1, least_here (goal.at.bounds-segments-at-2 c).Else-number-lt1)
 
-pub first_leaf-requires : goal.first_leaf-requires
-unfolding numbers_of
-first_leaf-requires c =
-    let t = table_of (goal.at.first_leaf-requires c).Else-number-lt1 in (
-      omega (
-        arith,
-        c.lesser-to.ensures.1,
-        leaves-within t.card (length t.segment_rows) (length t.leaf_rows) (length t.text) (fit_here (goal.at.first_leaf-requires c).Else-not-counts_fit),
-      ),
-      record { column = omega arith; number = refl },
+pub first_leaf-requires-clause-within : goal.first_leaf-requires-clause-within
+first_leaf-requires-clause-within c =
+    let t = table_of (goal.at.first_leaf-requires-clause-within c).Else-number-lt1 in
+    omega (
+      arith,
+      c.min-to.ensures,
+      leaves-within t.card (length t.segment_rows) (length t.leaf_rows) (length t.text) (fit_here (goal.at.first_leaf-requires-clause-within c).Else-not-counts_fit),
     )
 
 pub returns : goal.returns
 returns c =
-    c.first_leaf.ensures
+    c.first_leaf.ensures c.args.place (record { tells = λ i b e. search rules })
     ∙ named-found (table_of (goal.at.returns c).Else-number-lt1) (sought_of (goal.at.returns c).Else-number-lt1) (fit_here (goal.at.returns c).Else-not-counts_fit) (number_is (goal.at.returns c).Else-number-lt1) (least_here (goal.at.returns c).Else-number-lt1)
-    (most_here (goal.at.returns c).Else-number-lt1) c.wide-first.ensures.0 c.if-first-lt1.false c.wide.ensures.0 c.lesser-to.ensures
+    (most_here (goal.at.returns c).Else-number-lt1) c.wide-first.ensures.0 c.if-first-lt1.false c.wide.ensures.0 c.min-to.ensures

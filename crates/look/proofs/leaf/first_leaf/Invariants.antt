@@ -1,11 +1,9 @@
 -- `look::leaf::first_leaf` meets its contract. The loop's invariant: what is left of the rows gives what all of them give.
--- The measure is the rows that are left. Assumes nothing.
-use Prim.Native.Nat.{◌-◌}
+-- Assumes nothing.
+use Rattle.look.specs.declared.leaf.Place.{Place}
+use Rattle.look.specs.inner.Searching.{Tells}
 use Rattle.look.proofs.Seeking.{Seeking}
 use Rattle.look.proofs.leaf.first_leaf.Given as goal
 
-abbrev pub invariant-loop-next : goal.invariant-loop-next
-invariant-loop-next l = Seeking l.leaves l.bytes l.place l.from l.to l.next
-
-abbrev pub decreases-loop-next : goal.decreases-loop-next
-decreases-loop-next l = l.to - l.next
+abbrev pub invariant-loop-row : goal.invariant-loop-row
+invariant-loop-row g l = (p : Place) → Tells (goal.F-post g l.has_place) l.leaves p → Seeking l.leaves l.bytes p l.from l.to l.row

@@ -7,5 +7,5 @@ use Rattle.look.proofs.leaf.found.Goals as goal
 pub returns-then-length-eq0 : goal.returns-then-length-eq0
 returns-then-length-eq0 c = sym (found_empty c.args.start c.args.length c.if-length-eq0.true)
 
-pub returns : goal.returns
-returns c = sym (found_some c.args.start c.args.length c.if-length-eq0.false)
+pub returns-else-length-eq0 : goal.returns-else-length-eq0
+returns-else-length-eq0 c = sym (found_some c.args.start c.args.length c.if-length-eq0.false)

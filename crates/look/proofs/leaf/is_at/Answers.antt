@@ -1,79 +1,39 @@
 -- `look::leaf::is_at` meets its contract: the first number that differs, or the last one, decides.
 -- Assumes nothing.
-use native.Mathlib.Omega.{arith}
-use Rattle.look.proofs.Seeking.{asked_differs, segment_differs, field_differs, repetition_differs, subfield_differs, subsubfield_decides}
+use mathlib.Core.Bool.{◌&&◌}
+use mathlib.Core.Path.{◌≡◌, sym, ◌∙◌}
+use borrow.Author.Tests.{eq-eqb, ne_eqb}
+use lib.Dec.{eqb}
+use lib.ListN.{get_or}
+use Prim.Native.Nat.{◌+◌, ◌*◌}
+use Rattle.laws.specs.Lists.{same}
+use Rattle.table.specs.Rows.{leaf_row_size, place_in}
+use Rattle.look.specs.Looking.{numbers_of}
+use Rattle.look.proofs.Both.{goes_on, stops}
+use Rattle.look.proofs.Seeking.{five_tested}
 use Rattle.look.proofs.leaf.is_at.Goals as goal
+use Rattle.look.proofs.leaf.is_at.Goals.{Joined-leaves-at-3, then-leaves-at, else-leaves-at, then-leaves-at-2, else-leaves-at-2, then-leaves-at-3, else-leaves-at-3}
 
-pub overflow_mul-at : goal.overflow_mul-at
-overflow_mul-at c = omega arith
-
-pub overflow_add-at : goal.overflow_add-at
-overflow_add-at c = omega arith
-
-pub offset_bounds-leaves-at : goal.offset_bounds-leaves-at
-offset_bounds-leaves-at c = omega arith
-
-pub bounds-leaves-at : goal.bounds-leaves-at
-bounds-leaves-at c = omega arith
-
-pub returns-then-leaves-at : goal.returns-then-leaves-at
-returns-then-leaves-at c = asked_differs c.args.leaves.now c.args.row c.requires.0 c.args.place c.args.asked c.requires.1 c.if-leaves-at.true
-
-pub offset_bounds-leaves-at-2 : goal.offset_bounds-leaves-at-2
-offset_bounds-leaves-at-2 c = omega arith
-
-pub bounds-leaves-at-2 : goal.bounds-leaves-at-2
-bounds-leaves-at-2 c = omega arith
-
-pub returns-then-leaves-at-2 : goal.returns-then-leaves-at-2
-returns-then-leaves-at-2 c = segment_differs c.args.leaves.now c.args.row c.requires.0 c.args.place c.if-leaves-at-2.true
-
-pub overflow_add-at-2 : goal.overflow_add-at-2
-overflow_add-at-2 c = omega arith
-
-pub offset_bounds-leaves-at-3 : goal.offset_bounds-leaves-at-3
-offset_bounds-leaves-at-3 c = omega arith
-
-pub bounds-leaves-at-3 : goal.bounds-leaves-at-3
-bounds-leaves-at-3 c = omega arith
-
-pub returns-then-leaves-at-3 : goal.returns-then-leaves-at-3
-returns-then-leaves-at-3 c = field_differs c.args.leaves.now c.args.row c.requires.0 c.args.place c.if-leaves-at-2.false c.if-leaves-at-3.true
-
-pub overflow_add-at-3 : goal.overflow_add-at-3
-overflow_add-at-3 c = omega arith
-
-pub offset_bounds-leaves-at-4 : goal.offset_bounds-leaves-at-4
-offset_bounds-leaves-at-4 c = omega arith
-
-pub bounds-leaves-at-4 : goal.bounds-leaves-at-4
-bounds-leaves-at-4 c = omega arith
+-- the five tests, by the first four and the last
+decided : (c : Joined-leaves-at-3) → (c.if-leaves-at-3.value && eqb (get_or c.args.leaves.now (c.args.row * leaf_row_size + 4) 0) c.args.place.subsubfield)
+    ≡ same (place_in c.args.leaves.now c.args.row) (numbers_of c.args.place)
+decided c =
+    five_tested c.args.leaves.now c.args.row c.requires c.args.place
+    (elim c.if-leaves-at.branch [
+      | then-leaves-at w ↦ goes_on (eq-eqb _ _ w.if-leaves-at.true) w.value-is
+      | else-leaves-at w ↦ stops _ (ne_eqb _ _ w.if-leaves-at.false) w.value-is
+    ])
+    (elim c.if-leaves-at-2.branch [
+      | then-leaves-at-2 w ↦ goes_on w.if-leaves-at-2.true w.value-is
+      | else-leaves-at-2 w ↦ stops _ w.if-leaves-at-2.false w.value-is
+    ])
+    (elim c.if-leaves-at-3.branch [
+      | then-leaves-at-3 w ↦ goes_on w.if-leaves-at-3.true w.value-is
+      | else-leaves-at-3 w ↦ stops _ w.if-leaves-at-3.false w.value-is
+    ])
 
 pub returns-then-leaves-at-4 : goal.returns-then-leaves-at-4
-returns-then-leaves-at-4 c = repetition_differs c.args.leaves.now c.args.row c.requires.0 c.args.place c.if-leaves-at-2.false c.if-leaves-at-3.false c.if-leaves-at-4.true
+returns-then-leaves-at-4 c = sym (rw c.if-leaves-at-4.true) ∙ decided (goal.at.returns-then-leaves-at-4 c).Joined-leaves-at-3
 
-pub overflow_add-at-4 : goal.overflow_add-at-4
-overflow_add-at-4 c = omega arith
-
-pub offset_bounds-leaves-at-5 : goal.offset_bounds-leaves-at-5
-offset_bounds-leaves-at-5 c = omega arith
-
-pub bounds-leaves-at-5 : goal.bounds-leaves-at-5
-bounds-leaves-at-5 c = omega arith
-
-pub returns-then-leaves-at-5 : goal.returns-then-leaves-at-5
-returns-then-leaves-at-5 c = subfield_differs c.args.leaves.now c.args.row c.requires.0 c.args.place c.if-leaves-at-2.false c.if-leaves-at-3.false c.if-leaves-at-4.false c.if-leaves-at-5.true
-
-pub overflow_add-result : goal.overflow_add-result
-overflow_add-result c = omega arith
-
-pub offset_bounds-leaves-at-6 : goal.offset_bounds-leaves-at-6
-offset_bounds-leaves-at-6 c = omega arith
-
-pub bounds-leaves-at-6 : goal.bounds-leaves-at-6
-bounds-leaves-at-6 c = omega arith
-
-pub returns : goal.returns
-returns c =
-    subsubfield_decides c.args.leaves.now c.args.row c.requires.0 c.args.place c.if-leaves-at-2.false c.if-leaves-at-3.false c.if-leaves-at-4.false
-    c.if-leaves-at-5.false
+pub returns-else-leaves-at-4 : goal.returns-else-leaves-at-4
+returns-else-leaves-at-4 c = c.if-leaves-at-4.false ∙ sym (rw c.if-leaves-at-4.false) ∙ decided (goal.at.returns-else-leaves-at-4 c).Joined-leaves-at-3

@@ -1,11 +1,7 @@
 -- `look::row::next_row` meets its contract. The loop's invariant: what is left of the rows gives what all after the given one give.
--- The measure is the rows that are left. Assumes nothing.
-use Prim.Native.Nat.{◌-◌}
+-- Assumes nothing.
 use Rattle.look.proofs.RowSearch.{RowSearch}
 use Rattle.look.proofs.row.next_row.Given as goal
 
 abbrev pub invariant-loop-row : goal.invariant-loop-row
-invariant-loop-row l = RowSearch l.segments l.count l.after l.kind l.owner l.row
-
-abbrev pub decreases-loop-row : goal.decreases-loop-row
-decreases-loop-row l = l.count - l.row
+invariant-loop-row l = RowSearch l.segments l.fn.card.segments l.after l.kind l.owner l.row

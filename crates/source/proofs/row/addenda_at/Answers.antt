@@ -4,44 +4,25 @@
 use mathlib.Core.Path.{sym, ◌∙◌}
 use native.Mathlib.Omega.{arith}
 use Rattle.form.specs.Forms.{small_form}
-use Rattle.source.proofs.Going.{one, AddendumHere, ahead-begins, ahead_goes, ahead_stops, ahead-ends, step-taken, step_left}
+use Rattle.source.proofs.Going.{one, AddendumHere, ahead_goes, ahead_stops, step_none, step_some}
 use Rattle.source.proofs.row.addenda_at.Goals as goal
-use Rattle.source.proofs.row.addenda_at.Goals.{Else-behind-next}
+use Rattle.source.proofs.row.addenda_at.Goals.{In-Some}
 
 -- an addendum stands here
-carried_on : (c : Else-behind-next)
-    → AddendumHere small_form one c.args.message.now c.args.field
-    c.loop-next.next c.behind_addendum-behind.result
+carried_on : (c : In-Some) → AddendumHere small_form one c.args.message.now c.args.field c.loop-behind.next c.in-Some.behind
 carried_on c =
-    let a = c.args in
-    step_left small_form one a.message.now a.field c.loop-next.next c.behind_addendum-behind.result c.behind_addendum-behind.ensures c.if-behind-next.false
+    step_some small_form one c.args.message.now c.args.field c.loop-behind.next c.in-Some.behind (sym c.behind_addendum.ensures ∙ c.in-Some.is)
 
-pub loop-next-init : goal.loop-next-init
-loop-next-init c =
-    let a = c.args in
-    ahead-begins small_form one a.message.now a.field a.at
+pub loop-behind-smaller : goal.loop-behind-smaller
+loop-behind-smaller c =
+    let here = carried_on (goal.at.loop-behind-smaller c).In-Some in omega (arith, here.later, here.within)
 
-pub behind_addendum-behind-requires : goal.behind_addendum-behind-requires
-behind_addendum-behind-requires c = tt
-
-pub returns-then-behind-next : goal.returns-then-behind-next
-returns-then-behind-next c =
-    let a = c.args in
-    ahead_stops small_form one a.message.now a.field a.at c.loop-next.lines c.loop-next.next c.loop-next.invariant
-    (step-taken small_form one a.message.now a.field c.loop-next.next (sym c.behind_addendum-behind.ensures ∙ c.if-behind-next.true))
-
-pub overflow_add-lines : goal.overflow_add-lines
-overflow_add-lines c = omega (arith, c.loop-next.invariant.short, c.well_formed)
-
-pub loop-next-smaller : goal.loop-next-smaller
-loop-next-smaller c = omega (arith, (carried_on c).later, (carried_on c).within)
-
-pub loop-next-preserved : goal.loop-next-preserved
-loop-next-preserved c =
-    let a = c.args in
-    ahead_goes small_form one a.message.now a.field a.at c.loop-next.lines c.loop-next.next c.behind_addendum-behind.result c.loop-next.invariant (carried_on c)
+pub loop-behind-preserved : goal.loop-behind-preserved
+loop-behind-preserved c =
+    ahead_goes small_form one c.args.message.now c.args.field c.args.at c.loop-behind.lines c.loop-behind.next c.in-Some.behind
+    c.loop-behind.invariant (carried_on (goal.at.loop-behind-preserved c).In-Some)
 
 pub returns : goal.returns
 returns c =
-    let a = c.args in
-    ahead-ends small_form one a.message.now a.field a.at c.loop-next.lines c.loop-next.next c.loop-next.invariant c.loop-next-test.false
+    ahead_stops small_form one c.args.message.now c.args.field c.args.at c.loop-behind.lines c.loop-behind.next c.loop-behind.invariant
+    (step_none small_form one c.args.message.now c.args.field c.loop-behind.next (sym c.behind_addendum.ensures ∙ c.in_default.is))

@@ -7,8 +7,8 @@ use Rattle.form.specs.Forms.{small_form}
 use Rattle.source.proofs.Going.{one, Ahead}
 use Rattle.source.proofs.row.addenda_at.Given as goal
 
-abbrev pub invariant-loop-next : goal.invariant-loop-next
-invariant-loop-next l = Ahead small_form one l.message l.field l.at l.lines l.next
+abbrev pub invariant-loop-behind : goal.invariant-loop-behind
+invariant-loop-behind l = Ahead small_form one l.message l.field l.at l.lines l.next
 
-abbrev pub decreases-loop-next : goal.decreases-loop-next
-decreases-loop-next l = length l.message - l.next
+abbrev pub decreases-loop-behind : goal.decreases-loop-behind
+decreases-loop-behind l = length l.message - l.next
