@@ -4,11 +4,10 @@ ghost use Rattle.std.proofs.lemmas.List.Edits.{sets};
 ghost use Rattle.value.specs.Numerals.{most_digits};
 ghost use Rattle.value.specs.Writing.{WroteValue, refuses_value, spelling_told};
 ghost use Rattle.value.specs.inner.Digits.{last_digits, tenths, digit_count};
-ghost use Rattle.value.specs.inner.Shortening.{Spellable, PutText, greater_of, digits_for, sign_text, pointed, text_for};
+ghost use Rattle.value.specs.inner.Shortening.{Spellable, PutText, digits_for, sign_text, pointed, text_for};
 
 use crate::digits::{DIGITS, ROOM, TOO_LARGE};
 use crate::refusal::Refusal;
-use crate::sign::without_sign;
 use form::number::Number;
 
 // As many numbers as four digits say.
@@ -26,23 +25,21 @@ pub struct ValueWritten {
 pub fn write_value(whole: i64, decimals: usize, output: &mut [u8]) -> ValueWritten
     ensures { WroteValue most_digits whole decimals output.old result output.new }
 {
-    let value = without_sign(whole);
-    if TOO_LARGE <= value.magnitude {
-        return refusal(Refusal::OUT_OF_RANGE);
-    }
-    if DIGITS < decimals {
-        return refusal(Refusal::OUT_OF_RANGE);
-    }
-    if output.len() < ROOM {
-        return refusal(Refusal::NARROW_OUTPUT);
-    }
-    ValueWritten {
-        number: Number::ACCEPTED,
-        bytes: put_value(value.negative, value.magnitude, decimals, output),
+    let magnitude = whole.unsigned_abs();
+    if TOO_LARGE <= magnitude || DIGITS < decimals {
+        refusal(Refusal::OUT_OF_RANGE)
+    } else if output.len() < ROOM {
+        refusal(Refusal::NARROW_OUTPUT)
+    } else {
+        ValueWritten {
+            number: Number::ACCEPTED,
+            bytes: put_value(whole < 0, magnitude, decimals, output),
+        }
     }
 }
 
 // A refusal, with no byte written.
+#[tactic(auto, unfolding(crate::specs::Writing::spelling_told))]
 fn refusal(number: u8) -> ValueWritten
     ensures { result ≡ spelling_told (refuses_value number) }
 {
@@ -58,10 +55,11 @@ fn put_value(negative: bool, magnitude: u64, decimals: usize, output: &mut [u8])
     let start = put_sign(negative, output);
     if decimals == 0 {
         put_digits(magnitude, digits, output, start);
-        return start + digits;
+        start + digits
+    } else {
+        put_pointed(magnitude, digits, decimals, output, start);
+        start + digits + 1
     }
-    put_pointed(magnitude, digits, decimals, output, start);
-    start + digits + 1
 }
 
 // So many digits of a number from a place of the output on, with a point before the decimals: these first, then the point, then what is left
@@ -78,15 +76,17 @@ fn put_pointed(magnitude: u64, digits: usize, decimals: usize, output: &mut [u8]
 }
 
 // A minus at the front of the output, or nothing: how many bytes that is.
+#[tactic(auto, unfolding(crate::specs::inner::Shortening::sign_text))]
 fn put_sign(negative: bool, output: &mut [u8]) -> usize
     requires { 1 ≤ length output.old }
     ensures { PutText (sign_text negative) output.old result output.new }
 {
     if negative {
         output[0] = b'-';
-        return 1;
+        1
+    } else {
+        0
     }
-    0
 }
 
 // The last digits of a number, so many of them, zeros in front where it has fewer, from a place of the output on. What comes back is the
@@ -106,12 +106,12 @@ fn put_digits(magnitude: u64, count: usize, output: &mut [u8], at: usize) -> u64
 }
 
 // How many digits are written: as many as the number has, as many as there are decimals, and one at least.
+#[tactic(auto, unfolding(crate::specs::inner::Shortening::digits_for))]
 fn digits_for(magnitude: u64, decimals: usize) -> usize
     requires { magnitude < 10 ^ most_digits }
     ensures { result ≡ digits_for most_digits magnitude decimals }
 {
-    let digits = digit_count(magnitude);
-    greater(greater(digits, decimals), 1)
+    digit_count(magnitude).max(decimals).max(1)
 }
 
 // How many digits a number has; 0 has none. Four are taken off in a turn, since a division costs more than the comparisons that it spares.
@@ -146,14 +146,4 @@ fn four_digits(magnitude: u64) -> usize
         return 3;
     }
     4
-}
-
-// The greater of two numbers.
-fn greater(one: usize, other: usize) -> usize
-    ensures { result ≡ greater_of one other }
-{
-    if one < other {
-        return other;
-    }
-    one
 }
