@@ -96,10 +96,8 @@ fn put_digits(magnitude: u64, count: usize, output: &mut [u8], at: usize) -> u64
     ensures { (result ≡ tenths count magnitude) × (output.new ≡ sets output.old at (last_digits count magnitude)) }
 {
     let mut left = magnitude;
-    let mut end = at + count;
-    while at < end {
-        end -= 1;
-        output[end] = b'0' + (left % 10) as u8;
+    for place in (at..at + count).rev() {
+        output[place] = b'0' + (left % 10) as u8;
         left /= 10;
     }
     left
