@@ -10,9 +10,6 @@ use crate::digits::{DIGITS, ROOM, TOO_LARGE};
 use crate::refusal::Refusal;
 use form::number::Number;
 
-// As many numbers as four digits say.
-const TEN_THOUSAND: u64 = 10000;
-
 // What comes back (D5): 0, 22 or 23, and how many bytes were written, 0 on a refusal.
 #[derive(Clone, Copy)]
 pub struct ValueWritten {
@@ -112,36 +109,14 @@ fn digits_for(magnitude: u64, decimals: usize) -> usize
     digit_count(magnitude).max(decimals).max(1)
 }
 
-// How many digits a number has; 0 has none. Four are taken off in a turn, since a division costs more than the comparisons that it spares.
+// How many digits a number has; 0 has none.
+#[tactic(auto, using(crate::proofs::DigitStores::count_none, crate::proofs::DigitStores::count_last))]
 fn digit_count(magnitude: u64) -> usize
     requires { magnitude < 10 ^ most_digits }
     ensures { result ≡ digit_count most_digits magnitude }
 {
-    let mut left = magnitude;
-    let mut count = 0;
-    while left >= TEN_THOUSAND {
-        left /= TEN_THOUSAND;
-        count += 4;
+    match magnitude.checked_ilog10() {
+        None => 0,
+        Some(last) => last as usize + 1,
     }
-    count + four_digits(left)
-}
-
-// How many digits a number below 10,000 has.
-fn four_digits(magnitude: u64) -> usize
-    requires { magnitude < 10000 }
-    ensures { result ≡ digit_count 4 magnitude }
-{
-    if magnitude < 10 {
-        if magnitude < 1 {
-            return 0;
-        }
-        return 1;
-    }
-    if magnitude < 100 {
-        return 2;
-    }
-    if magnitude < 1000 {
-        return 3;
-    }
-    4
 }
