@@ -13,7 +13,6 @@ pub mod WrittenDigits
 pub mod SpeltTexts
 pub mod ShortestText
 pub mod MinusZero
-pub mod TextsRead
 pub mod SignedValues
 pub mod TextsPut
 pub mod ValuesWritten

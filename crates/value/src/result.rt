@@ -5,10 +5,10 @@ ghost use Rattle.laws.specs.Tables.{passing};
 ghost use Rattle.table.specs.Lent.{lent};
 ghost use Rattle.value.specs.Numerals.{most_digits, numeral_of};
 ghost use Rattle.value.specs.Results.{numeric_type, value_field, is_numeric, of_field, leaf_text_in};
+ghost use Rattle.value.specs.inner.Said.{told};
 ghost use Rattle.value.specs.inner.Seeking.{ResultRow, FieldRows, LeafRow, result_of};
 
-use crate::numeral::{Numeral, read_numeral, says_none};
-use crate::refusal::Refusal;
+use crate::numeral::{NotSaid, Said, read_numeral};
 use form::kind::Kind;
 use look::leaf::{Place, Sought};
 use table::{Card, rows};
@@ -74,9 +74,9 @@ pub(crate) fn result_of(
     leaves: &[rows::Entry],
     text: &[u8],
     row: usize,
-) -> Numeral
+) -> Result<Said, NotSaid>
     requires { ResultRow (lent card segments.now leaves.now text.now) row }
-    ensures { result ≡ result_of most_digits (lent card segments.now leaves.now text.now) row }
+    ensures { told result ≡ result_of most_digits (lent card segments.now leaves.now text.now) row }
 {
     let at = row * rows::SEGMENT_ROW;
     let from = rows::wide(segments[at + rows::FIRST]) - 1;
@@ -84,18 +84,18 @@ pub(crate) fn result_of(
     let segment = (row + 1) as rows::Entry;
     let one = first_of_field(leaves, from, to, segment);
     if one == to {
-        return says_none(Refusal::NOT_A_NUMBER);
+        return Err(NotSaid::NotANumber);
     }
     if first_of_field(leaves, one + 1, to, segment) != to {
-        return says_none(Refusal::NOT_A_NUMBER);
+        return Err(NotSaid::NotANumber);
     }
     leaf_says(leaves, text, one)
 }
 
 // What the text of a leaf row says, counted from 0.
-fn leaf_says(leaves: &[rows::Entry], text: &[u8], row: usize) -> Numeral
+fn leaf_says(leaves: &[rows::Entry], text: &[u8], row: usize) -> Result<Said, NotSaid>
     requires { LeafRow leaves.now text.now row }
-    ensures { result ≡ numeral_of most_digits (leaf_text_in leaves.now text.now row) }
+    ensures { told result ≡ numeral_of most_digits (leaf_text_in leaves.now text.now row) }
 {
     let at = row * rows::LEAF_ROW;
     let start = rows::wide(leaves[at + rows::START]);

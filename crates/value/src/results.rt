@@ -8,9 +8,9 @@ ghost use Rattle.value.specs.Numerals.{most_digits};
 ghost use Rattle.value.specs.Results.{is_numeric, numeric_rows, refuses_values, results_told, ReadValues};
 ghost use Rattle.value.specs.inner.Seeking.{OrderRows, InOrder, Roomy, PutValues};
 
+use crate::reading::value_said;
 use crate::refusal::Refusal;
 use crate::result::{is_numeric, result_of};
-use crate::sign::signed;
 use form::forms::Form;
 use form::number::Number;
 use look::order_rows::is_order;
@@ -146,11 +146,10 @@ fn put_values(
         if row == card.segments {
             return count;
         }
-        let said = result_of(card, segments, leaves, text, row);
-        let whole = signed(said.negative, said.magnitude);
-        numbers[count] = said.number;
-        wholes[count] = whole;
-        decimals[count] = said.decimals as u8;
+        let value = value_said(result_of(card, segments, leaves, text, row));
+        numbers[count] = value.number;
+        wholes[count] = value.whole;
+        decimals[count] = value.decimals as u8;
         count += 1;
         from = row + 1;
     }

@@ -8,6 +8,7 @@ use Rattle.table.specs.Lent.{Lent, lent}
 use Rattle.table.specs.Rows.{segment_row_size}
 use Rattle.tested.proofs.NamedLeaves.{row_inside}
 use Rattle.value.specs.Numerals.{most_digits}
+use Rattle.value.specs.inner.Said.{told}
 use Rattle.value.proofs.FieldLeaves.{rows_searched, none_found, one-before, rows_behind, leaf-inside, more-found, one_found}
 use Rattle.value.proofs.result.result_of.Goals as goal
 use Rattle.value.proofs.result.result_of.Goals.{Start}
@@ -32,9 +33,9 @@ pub first_of_field-one-requires : goal.first_of_field-one-requires
 first_of_field-one-requires c = rows_searched most_digits (lent_here (goal.at.first_of_field-one-requires c).Start) c.requires.table c.args.row c.requires.counts c.wide-from.ensures.0 c.wide.ensures.0
 
 pub returns-then-one-to : goal.returns-then-one-to
+unfolding told
 returns-then-one-to c =
-    c.says_none.ensures
-    ∙ none_found most_digits (lent_here (goal.at.returns-then-one-to c).Start) c.requires.table c.args.row c.requires.counts c.wide-from.ensures.0 c.wide.ensures.0
+    none_found most_digits (lent_here (goal.at.returns-then-one-to c).Start) c.requires.table c.args.row c.requires.counts c.wide-from.ensures.0 c.wide.ensures.0
     c.first_of_field-one.ensures c.if-one-to.true
 
 pub overflow_add-one : goal.overflow_add-one
@@ -51,9 +52,9 @@ first_of_field-requires c =
     c.wide.ensures.0 c.first_of_field-one.ensures c.if-one-to.false
 
 pub returns-then-first_of_field-to : goal.returns-then-first_of_field-to
+unfolding told
 returns-then-first_of_field-to c =
-    c.says_none-then-first_of_field-to.ensures
-    ∙ more-found most_digits (lent_here (goal.at.returns-then-first_of_field-to c).Start) c.requires.table c.args.row c.requires.counts c.wide-from.ensures.0
+    more-found most_digits (lent_here (goal.at.returns-then-first_of_field-to c).Start) c.requires.table c.args.row c.requires.counts c.wide-from.ensures.0
     c.wide.ensures.0 c.first_of_field-one.ensures c.if-one-to.false c.first_of_field.ensures c.if-first_of_field-to.true
 
 pub leaf_says-requires : goal.leaf_says-requires

@@ -1,19 +1,20 @@
 -- `value::results::put_values` meets its contract. The loop's invariant: what is left to put gives the whole, in each of the three buffers.
 -- The measure is the rows that are left. Assumes nothing.
-use mathlib.Core.Path.{subst⁻¹}
+use mathlib.Core.Path.{ap, ◌∙◌, subst⁻¹}
 use Prim.Native.Nat.{ℕ, suc, ◌≤◌}
 use native.Mathlib.Omega.{arith}
 use lib.ListN.{length}
 use Rattle.laws.proofs.Passing.{FirstPassed, found_first, found_none}
 use Rattle.table.specs.Lent.{Lent, lent}
 use Rattle.value.specs.Numerals.{most_digits}
+use Rattle.value.specs.Values.{with_sign}
+use Rattle.value.specs.inner.Said.{told}
 use Rattle.value.specs.Results.{is_numeric, numeric_rows}
 use Rattle.value.proofs.NumberParts.{Small}
 use Rattle.value.proofs.ResultsPut.{Answering, answering_begins, answering_on, answering_done, result_small, one_left}
-use Rattle.value.proofs.SignedValues.{small_signs}
-use Rattle.value.proofs.Signs.{bits_signed}
+use Rattle.value.proofs.SignedValues.{small_signs, bits_said, decimals_said}
 use Rattle.value.proofs.results.put_values.Goals as goal
-use Rattle.value.proofs.results.put_values.Goals.{After-result_of-said, Else-row-card, Start}
+use Rattle.value.proofs.results.put_values.Goals.{After-value_said-value, Else-row-card, Start}
 
 abbrev lent_here : Start → Lent
 lent_here c = lent c.args.card c.args.segments.now c.args.leaves.now c.args.text.now
@@ -34,9 +35,9 @@ more_here c =
     one_left (lent_here (goal.at.Else-row-card c).Start) c.args.order c.loop-card.invariant.seen (first_here c)
 
 -- what the result says is small
-small_here : (c : After-result_of-said) → Small most_digits c.result_of-said.result
+small_here : (c : After-value_said-value) → Small most_digits (told c.result_of.result)
 small_here c =
-    result_small most_digits (lent_here (goal.at.After-result_of-said c).Start) c.next_result-row.result c.result_of-said.ensures
+    result_small most_digits (lent_here (goal.at.After-value_said-value c).Start) c.next_result-row.result c.result_of.ensures
 
 pub loop-card-init : goal.loop-card-init
 loop-card-init c =
@@ -63,11 +64,12 @@ returns-then-row-card c =
     (found_none (is_numeric (lent_here (goal.at.returns-then-row-card c).Start) c.args.order) c.loop-card.from c.args.card.segments c.next_result-row.result
     c.loop-card.invariant.seen.within c.next_result-row.ensures c.if-row-card.true)
 
-pub result_of-said-requires : goal.result_of-said-requires
-result_of-said-requires c = record { table = c.requires.rows.table; counts = (first_here c).within }
+pub result_of-requires : goal.result_of-requires
+result_of-requires c = record { table = c.requires.rows.table; counts = (first_here c).within }
 
-pub signed-whole-requires : goal.signed-whole-requires
-signed-whole-requires c = small_signs (small_here c)
+pub value_said-value-requires : goal.value_said-value-requires
+value_said-value-requires c =
+    small_signs (result_small most_digits (lent_here (goal.at.value_said-value-requires c).Start) c.next_result-row.result c.result_of.ensures)
 
 pub bounds-numbers-count : goal.bounds-numbers-count
 bounds-numbers-count c = omega (arith, more_here (goal.at.bounds-numbers-count c).Else-row-card, c.requires.numbers_hold, c.loop-card.invariant.numbers-put.kept)
@@ -79,7 +81,8 @@ pub bounds-wholes-count : goal.bounds-wholes-count
 bounds-wholes-count c = omega (arith, more_here (goal.at.bounds-wholes-count c).Else-row-card, c.requires.wholes_hold, c.loop-card.invariant.wholes_put.kept)
 
 pub overflow_cast-decimals : goal.overflow_cast-decimals
-overflow_cast-decimals c = omega (arith, (small_here (goal.at.overflow_cast-decimals c).After-result_of-said).decimals-few)
+overflow_cast-decimals c =
+    omega (arith, decimals_said (small_here (goal.at.overflow_cast-decimals c).After-value_said-value) c.value_said-value.ensures)
 
 pub bounds-decimals-count : goal.bounds-decimals-count
 bounds-decimals-count c = omega (arith, more_here (goal.at.bounds-decimals-count c).Else-row-card, c.requires.decimals_hold, c.loop-card.invariant.decimals-put.kept)
@@ -96,5 +99,5 @@ loop-card-smaller c = omega (arith, (first_here (goal.at.loop-card-smaller c).El
 pub loop-card-preserved : goal.loop-card-preserved
 loop-card-preserved c =
     answering_on most_digits (lent_here (goal.at.loop-card-preserved c).Start) c.args.order c.args.numbers.now c.args.wholes.now c.args.decimals.now c.loop-card.invariant (first_here (goal.at.loop-card-preserved c).Else-row-card)
-    c.result_of-said.ensures
-    (bits_signed c.result_of-said.result.magnitude (small_signs (small_here (goal.at.loop-card-preserved c).After-result_of-said)) c.result_of-said.result.negative c.signed-whole.ensures)
+    (c.value_said-value.ensures ∙ ap with_sign c.result_of.ensures)
+    (bits_said (small_here (goal.at.loop-card-preserved c).After-value_said-value) c.value_said-value.ensures)
