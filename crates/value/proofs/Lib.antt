@@ -1,6 +1,7 @@
 pub mod Runs
 pub mod DigitStores
 pub mod TestedTables
+pub mod FirstPassing
 pub mod FieldLeaves
 pub mod NumericRows
 pub mod Signs
