@@ -1,12 +1,11 @@
 // The numeric results of an order, in the order of their rows (D6).
-ghost use Rattle.std.specs.Prelude.{◌≡◌, ◌-◌, min, leb, length, get_or};
-ghost use Rattle.laws.specs.Tables.{passing};
+ghost use Rattle.std.specs.Prelude.{◌≡◌, leb, length};
 ghost use Rattle.form.specs.Forms.{limits_of};
 ghost use Rattle.order.specs.Owners.{level};
 ghost use Rattle.table.specs.Lent.{lent};
 ghost use Rattle.value.specs.Numerals.{most_digits};
 ghost use Rattle.value.specs.Results.{is_numeric, numeric_rows, refuses_values, results_told, ReadValues};
-ghost use Rattle.value.specs.inner.Seeking.{OrderRows, InOrder, Roomy, PutValues};
+ghost use Rattle.value.specs.inner.Seeking.{first_passing, OrderRows, InOrder, Roomy, PutValues};
 
 use crate::reading::value_said;
 use crate::refusal::Refusal;
@@ -47,7 +46,7 @@ pub fn order_values(
     if !is_order(segments, card.segments, order) {
         return refusal(Refusal::NOT_AN_ORDER);
     }
-    let room = lesser(lesser(numbers.len(), wholes.len()), decimals.len());
+    let room = numbers.len().min(wholes.len()).min(decimals.len());
     if !has_room(card, segments, leaves, text, order, room) {
         return refusal(Refusal::LITTLE_ROOM);
     }
@@ -62,6 +61,7 @@ pub fn order_values(
 }
 
 // A refusal at the place 0, with no answer put.
+#[tactic(auto, unfolding(crate::specs::Results::results_told))]
 fn refusal(number: u8) -> ValuesRead
     ensures { result ≡ results_told (refuses_values number) }
 {
@@ -70,16 +70,6 @@ fn refusal(number: u8) -> ValuesRead
         place: 0,
         count: 0,
     }
-}
-
-// The lesser of two numbers.
-fn lesser(one: usize, other: usize) -> usize
-    ensures { result ≡ min one other }
-{
-    if one < other {
-        return one;
-    }
-    other
 }
 
 // Whether so many places do for all numeric results of an order. As many as there are rows behind it always do; only where there are fewer
@@ -95,10 +85,8 @@ fn has_room(
     requires { OrderRows (lent card segments.now leaves.now text.now) order }
     ensures { result ≡ leb (length (numeric_rows (lent card segments.now leaves.now text.now) order)) room }
 {
-    if card.segments - rows::wide(order) <= room {
-        return true;
-    }
-    count_results(card, segments, leaves, text, order) <= room
+    card.segments - rows::wide(order) <= room
+        || count_results(card, segments, leaves, text, order) <= room
 }
 
 // How many numeric results an order has.
@@ -114,14 +102,11 @@ fn count_results(
 {
     let mut count = 0;
     let mut from = rows::wide(order);
-    loop {
-        let row = next_result(card, segments, leaves, text, order, from);
-        if row == card.segments {
-            return count;
-        }
+    while let Some(row) = next_result(card, segments, leaves, text, order, from) {
         count += 1;
         from = row + 1;
     }
+    count
 }
 
 // Puts the answers of an order's numeric results at the front of the three buffers, and answers how many there are.
@@ -141,11 +126,7 @@ fn put_values(
 {
     let mut count = 0;
     let mut from = rows::wide(order);
-    loop {
-        let row = next_result(card, segments, leaves, text, order, from);
-        if row == card.segments {
-            return count;
-        }
+    while let Some(row) = next_result(card, segments, leaves, text, order, from) {
         let value = value_said(result_of(card, segments, leaves, text, row));
         numbers[count] = value.number;
         wholes[count] = value.whole;
@@ -153,10 +134,11 @@ fn put_values(
         count += 1;
         from = row + 1;
     }
+    count
 }
 
-// The next numeric result of an order, of the segment rows from one on, counted from 0; the count of rows where there is none. The rows under
-// an order lie together behind it, so the first row that belongs to an earlier one ends them.
+// The next numeric result of an order, of the segment rows from one on, counted from 0. The rows under an order lie together behind it, so the
+// first row that belongs to an earlier one ends them.
 fn next_result(
     card: Card,
     segments: &[rows::Entry],
@@ -164,19 +146,17 @@ fn next_result(
     text: &[u8],
     order: rows::Entry,
     from: usize,
-) -> usize
+) -> Option<usize>
     requires { InOrder (lent card segments.now leaves.now text.now) order from }
-    ensures { result ≡ get_or (passing (is_numeric (lent card segments.now leaves.now text.now) order) from (card.segments - from)) 0 card.segments }
+    ensures { result ≡ first_passing (is_numeric (lent card segments.now leaves.now text.now) order) from card.segments }
 {
-    let mut row = from;
-    while row < card.segments {
+    for row in from..card.segments {
         if segments[row * rows::SEGMENT_ROW + rows::OWNER] < order {
-            return card.segments;
+            return None;
         }
         if is_numeric(card, segments, leaves, text, order, row) {
-            return row;
+            return Some(row);
         }
-        row += 1;
     }
-    card.segments
+    None
 }
