@@ -15,8 +15,7 @@ put_numbers-requires-2 c = room_for_leaves small_form c.args.card c.args.segment
 pub returns-then-is_table : goal.returns-then-is_table
 unfolding limits_of
 returns-then-is_table c =
-    c.if-is_table.true
-    ∙ read_now small_form c.args.card c.args.segments.now c.args.leaves.now c.args.text.now c.requires (replicate 1024 0) (replicate 14336 0)
+    read_now small_form c.args.card c.args.segments.now c.args.leaves.now c.args.text.now c.requires (replicate 1024 0) (replicate 14336 0)
     c.put_numbers.ensures c.put_numbers-2.ensures
     (room_for_segments small_form c.args.card c.args.segments.now c.args.leaves.now c.args.text.now c.requires)
     (room_for_leaves small_form c.args.card c.args.segments.now c.args.leaves.now c.args.text.now c.requires)
