@@ -40,7 +40,7 @@ fn read_by_either(card: Card, segments: &[Narrow], leaves: &[Narrow], text: &[u8
     let mut wide_leaves = [0; LEAVES];
     put_numbers(segments, &mut wide_segments);
     put_numbers(leaves, &mut wide_leaves);
-    // kept (C): must-fail/former_rule_only.edit edits the first answer; as `||` it would be refused for a goal's name, not for a fact
+    // kept (C): former_rule_only.edit edits this answer; at `||` only a name would refuse it
     if test::is_table(Form::Small, card, &wide_segments, &wide_leaves, text) {
         true
     } else {

@@ -1,4 +1,5 @@
--- The first of the numbers that pass a test, if there is one: how far a search for it has come, and what it has found.
+-- The first of the numbers that pass a test, if there is one: how far a search for it has come, and
+-- what it has found.
 -- Assumes nothing.
 use Rattle.std.specs.Prelude.{Some, None, slice_get}
 use mathlib.Core.Bool.{Bool, true, false}
@@ -12,7 +13,8 @@ use Rattle.value.specs.inner.Seeking.{first_passing}
 use Rattle.laws.proofs.Passing.{passing_hit, passing_miss, passing-none, Passed, none, first, first-passed, FirstPassed}
 
 module _ (test : ℕ → Bool) where
-  -- a search from `from` on and below `end`, before its turn at i: what passes from here on is what passes at all
+  -- a search from `from` on and below `end`, before its turn at i: what passes from here on is what
+  -- passes at all
   pub record Sought (from end i : ℕ) : Type 0 where
     pub rest : passing test i (end - i) ≡ passing test from (end - from)
 

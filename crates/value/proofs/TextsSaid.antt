@@ -1,5 +1,5 @@
--- What a text says behind its sign, told by the digits that it begins with, the byte that ends them and the digits behind that: each way out of
--- `read_numeral` is a law here.
+-- What a text says behind its sign, told by the digits that it begins with, the byte that ends them
+-- and the digits behind that: each way out of `read_numeral` is a law here.
 -- Assumes nothing.
 use mathlib.Core.Bool.{Bool, true, false, ◌||◌}
 use mathlib.Core.List.{List, [], ◌∷◌, ◌++◌, append-nil}

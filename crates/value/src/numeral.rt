@@ -7,7 +7,8 @@ ghost use Rattle.value.specs.inner.Said.{told, reason};
 use crate::digits::{DIGITS, TOO_LARGE};
 use crate::refusal::Refusal;
 
-// A number as its text says it: whether a minus stands in front; the number that all its digits make; how many of them stand behind the point.
+// A number as its text says it: whether a minus stands in front; the number that all its digits
+// make; how many of them stand behind the point.
 #[derive(Clone, Copy)]
 pub(crate) struct Said {
     pub negative: bool,
@@ -75,7 +76,8 @@ fn unsigned_text(text: &[u8]) -> &[u8]
     }
 }
 
-// How many digits a text begins with, and the number that they make behind one that was made before them.
+// How many digits a text begins with, and the number that they make behind one that was made before
+// them.
 fn digit_run(text: &[u8], before: u64) -> (usize, u64)
     ensures { result ≡ run_of most_digits text.now before }
 {

@@ -11,6 +11,7 @@ use form::number::Number;
 
 // What a text says: 0, 20 or 21 (D3); a whole number with its sign; and how many of its digits stand behind the point. So -.52 is -52 with 2.
 // Beside 20 and 21 stand 0 and 0.
+// kept (C): sargaceu_read_value answers these numbers
 #[derive(Clone, Copy)]
 pub struct Value {
     pub number: u8,

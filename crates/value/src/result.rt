@@ -20,7 +20,6 @@ const TYPE: rows::Entry = 3;
 const VALUE: rows::Entry = 6;
 
 // Whether a segment row, counted from 0, is a numeric result of an order: an OBX whose owner is the order's row, with the type NM.
-#[tactic(auto, unfolding(crate::specs::Results::is_numeric))]
 pub(crate) fn is_numeric(
     card: Card,
     segments: &[rows::Entry],
@@ -39,7 +38,6 @@ pub(crate) fn is_numeric(
 }
 
 // Whether leaf 10.3 of a segment row, counted from 0, is the type NM.
-#[tactic(auto, unfolding(crate::specs::Results::type_place))]
 fn has_numeric_type(
     card: Card,
     segments: &[rows::Entry],
@@ -105,7 +103,8 @@ fn leaf_says(leaves: &[rows::Entry], text: &[u8], row: usize) -> Result<Said, No
     read_numeral(&text[start..end])
 }
 
-// The first leaf row, of those from one on and before another, counted from 0, that belongs to field 10.6 of a segment.
+// The first leaf row, of those from one on and before another, counted from 0, that belongs to
+// field 10.6 of a segment.
 fn first_of_field(
     leaves: &[rows::Entry],
     from: usize,

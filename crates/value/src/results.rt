@@ -16,6 +16,7 @@ use look::order_rows::is_order;
 use table::{Card, rows};
 
 // What comes back (D6): 0, 13, 24 or 25, the place 0, and how many answers were put, 0 on a refusal.
+// kept (C): sargaceu_order_values answers these numbers
 #[derive(Clone, Copy)]
 pub struct ValuesRead {
     pub number: u8,
@@ -26,6 +27,7 @@ pub struct ValuesRead {
 // The numbers of all numeric results under an OBR row of a table of a form, each answer's three parts at the same place of three lent buffers: 0, 20
 // or 21; the whole number; the decimals. Entries past the count stay. Any card, any buffers and any row get an answer. Once the table is
 // tested, only the order's own rows and leaves are looked at, and the row behind them.
+// kept (C): the three buffers are those of sargaceu_order_values
 pub fn order_values(
     form: Form,
     card: Card,
@@ -137,8 +139,8 @@ fn put_values(
     count
 }
 
-// The next numeric result of an order, of the segment rows from one on, counted from 0. The rows under an order lie together behind it, so the
-// first row that belongs to an earlier one ends them.
+// The next numeric result of an order, of the segment rows from one on, counted from 0. The rows
+// under an order lie together behind it, so the first row that belongs to an earlier one ends them.
 fn next_result(
     card: Card,
     segments: &[rows::Entry],

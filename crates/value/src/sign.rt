@@ -1,4 +1,5 @@
-// Whole numbers with a sign, as a caller gets them: everything else in this crate carries sign and magnitude apart.
+// Whole numbers with a sign, as a caller gets them: everything else in this crate carries sign and
+// magnitude apart.
 ghost use Rattle.std.specs.Prelude.{◌≡◌, ◌<◌};
 ghost use Rattle.value.specs.Values.{signed_of};
 ghost use Rattle.value.specs.inner.Signs.{half_range};

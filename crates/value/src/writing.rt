@@ -11,6 +11,7 @@ use crate::refusal::Refusal;
 use form::number::Number;
 
 // What comes back (D5): 0, 22 or 23, and how many bytes were written, 0 on a refusal.
+// kept (C): sargaceu_write_value answers these numbers
 #[derive(Clone, Copy)]
 pub struct ValueWritten {
     pub number: u8,

@@ -1,4 +1,5 @@
--- `value::reading::value_said` meets its contract: a number with its sign put on, or the refusal's number.
+-- `value::reading::value_said` meets its contract: a number with its sign put on, or the refusal's
+-- number.
 -- Assumes nothing.
 use Rattle.value.proofs.SignedValues.{few_said, signed_value, refused_value}
 use Rattle.value.proofs.reading.value_said.Goals as goal

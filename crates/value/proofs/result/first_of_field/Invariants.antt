@@ -1,4 +1,5 @@
--- `value::result::first_of_field` meets its contract. The loop's invariant: the first of the rows that are left is the first of all.
+-- `value::result::first_of_field` meets its contract. The loop's invariant: the first of the rows
+-- that are left is the first of all.
 -- Assumes nothing.
 use Rattle.value.specs.Results.{value_field, of_field}
 use Rattle.value.proofs.FirstPassing.{Sought}

@@ -1,4 +1,5 @@
--- `value::result::has_numeric_type` meets its contract: the type is found among the segment's own leaves.
+-- `value::result::has_numeric_type` meets its contract: the type is found among the segment's own
+-- leaves.
 -- Assumes nothing.
 use mathlib.Core.Path.{◌≡◌, sym, ap, ◌∙◌}
 use mathlib.Core.List.{List}

@@ -1,5 +1,5 @@
--- `value::results::next_result` meets its contract. The loop's invariant: the first of the rows that are left is the first of all. A row that belongs
--- to an earlier one ends the order.
+-- `value::results::next_result` meets its contract. The loop's invariant: the first of the rows
+-- that are left is the first of all. A row that belongs to an earlier one ends the order.
 -- Assumes nothing.
 use mathlib.Core.Bool.{Bool}
 use mathlib.Core.Path.{sym, ◌∙◌}

@@ -1,4 +1,5 @@
--- `value::results::next_result` meets its contract. The loop's invariant: the first of the rows that are left is the first of all.
+-- `value::results::next_result` meets its contract. The loop's invariant: the first of the rows
+-- that are left is the first of all.
 -- Assumes nothing.
 use Rattle.table.specs.Lent.{lent}
 use Rattle.value.specs.Results.{is_numeric}
