@@ -16,7 +16,7 @@ ghost use Rattle.archive.specs.inner.Asked.{Widenable};
 ghost use Rattle.archive.specs.inner.OwnedRows.{PutNow};
 
 use crate::owned::put_rows;
-use crate::putting::{put_bytes, put_numbers};
+use crate::putting::put_numbers;
 use crate::refusal::Refusal;
 use crate::rereading::ever_read;
 use form::forms::SmallForm;
@@ -45,13 +45,10 @@ pub fn widen(
         new_text.old new_segments.old new_leaves.old
         result new_text.new new_segments.new new_leaves.new }
 {
-    if new_text.len() < SmallForm::BYTES {
-        return refuse(Number::SHORT_BUFFER);
-    }
-    if new_segments.len() < SmallForm::SEGMENTS * SEGMENT_ROW {
-        return refuse(Number::SHORT_BUFFER);
-    }
-    if new_leaves.len() < SmallForm::LEAVES * LEAF_ROW {
+    if new_text.len() < SmallForm::BYTES
+        || new_segments.len() < SmallForm::SEGMENTS * SEGMENT_ROW
+        || new_leaves.len() < SmallForm::LEAVES * LEAF_ROW
+    {
         return refuse(Number::SHORT_BUFFER);
     }
     if !ever_read(card, segments, leaves, text) {
@@ -92,7 +89,7 @@ fn put_table(
     let many = card.leaves * LEAF_ROW;
     let end = card.text;
     let levels = levels::table();
-    put_bytes(&text[..end], new_text);
+    new_text[..end].copy_from_slice(&text[..end]);
     put_rows(
         &levels,
         card.context,
@@ -104,6 +101,7 @@ fn put_table(
 }
 
 // A refusal: its place is 0, and its card is all zero (N3).
+#[tactic(auto, unfolding(read::specs::Answering::answer_of))]
 fn refuse(number: u8) -> Answer
     ensures { result ≡ answer_of (refused number 0) }
 {

@@ -9,7 +9,6 @@ ghost use Rattle.archive.specs.inner.Asked.{RowsFit};
 ghost use Rattle.archive.specs.inner.OwnedRows.{rows_owned};
 
 use crate::Narrow;
-use crate::putting::wide;
 use order::{levels, owners};
 use table::rows;
 use table::rows::Entry;
@@ -27,18 +26,16 @@ pub(crate) fn put_rows(
         (rows_owned (owners (level_in table.now context) (kind_column segments.now many)) segments.now) }
 {
     let mut nearest = owners::no_rows();
-    let mut i = 0;
-    while i < many {
+    for i in 0..many {
         let at = i * rows::SEGMENT_ROW;
         let kind = segments[at] as u8;
         let level = levels::level_of(table, context, kind);
         let row = (i + 1) as Entry;
         let owner = owners::owner_of(&mut nearest, row, kind, level);
-        let same = wide(segments[at]);
-        let first = wide(segments[at + rows::FIRST]);
-        let count = wide(segments[at + rows::COUNT]);
+        let same = Entry::from(segments[at]);
+        let first = Entry::from(segments[at + rows::FIRST]);
+        let count = Entry::from(segments[at + rows::COUNT]);
         put_row(same, owner, first, count, to, at);
-        i += 1;
     }
 }
 
@@ -47,8 +44,5 @@ fn put_row(kind: Entry, owner: Entry, first: Entry, count: Entry, to: &mut [Entr
     requires { at + segment_row_size ≤ length to.old }
     ensures { to.new ≡ sets to.old at (segment_row kind owner first count) }
 {
-    to[at] = kind;
-    to[at + rows::OWNER] = owner;
-    to[at + rows::FIRST] = first;
-    to[at + rows::COUNT] = count;
+    to[at..at + rows::SEGMENT_ROW].copy_from_slice(&[kind, owner, first, count]);
 }

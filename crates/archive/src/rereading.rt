@@ -21,15 +21,14 @@ const LEAVES: usize = SmallForm::LEAVES * rows::LEAF_ROW;
 pub(crate) fn ever_read(card: Card, segments: &[Narrow], leaves: &[Narrow], text: &[u8]) -> bool
     ensures { result ≡ ever_read small_form (lent card segments.now leaves.now text.now) }
 {
-    if !rows::counts_fit(card, SEGMENTS, LEAVES, SmallForm::BYTES) {
-        return false;
-    }
-    if !rows::counts_fit(card, segments.len(), leaves.len(), text.len()) {
-        return false;
-    }
-    let size = card.segments * rows::SEGMENT_ROW;
-    let many = card.leaves * rows::LEAF_ROW;
-    read_by_either(card, &segments[..size], &leaves[..many], text)
+    rows::counts_fit(card, SEGMENTS, LEAVES, SmallForm::BYTES)
+        && rows::counts_fit(card, segments.len(), leaves.len(), text.len())
+        && read_by_either(
+            card,
+            &segments[..card.segments * rows::SEGMENT_ROW],
+            &leaves[..card.leaves * rows::LEAF_ROW],
+            text,
+        )
 }
 
 // The same of a card that counts just these rows. The table test goes over rows as they are now, so they are put into such.
@@ -41,8 +40,10 @@ fn read_by_either(card: Card, segments: &[Narrow], leaves: &[Narrow], text: &[u8
     let mut wide_leaves = [0; LEAVES];
     put_numbers(segments, &mut wide_segments);
     put_numbers(leaves, &mut wide_leaves);
+    // kept (C): former_rule_only.edit edits this answer; at `||` only a name would refuse it
     if test::is_table(Form::Small, card, &wide_segments, &wide_leaves, text) {
-        return true;
+        true
+    } else {
+        test::is_former_table(Form::Small, card, &wide_segments, &wide_leaves, text)
     }
-    test::is_former_table(Form::Small, card, &wide_segments, &wide_leaves, text)
 }

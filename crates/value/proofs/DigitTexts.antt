@@ -1,8 +1,9 @@
 -- Texts of digits: a digit's bounds, digits behind digits, the digits that a text begins with, and the number that digits make.
 -- Assumes nothing.
-use mathlib.Core.Bool.{true, false}
+use Rattle.std.specs.Char.{is_ascii_digit}
+use mathlib.Core.Bool.{Bool, true, false}
 use mathlib.Core.List.{List, [], ◌∷◌, ◌++◌, append-nil}
-use mathlib.Core.Path.{◌≡◌, refl, ap, ◌∙◌}
+use mathlib.Core.Path.{◌≡◌, refl, sym, ap, ◌∙◌}
 use Prim.Native.Nat.{ℕ, suc, ◌+◌, ◌*◌, ◌-◌, ◌^◌, ◌≤◌, ◌<◌}
 use native.Mathlib.Nat.{le_trans, pow-le-pow_right, pow-suc, zero-lt-suc}
 use native.Mathlib.Omega.{arith}
@@ -26,6 +27,11 @@ digit_to b h = leb-true b 57 (and_second (leb 48 b) (leb b 57) h)
 pub digit_within : (b : ℕ) → 48 ≤ b → b ≤ 57 → is_digit b ≡ true
 unfolding is_digit
 digit_within b h k = and_both (le-leb 48 b h) (le-leb b 57 k)
+
+-- as std tests it
+pub digit_tested : (b : ℕ) {r : Bool} → r ≡ is_ascii_digit b → {s : Bool} → r ≡ s → is_digit b ≡ s
+unfolding is_digit
+digit_tested b e f = sym e ∙ f
 
 -- so it is no point and no sign
 pub digit_no_point : (b : ℕ) → is_digit b ≡ true → eqb b point ≡ false

@@ -1,5 +1,6 @@
 -- The leaves of field 10.6 of a segment row (D6): by two columns of their rows, and all of them among the rows that the segment row names.
 -- Assumes nothing.
+use Rattle.std.specs.Prelude.{Option, Some, None}
 use mathlib.Core.Bool.{Bool, true, false, ◌&&◌}
 use mathlib.Core.List.{List, [], ◌∷◌}
 use mathlib.Core.Path.{◌≡◌, sym, ap, ◌∙◌}
@@ -11,7 +12,7 @@ use lib.Dec.{leb, ltb, eqb}
 use lib.ListN.{length, get_or, drop}
 use lib.Seq.{get_or-take, get_or-drop}
 use Rattle.laws.specs.Tables.{passing}
-use Rattle.laws.proofs.Passing.{passing-behind, passing-before, FirstPassed, found_first, found_none}
+use Rattle.laws.proofs.Passing.{passing-behind, passing-before, FirstPassed}
 use Rattle.laws.proofs.Tests.{Tested, passed, failed, tested, and_first, and_second, and_both, and_fails_first, and_fails_second}
 use Rattle.table.specs.Lent.{Lent}
 use Rattle.table.specs.Rows.{leaf_row_size, first_in, count_in, place_in}
@@ -21,7 +22,8 @@ use Rattle.tested.specs.inner.Searchable.{Searchable}
 use Rattle.value.specs.Refusals.{not_a_number}
 use Rattle.value.specs.Numerals.{says_none, numeral_of}
 use Rattle.value.specs.Results.{value_field, of_field, leaf_text_in}
-use Rattle.value.specs.inner.Seeking.{leaf_says, result_of, FieldRows, LeafRow}
+use Rattle.value.specs.inner.Seeking.{first_passing, leaf_says, result_of, FieldRows, LeafRow}
+use Rattle.value.proofs.FirstPassing.{none_passing, first_found}
 
 -- a leaf's segment and field stand in the first two columns of its row
 module _ (rows : List ℕ) (segment field i : ℕ) where
@@ -136,8 +138,8 @@ module _ (most : ℕ) (t : Lent) (table : Searchable t) (i : ℕ) (here : i < t.
     to = from + count
 
     -- what a search from a row on finds
-    abbrev searched : ℕ → ℕ
-    searched k = get_or (passing (of_field t.leaf_rows (i + 1) value_field) k (to - k)) 0 to
+    abbrev searched : ℕ → Option ℕ
+    searched k = first_passing (of_field t.leaf_rows (i + 1) value_field) k to
 
     to_is : to ≡ leaves_to t i
     to_is = omega (arith, first_is, count_is)
@@ -154,50 +156,39 @@ module _ (most : ℕ) (t : Lent) (table : Searchable t) (i : ℕ) (here : i < t.
     pub rows_searched : FieldRows t.leaf_rows from to
     rows_searched = record { rising = omega arith; within = omega (arith, few, inside) }
 
-    same_search : (k : ℕ) → searched k ≡ get_or (passing value_leaf k (leaves_to t i - k)) 0 (leaves_to t i)
-    same_search k j = get_or (passing (of_field t.leaf_rows (add-one i j) value_field) k (to_is j - k)) 0 (to_is j)
+    same_search : (k : ℕ) → searched k ≡ first_passing value_leaf k (leaves_to t i)
+    same_search k j = first_passing (of_field t.leaf_rows (add-one i j) value_field) k (to_is j)
 
-    from_is : from ≡ leaves_from t i
-    from_is = omega (arith, first_is)
+    first_search : searched from ≡ first_passing value_leaf (leaves_from t i) (leaves_to t i)
+    first_search = same_search from ∙ ap (λ (k : ℕ). first_passing value_leaf k (leaves_to t i)) (let e : from ≡ leaves_from t i = omega (arith, first_is) in e)
 
-    module _ {one : ℕ} (found : one ≡ searched from) where
-      first_search : one ≡ get_or (passing value_leaf (leaves_from t i) (leaves_to t i - leaves_from t i)) 0 (leaves_to t i)
-      first_search = found ∙ same_search from ∙ (λ j. get_or (passing value_leaf (from_is j) (leaves_to t i - from_is j)) 0 (leaves_to t i))
+    pub none_found : None ≡ searched from → says_none not_a_number ≡ result_of most t i
+    none_found e = no_leaf (none_passing value_leaf (leaves_from t i) (leaves_to t i) (e ∙ first_search))
 
-      pub none_found : one ≡ to → says_none not_a_number ≡ result_of most t i
-      none_found e = no_leaf (found_none value_leaf (leaves_from t i) (leaves_to t i) one (omega arith) first_search (e ∙ to_is))
+    module _ {one : ℕ} (found : Some one ≡ searched from) where
+      at_one : FirstPassed value_leaf (leaves_from t i) (leaves_to t i) one
+      at_one = first_found value_leaf (omega arith) (found ∙ first_search)
 
-      module _ (there : one ≡ to → ⊥) where
-        at_one : FirstPassed value_leaf (leaves_from t i) (leaves_to t i) one
-        at_one = found_first value_leaf (leaves_from t i) (leaves_to t i) one (omega arith) first_search (λ e. there (e ∙ sym to_is))
+      pub one-before : one < to
+      one-before = omega (arith, to_is, at_one.within)
 
-        pub one-before : one < to
-        one-before = omega (arith, to_is, at_one.within)
+      pub rows_behind : FieldRows t.leaf_rows (one + 1) to
+      rows_behind = record { rising = omega (arith, one-before); within = omega (arith, few, inside) }
 
-        pub rows_behind : FieldRows t.leaf_rows (one + 1) to
-        rows_behind = record { rising = omega (arith, one-before); within = omega (arith, few, inside) }
+      pub leaf-inside : LeafRow t.leaf_rows t.text one
+      leaf-inside =
+          record {
+            row_within = omega (arith, one-before, few, inside);
+            text-within =
+                omega (
+                  arith,
+                  table.texts one (omega (arith, one-before, few)),
+                  text-within t.card (length t.segment_rows) (length t.leaf_rows) (length t.text) table.within,
+                );
+          }
 
-        pub leaf-inside : LeafRow t.leaf_rows t.text one
-        leaf-inside =
-            record {
-              row_within = omega (arith, one-before, few, inside);
-              text-within =
-                  omega (
-                    arith,
-                    table.texts one (omega (arith, one-before, few)),
-                    text-within t.card (length t.segment_rows) (length t.leaf_rows) (length t.text) table.within,
-                  );
-            }
+      pub more-found : {other : ℕ} → Some other ≡ searched (one + 1) → says_none not_a_number ≡ result_of most t i
+      more-found {other} e = more-leaves one other at_one (first_found value_leaf (omega (arith, to_is, one-before)) (e ∙ same_search (one + 1)))
 
-        module _ {other : ℕ} (found-behind : other ≡ searched (one + 1)) where
-          behind : one + 1 ≤ leaves_to t i
-          behind = omega (arith, to_is, one-before)
-
-          pub more-found : (other ≡ to → ⊥) → says_none not_a_number ≡ result_of most t i
-          more-found e =
-              more-leaves one other at_one
-              (found_first value_leaf (one + 1) (leaves_to t i) other behind (found-behind ∙ same_search (one + 1)) (λ q. e (q ∙ sym to_is)))
-
-          pub one_found : other ≡ to → numeral_of most (leaf_text_in t.leaf_rows t.text one) ≡ result_of most t i
-          one_found e =
-              only-leaf one at_one (found_none value_leaf (one + 1) (leaves_to t i) other behind (found-behind ∙ same_search (one + 1)) (e ∙ to_is))
+      pub one_found : None ≡ searched (one + 1) → numeral_of most (leaf_text_in t.leaf_rows t.text one) ≡ result_of most t i
+      one_found e = only-leaf one at_one (none_passing value_leaf (one + 1) (leaves_to t i) (e ∙ same_search (one + 1)))

@@ -1,6 +1,7 @@
 pub mod Runs
 pub mod DigitStores
 pub mod TestedTables
+pub mod FirstPassing
 pub mod FieldLeaves
 pub mod NumericRows
 pub mod Signs
@@ -13,7 +14,6 @@ pub mod WrittenDigits
 pub mod SpeltTexts
 pub mod ShortestText
 pub mod MinusZero
-pub mod TextsRead
 pub mod SignedValues
 pub mod TextsPut
 pub mod ValuesWritten

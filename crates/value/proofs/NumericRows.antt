@@ -1,17 +1,15 @@
 -- The numeric results of an order (D6): the tests of a row in their order, and where the rows that pass them lie.
 -- Assumes nothing.
 use mathlib.Core.Bool.{true, false, ◌&&◌}
-use mathlib.Core.List.{List, [], ◌∷◌}
-use mathlib.Core.Path.{◌≡◌, refl, sym, ap, ◌∙◌}
+use mathlib.Core.List.{List}
+use mathlib.Core.Logic.{◌⊎◌, inl, inr}
+use mathlib.Core.Path.{◌≡◌, sym, ap, ◌∙◌}
 use Prim.Native.Nat.{ℕ, ◌+◌, ◌-◌, ◌≤◌, ◌<◌}
 use native.Mathlib.Omega.{arith}
 use borrow.Author.Tests.{eqb-true, eq-eqb, ne_eqb}
 use lib.Dec.{eqb}
-use lib.ListN.{length, get_or, take, drop}
-use Rattle.laws.specs.Lists.{same}
+use lib.ListN.{length}
 use Rattle.laws.specs.Tables.{passing}
-use Rattle.laws.specs.Texts.{bytes}
-use Rattle.laws.proofs.Lists.{different-same}
 use Rattle.laws.proofs.Passing.{passing-behind}
 use Rattle.laws.proofs.Tests.{Tested, passed, failed, tested, and_first, and_second, and_both, and_passed, and_fails_first, and_fails_second}
 use Rattle.table.specs.Lent.{Lent}
@@ -25,70 +23,33 @@ use Rattle.tested.proofs.NamedLeaves.{sought_named, named-inside}
 use Rattle.value.specs.Results.{type_field, numeric_type, type_place, is_numeric, numeric_rows}
 use Rattle.value.specs.inner.Seeking.{OrderRows}
 
--- the type NM, by its bytes
-module _ (text : List ℕ) where
-  pub other_length : (length text ≡ 2 → ⊥) → false ≡ same text numeric_type
-  unfolding numeric_type bytes
-  other_length n = sym (different-same (λ e. n (ap length e)))
-
-  pub other-first : (get_or text 0 0 ≡ 78 → ⊥) → false ≡ same text numeric_type
-  unfolding numeric_type bytes
-  other-first n = sym (different-same (λ e. n (ap (λ (s : List ℕ). get_or s 0 0) e)))
-
-  pub second_decides : length text ≡ 2 → get_or text 0 0 ≡ 78 → eqb (get_or text 1 0) 77 ≡ same text numeric_type
-  unfolding numeric_type bytes same
-  second_decides = by text
-    where
-      by : (s : List ℕ) → length s ≡ 2 → get_or s 0 0 ≡ 78 → eqb (get_or s 1 0) 77 ≡ same s numeric_type
-      by [] l e = absurd (omega (arith, l))
-      by (a ∷ []) l e = absurd (omega (arith, l))
-      by (a ∷ b ∷ []) l e = go (tested (eqb b 77))
-        where
-          go : Tested (eqb b 77) → eqb b 77 ≡ same (a ∷ b ∷ []) numeric_type
-          go (passed q) = q ∙ sym (and_both (eq-eqb a 78 e) (and_both q refl))
-          go (failed q) = q ∙ sym (and_fails_second (eqb a 78) (and_fails_first true q))
-      by (a ∷ b ∷ c ∷ s) l e = absurd (omega (arith, l))
+-- a lookup that finds no text finds no type
+pub no_type : (text : List ℕ) {s : Sought} → (s ≡ Empty) ⊎ (s ≡ NotThere) → false ≡ says_text text numeric_type s
+unfolding says_text
+no_type text (inl e) = sym (ap (says_text text numeric_type) e)
+no_type text (inr e) = sym (ap (says_text text numeric_type) e)
 
 -- the tests of a row
 module _ (t : Lent) (order i : ℕ) where
   abbrev type_sought : Sought
   type_sought = sought_in t (type_place i)
 
-  pub other-kind : (kind_in t.segment_rows i ≡ 6 → ⊥) → false ≡ is_numeric t order i
+  pub other_kind : (kind_in t.segment_rows i ≡ 6 → ⊥) → false ≡ is_numeric t order i
   unfolding is_numeric has_kind_and_owner
-  other-kind n =
+  other_kind n =
       sym
       (and_fails_first (says_text t.text numeric_type type_sought)
       (and_fails_first (eqb (owner_in t.segment_rows i) order) (ne_eqb (kind_in t.segment_rows i) 6 n)))
 
-  pub other-owner : (owner_in t.segment_rows i ≡ order → ⊥) → false ≡ is_numeric t order i
+  pub other_owner : eqb (owner_in t.segment_rows i) order ≡ false → false ≡ is_numeric t order i
   unfolding is_numeric has_kind_and_owner
-  other-owner n =
-      sym
-      (and_fails_first (says_text t.text numeric_type type_sought)
-      (and_fails_second (eqb (kind_in t.segment_rows i) 6) (ne_eqb (owner_in t.segment_rows i) order n)))
+  other_owner e = sym (and_fails_first (says_text t.text numeric_type type_sought) (and_fails_second (eqb (kind_in t.segment_rows i) 6) e))
 
   -- an OBX of the order: its type decides
-  module _ (kind : kind_in t.segment_rows i ≡ 6) (owned : owner_in t.segment_rows i ≡ order) where
-    by_type : (s : Sought) → s ≡ type_sought → says_text t.text numeric_type s ≡ is_numeric t order i
-    unfolding is_numeric has_kind_and_owner
-    by_type s e =
-        ap (says_text t.text numeric_type) e
-        ∙ sym
-        (and_passed (says_text t.text numeric_type type_sought)
-        (and_both (eq-eqb (kind_in t.segment_rows i) 6 kind) (eq-eqb (owner_in t.segment_rows i) order owned)))
-
-    pub type_there : (start n : ℕ) → At start n ≡ type_sought → same (take n (drop start t.text)) numeric_type ≡ is_numeric t order i
-    unfolding says_text
-    type_there start n e = by_type (At start n) e
-
-    pub type_empty : Empty ≡ type_sought → false ≡ is_numeric t order i
-    unfolding says_text
-    type_empty e = by_type Empty e
-
-    pub type_missing : NotThere ≡ type_sought → false ≡ is_numeric t order i
-    unfolding says_text
-    type_missing e = by_type NotThere e
+  pub by_type : kind_in t.segment_rows i ≡ 6 → eqb (owner_in t.segment_rows i) order ≡ true → says_text t.text numeric_type type_sought ≡ is_numeric t order i
+  unfolding is_numeric has_kind_and_owner
+  by_type k e =
+      sym (and_passed (says_text t.text numeric_type type_sought) (and_both (eq-eqb (kind_in t.segment_rows i) 6 k) e))
 
   -- what passes is an OBX of the order
   pub numeric_kind : is_numeric t order i ≡ true → kind_in t.segment_rows i ≡ 6

@@ -12,7 +12,7 @@ use lib.ListN.{length, length-append}
 use Rattle.laws.specs.Lists.{concat}
 use Rattle.laws.proofs.Tests.{Tested, passed, failed, tested, never_both}
 use Rattle.table.specs.Leaves.{split}
-use Rattle.value.specs.declared.numeral.Numeral.{Numeral}
+use Rattle.value.specs.inner.Said.{Numeral}
 use Rattle.value.specs.declared.reading.Value.{Value}
 use Rattle.value.specs.Refusals.{not_a_number, many_digits}
 use Rattle.value.specs.Numerals.{point, unsigned_text, is_negative, are_number, NumberText, says_none, numeral_of}

@@ -12,9 +12,9 @@ use Rattle.laws.proofs.Stores.{sets_first}
 use Rattle.laws.specs.Tables.{passing}
 use Rattle.laws.proofs.Passing.{FirstPassed, length-passing}
 use Rattle.table.specs.Lent.{Lent}
-use Rattle.value.specs.declared.numeral.Numeral.{Numeral}
+use Rattle.value.specs.inner.Said.{Numeral}
 use Rattle.value.specs.declared.reading.Value.{Value}
-use Rattle.value.specs.Values.{signed_of, with_sign, value_of}
+use Rattle.value.specs.Values.{with_sign, value_of}
 use Rattle.value.specs.Results.{value_field, is_numeric, numeric_rows, of_field, leaf_text_in, one_leaf, value_at}
 use Rattle.value.specs.inner.Seeking.{leaf_says, result_of, OrderRows, PutValues}
 use Rattle.value.proofs.NumberParts.{Small, none_small, numeral_small}
@@ -127,12 +127,12 @@ module _ (most : ℕ) (t : Lent) (order : ℕ) (numbers₀ : List ℕ) (wholes�
 
   module _ {numbers : List ℕ} {wholes : List ℤ} {decimals : List ℕ} {count from : ℕ} (s : Answering numbers wholes decimals count from) where
     -- one more answer, that of the first row that is left
-    pub answering_on : {row : ℕ} → FirstPassed (is_numeric t order) from t.card.segments row → {n : Numeral} → n ≡ result_of most t row
-        → {whole : ℤ} → whole ≡ signed_of n.negative n.magnitude
-        → Answering (set numbers count n.number) (set wholes count whole) (set decimals count n.decimals) (count + 1) (row + 1)
-    answering_on {row} first {n} said signed =
+    pub answering_on : {row : ℕ} → FirstPassed (is_numeric t order) from t.card.segments row → {v : Value} → v ≡ with_sign (result_of most t row)
+        → {whole : ℤ} → whole ≡ v.whole
+        → Answering (set numbers count v.number) (set wholes count whole) (set decimals count v.decimals) (count + 1) (row + 1)
+    answering_on {row} first said bits =
         let left = left_is t order s.seen first in
-        let is = ap with_sign said ∙ result_value most t row in
+        let is = said ∙ result_value most t row in
         record {
           seen = seen_on t order s.seen first;
           numbers-put =
@@ -140,7 +140,7 @@ module _ (most : ℕ) (t : Lent) (order : ℕ) (numbers₀ : List ℕ) (wholes�
               (ap (λ (v : Value). v.number) is);
           wholes_put =
               putting_on (λ (v : Value). v.whole) (value_at most t) (numeric_rows t order) wholes₀ s.wholes_put row (results_left t order (row + 1)) left
-              (signed ∙ ap (λ (v : Value). v.whole) is);
+              (bits ∙ ap (λ (v : Value). v.whole) is);
           decimals-put =
               putting_on (λ (v : Value). v.decimals) (value_at most t) (numeric_rows t order) decimals₀ s.decimals-put row (results_left t order (row + 1)) left
               (ap (λ (v : Value). v.decimals) is);

@@ -53,7 +53,7 @@ sign-one_byte true = omega arith
 sign-one_byte false = omega arith
 
 module _ (most : ℕ) (z : ℤ) (d : ℕ) where
-  pub shortest_shape : shortest_text most z d ≡ sign_text (apart z).negative ++ (whole_written most z d ++ behind_point (decimals_written z d))
+  pub shortest_shape : shortest_text most z d ≡ sign_text (apart z).0 ++ (whole_written most z d ++ behind_point (decimals_written z d))
   unfolding shortest_text text_for apart
   shortest_shape =
       ap (λ (t : List ℕ). sign_text (lt_z z (pos 0)) ++ t) (digits_shaped (digits_for most (nat_abs z) d) d (nat_abs z))
@@ -63,12 +63,12 @@ module _ (most : ℕ) (z : ℤ) (d : ℕ) where
       let e : digits_for most (nat_abs z) d - d + d ≡ digits_for most (nat_abs z) d = omega (arith, written-decimals most (nat_abs z) d) in
       sym (last_add (digits_for most (nat_abs z) d - d) d (nat_abs z)) ∙ ap (λ (k : ℕ). last_digits k (nat_abs z)) e
 
-  shortest_length : length (shortest_text most z d) ≡ length (sign_text (apart z).negative) + (digits_for most (nat_abs z) d + point_bytes d)
+  shortest_length : length (shortest_text most z d) ≡ length (sign_text (apart z).0) + (digits_for most (nat_abs z) d + point_bytes d)
   shortest_length =
       omega (
         arith,
         ap length shortest_shape,
-        spelt_length (sign_text (apart z).negative) (whole_written most z d) (decimals_written z d),
+        spelt_length (sign_text (apart z).0) (whole_written most z d) (decimals_written z d),
         last-length (digits_for most (nat_abs z) d - d) (tenths d (nat_abs z)),
         last-length d (nat_abs z),
         ap point_bytes (last-length d (nat_abs z)),
@@ -91,9 +91,9 @@ module _ (most : ℕ) (z : ℤ) (d : ℕ) where
       record {
         number =
             record {
-              sign = sign_text (apart z).negative;
-              negative = (apart z).negative;
-              sign_is = sign-written (apart z).negative;
+              sign = sign_text (apart z).0;
+              negative = (apart z).0;
+              sign_is = sign-written (apart z).0;
               whole = whole_written most z d;
               decimals = decimals_written z d;
               whole_digits = last_digits_lem (digits_for most (nat_abs z) d - d) (tenths d (nat_abs z));
@@ -110,17 +110,17 @@ module _ (most : ℕ) (z : ℤ) (d : ℕ) where
               written-least most (nat_abs z) d most (count_most most (nat_abs z)) decimals one,
             );
         value =
-            ap (λ (s : List ℕ). signed_of (apart z).negative (made_by 0 s)) written-joined
-            ∙ ap (λ (n : ℕ). signed_of (apart z).negative (made_by n (last_digits (digits_for most (nat_abs z) d) (nat_abs z))))
+            ap (λ (s : List ℕ). signed_of (apart z).0 (made_by 0 s)) written-joined
+            ∙ ap (λ (n : ℕ). signed_of (apart z).0 (made_by n (last_digits (digits_for most (nat_abs z) d) (nat_abs z))))
             (sym (written_enough most (nat_abs z) d few))
-            ∙ ap (signed_of (apart z).negative) (made-last (digits_for most (nat_abs z) d) (nat_abs z))
+            ∙ ap (signed_of (apart z).0) (made-last (digits_for most (nat_abs z) d) (nat_abs z))
             ∙ apart_signed z;
         count = last-length d (nat_abs z);
       }
 
 -- a value below 0 has a minus in every text, and any other needs no sign
 least-sign : {sign : List ℕ} {negative : Bool} (m : ℕ) (z : ℤ) → SignIs sign negative → signed_of negative m ≡ z
-    → length (sign_text (apart z).negative) ≤ length sign
+    → length (sign_text (apart z).0) ≤ length sign
 unfolding signed_of apart sign_text
 least-sign m z no_sign e = rw (sym (ap (λ (x : ℤ). lt_z x (pos 0)) e) ∙ le-ltb m 0 (omega arith)) (omega arith)
 least-sign m z a_plus e = rw (sym (ap (λ (x : ℤ). lt_z x (pos 0)) e) ∙ le-ltb m 0 (omega arith)) (omega arith)
@@ -132,7 +132,7 @@ a_sign_minus true h = refl
 a_sign_minus false h = absurd (omega arith)
 
 only-sign : {sign : List ℕ} {negative : Bool} (m : ℕ) (z : ℤ) → SignIs sign negative → signed_of negative m ≡ z
-    → length sign ≤ length (sign_text (apart z).negative) → sign ≡ sign_text (apart z).negative
+    → length sign ≤ length (sign_text (apart z).0) → sign ≡ sign_text (apart z).0
 unfolding signed_of apart sign_text
 only-sign m z no_sign e h = rw (sym (ap (λ (x : ℤ). lt_z x (pos 0)) e) ∙ le-ltb m 0 (omega arith))
 only-sign m z a_plus e h =
@@ -164,7 +164,7 @@ module _ {most : ℕ} {z : ℤ} {d : ℕ} {text : List ℕ} (s : Spelt most z d 
   text-length =
       omega (arith, ap length s.number.shape, spelt_length s.number.sign s.number.whole s.number.decimals, ap point_bytes s.count)
 
-  sign_needed : length (sign_text (apart z).negative) ≤ length s.number.sign
+  sign_needed : length (sign_text (apart z).0) ≤ length s.number.sign
   sign_needed = least-sign (made_by 0 (s.number.whole ++ s.number.decimals)) z s.number.sign_is s.value
 
   pub no_shorter : length (shortest_text most z d) ≤ length text
@@ -185,7 +185,7 @@ module _ {most : ℕ} {z : ℤ} {d : ℕ} {text : List ℕ} (s : Spelt most z d 
 
   pub no_other : length text ≤ length (shortest_text most z d) → text ≡ shortest_text most z d
   no_other h =
-      let lengths : (length s.number.sign ≤ length (sign_text (apart z).negative)) × (length s.number.whole ≡ digits_for most (nat_abs z) d - d) =
+      let lengths : (length s.number.sign ≤ length (sign_text (apart z).0)) × (length s.number.whole ≡ digits_for most (nat_abs z) d - d) =
       omega (arith, h, shortest_length most z d, text-length, sign_needed, enough_digits, s.count) in
       s.number.shape
       ∙ ap₂ (λ (a b : List ℕ). a ++ b)
@@ -247,7 +247,7 @@ module _ (most : ℕ) (one : 1 ≤ most) where
       omega (
         arith,
         shortest_length most z d,
-        sign-one_byte (apart z).negative,
+        sign-one_byte (apart z).0,
         point-one d,
         written-least most (nat_abs z) d most (count_most most (nat_abs z)) (range_decimals most z d h) one,
       )

@@ -16,7 +16,7 @@ use Rattle.value.specs.Numerals.{most_digits, is_digit, all_digits, unsigned_tex
 use Rattle.value.specs.Values.{signed_of, value_of}
 use Rattle.value.specs.Writing.{in_range, spelling, spelling_told, WroteValue}
 use Rattle.value.specs.inner.Digits.{tenths, last_digits, digit_count}
-use Rattle.value.specs.inner.Shortening.{greater_of, digits_for, sign_text, pointed, digit_text, text_for, shortest_text}
+use Rattle.value.specs.inner.Shortening.{digits_for, sign_text, pointed, digit_text, text_for, shortest_text}
 use Rattle.value.specs.inner.Signs.{apart}
 
 -- what meets the contract of `read_value`
@@ -64,11 +64,11 @@ module _ (f : ℤ → ℕ → List ℕ → ValueWritten) (after : ℤ → ℕ �
 
   -- .5 has two bytes, and .05 has three
   pub zero_before_the_point : (f (pos 5) 1 room).bytes ≡ 3 → ⊥
-  unfolding spelling in_range spelling_told shortest_text text_for digit_text pointed digits_for greater_of digit_count last_digits tenths sign_text apart
+  unfolding spelling in_range spelling_told shortest_text text_for digit_text pointed digits_for digit_count last_digits tenths sign_text apart
   zero_before_the_point h = let z : ◌≡◌ {A = ℕ} 2 3 = sym (ap (λ (w : ValueWritten). w.bytes) (meets (pos 5) 1 room).answers) ∙ h in omega arith
 
   pub zero_left_out : (f (pos 5) 2 room).bytes ≡ 2 → ⊥
-  unfolding spelling in_range spelling_told shortest_text text_for digit_text pointed digits_for greater_of digit_count last_digits tenths sign_text apart
+  unfolding spelling in_range spelling_told shortest_text text_for digit_text pointed digits_for digit_count last_digits tenths sign_text apart
   zero_left_out h = let z : ◌≡◌ {A = ℕ} 3 2 = sym (ap (λ (w : ValueWritten). w.bytes) (meets (pos 5) 2 room).answers) ∙ h in omega arith
 
   -- the least number of 64 bits is out of range

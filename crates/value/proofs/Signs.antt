@@ -1,7 +1,7 @@
 -- Signs put on and taken off, for numbers of 64 bits: what the machine makes of a magnitude and of a signed number's bits.
 -- Assumes nothing.
 use mathlib.Core.Bool.{Bool, true, false}
-use mathlib.Core.Path.{◌≡◌, refl, sym, ap, ap₂, ◌∙◌, subst⁻¹}
+use mathlib.Core.Path.{◌≡◌, refl, sym, ap, ◌∙◌, subst⁻¹}
 use Prim.Native.Nat.{ℕ, zero, suc, ◌+◌, ◌-◌, ◌<◌}
 use native.Mathlib.Omega.{arith}
 use borrow.Author.Tests.{ltb-true}
@@ -12,9 +12,8 @@ use mir.Syntax.{w64}
 use mir.Val.{Fits, SFits, to_z, of_z}
 use mir.ValLaws.{to_z_pos, to_z-of_z}
 use Rattle.laws.proofs.Tests.{never_both}
-use Rattle.value.specs.declared.sign.Unsigned.{Unsigned}
 use Rattle.value.specs.Values.{signed_of}
-use Rattle.value.specs.inner.Signs.{half_range, apart}
+use Rattle.value.specs.inner.Signs.{half_range}
 
 -- a magnitude with its sign put on
 module _ (magnitude : ℕ) (small : magnitude < half_range) where
@@ -100,21 +99,8 @@ module _ (whole : ℤ) (fit : SFits w64 whole) where
         let w = below whole fit (test_read taken) in
         subst⁻¹ (λ (z : ℤ). Fits w64 (nat_abs z + 1)) w.bits (record { fits = omega (arith, w.small) })
 
-    pub apart_below : record { negative = true; magnitude = nat_abs (to_z w64 (turned whole)) + 1 } ≡ apart whole
-    unfolding apart
-    apart_below =
-        let w = below whole fit (test_read taken) in
-        ap₂ {C = Unsigned} (λ (b : Bool) (n : ℕ). record { negative = b; magnitude = n }) (sym (test_read taken))
-        (ap (λ (z : ℤ). nat_abs z + 1) w.bits ∙ omega arith ∙ sym (ap nat_abs w.is))
-
   module _ (left : lt_z (to_z w64 (of_z w64 whole)) (pos 0) ≡ false) where
     pub bits_cast : Castable (to_z w64 (of_z w64 whole))
     bits_cast =
         let w = not_below whole fit (test_read left) in
         subst⁻¹ Castable w.bits (tt, record { fits = omega (arith, w.small) })
-
-    pub apart-from_zero : record { negative = false; magnitude = nat_abs (to_z w64 (of_z w64 whole)) } ≡ apart whole
-    unfolding apart
-    apart-from_zero =
-        let w = not_below whole fit (test_read left) in
-        ap₂ {C = Unsigned} (λ (b : Bool) (n : ℕ). record { negative = b; magnitude = n }) (sym (test_read left)) (ap nat_abs w.bits ∙ sym (ap nat_abs w.is))

@@ -2,14 +2,15 @@
 -- Assumes nothing.
 use mathlib.Core.Bool.{true, false}
 use mathlib.Core.List.{List}
-use mathlib.Core.Path.{◌≡◌, refl, sym, ap, subst⁻¹}
+use mathlib.Core.Logic.{◌⊎◌, inl, inr}
+use mathlib.Core.Path.{◌≡◌, refl, sym, ap, ◌∙◌, subst⁻¹}
 use Prim.Native.Nat.{ℕ, ◌≤◌, ◌<◌, ◌^◌}
 use borrow.Author.Tests.{lt-ltb, le-ltb, le-leb, lt-leb}
 use lib.Dec.{leb, ltb}
-use lib.IntN.{ℤ, nat_abs}
+use lib.IntN.{ℤ, pos, nat_abs}
+use lib.Signed.{lt_z}
 use lib.ListN.{length}
 use Rattle.laws.proofs.Tests.{and_both, and_fails_first, and_fails_second}
-use Rattle.value.specs.declared.sign.Unsigned.{Unsigned}
 use Rattle.value.specs.declared.writing.ValueWritten.{ValueWritten}
 use Rattle.value.specs.Refusals.{out_of_range, narrow_output}
 use Rattle.value.specs.Writing.{
@@ -62,32 +63,31 @@ module _ (most : ℕ) (whole : ℤ) (decimals : ℕ) where
     refused number e {r} told =
         subst⁻¹ (λ (s : Spelling). GivesText s output r output) e (record { answers = told; text = refl })
 
-    module _ {u : Unsigned} (parts : u ≡ apart whole) where
-      magnitude_is : u.magnitude ≡ nat_abs whole
-      unfolding apart
-      magnitude_is = ap (λ (p : Unsigned). p.magnitude) parts
+    -- by the value and its magnitude that the code has in hand
+    module _ {z : ℤ} (same : z ≡ whole) {magnitude : ℕ} (is : magnitude ≡ nat_abs z) where
+      magnitude_is : magnitude ≡ nat_abs whole
+      magnitude_is = is ∙ ap nat_abs same
 
-      pub wrote_large : 10 ^ most ≤ u.magnitude → {r : ValueWritten} → r ≡ spelling_told (refuses_value out_of_range) → WroteValue most whole decimals output r output
-      wrote_large h told = refused out_of_range (spelling-out (length output) (range_large (rw (magnitude_is) at h))) told
+      pub wrote_large : (10 ^ most ≤ magnitude) ⊎ ((magnitude < 10 ^ most) × (most < decimals)) → {r : ValueWritten}
+          → r ≡ spelling_told (refuses_value out_of_range) → WroteValue most whole decimals output r output
+      wrote_large (inl h) told = refused out_of_range (spelling-out (length output) (range_large (rw magnitude_is at h))) told
+      wrote_large (inr h) told = refused out_of_range (spelling-out (length output) (range_decimals h.1)) told
 
-      pub wrote_decimals : most < decimals → {r : ValueWritten} → r ≡ spelling_told (refuses_value out_of_range) → WroteValue most whole decimals output r output
-      wrote_decimals h told = refused out_of_range (spelling-out (length output) (range_decimals h)) told
-
-      module _ (few : u.magnitude < 10 ^ most) (decimals-few : decimals ≤ most) where
+      module _ (few : (magnitude < 10 ^ most) × (decimals ≤ most)) where
         within : in_range most whole decimals ≡ true
-        within = range_within (rw (magnitude_is) at few) decimals-few
+        within = let h = few.0 in range_within (rw magnitude_is at h) few.1
 
         pub wrote_narrow : length output < longest_text most → {r : ValueWritten} → r ≡ spelling_told (refuses_value narrow_output)
             → WroteValue most whole decimals output r output
         wrote_narrow h told = refused narrow_output (spelling-narrow (length output) within h) told
 
         pub wrote_text : longest_text most ≤ length output → {n : ℕ} {output' : List ℕ}
-            → PutText (text_for most u.negative u.magnitude decimals) output n output'
+            → PutText (text_for most (lt_z z (pos 0)) magnitude decimals) output n output'
             → WroteValue most whole decimals output (record { number = 0; bytes = n }) output'
-        unfolding shortest_text spelling_told output_with
+        unfolding shortest_text apart spelling_told output_with
         wrote_text h {n} {output'} put =
-            let e : text_for most u.negative u.magnitude decimals ≡ shortest_text most whole decimals =
-            ap (λ (p : Unsigned). text_for most p.negative p.magnitude decimals) parts in
+            let e : text_for most (lt_z z (pos 0)) magnitude decimals ≡ shortest_text most whole decimals =
+            (λ i. text_for most (lt_z (same i) (pos 0)) (magnitude_is i) decimals) in
             subst⁻¹ (λ (s : Spelling). GivesText s output (record { number = 0; bytes = n }) output') (spelling-text (length output) within h)
             (subst⁻¹ (λ (t : List ℕ). GivesText (spells t) output (record { number = 0; bytes = n }) output') (sym e)
             (record { answers = ap {B = ValueWritten} (λ (m : ℕ). record { number = 0; bytes = m }) put.bytes; text = put.stored }))

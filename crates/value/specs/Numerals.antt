@@ -3,7 +3,7 @@
 use Rattle.std.specs.Prelude.{Bool, true, false, ◌&&◌, ◌||◌, List, [], ◌∷◌, ◌++◌, ◌≡◌, ℕ, ◌+◌, ◌*◌, ◌-◌, ◌≤◌, leb, ltb, eqb, length, get_or}
 use Rattle.laws.specs.Lists.{concat}
 use Rattle.table.specs.Leaves.{split}
-use Rattle.value.specs.declared.numeral.Numeral.{Numeral}
+use Rattle.value.specs.inner.Said.{Numeral}
 use Rattle.value.specs.Refusals.{not_a_number, many_digits}
 
 -- how many digits a number has at most

@@ -5,3 +5,4 @@ pub mod Runs
 pub mod Seeking
 pub mod Shortening
 pub mod Signs
+pub mod Said

@@ -1,4 +1,5 @@
 // Why a text, a number or an order is refused (D3, D5, D6). What is not refused has the number 0, as everywhere.
+// kept (C): the numbers are those of include/sargaceu.h
 #[derive(Drop)]
 pub struct Refusal {}
 

@@ -1,22 +1,22 @@
 // The numeric results of an order, in the order of their rows (D6).
-ghost use Rattle.std.specs.Prelude.{◌≡◌, ◌-◌, min, leb, length, get_or};
-ghost use Rattle.laws.specs.Tables.{passing};
+ghost use Rattle.std.specs.Prelude.{◌≡◌, leb, length};
 ghost use Rattle.form.specs.Forms.{limits_of};
 ghost use Rattle.order.specs.Owners.{level};
 ghost use Rattle.table.specs.Lent.{lent};
 ghost use Rattle.value.specs.Numerals.{most_digits};
 ghost use Rattle.value.specs.Results.{is_numeric, numeric_rows, refuses_values, results_told, ReadValues};
-ghost use Rattle.value.specs.inner.Seeking.{OrderRows, InOrder, Roomy, PutValues};
+ghost use Rattle.value.specs.inner.Seeking.{first_passing, OrderRows, InOrder, Roomy, PutValues};
 
+use crate::reading::value_said;
 use crate::refusal::Refusal;
 use crate::result::{is_numeric, result_of};
-use crate::sign::signed;
 use form::forms::Form;
 use form::number::Number;
 use look::order_rows::is_order;
 use table::{Card, rows};
 
 // What comes back (D6): 0, 13, 24 or 25, the place 0, and how many answers were put, 0 on a refusal.
+// kept (C): sargaceu_order_values answers these numbers
 #[derive(Clone, Copy)]
 pub struct ValuesRead {
     pub number: u8,
@@ -27,6 +27,7 @@ pub struct ValuesRead {
 // The numbers of all numeric results under an OBR row of a table of a form, each answer's three parts at the same place of three lent buffers: 0, 20
 // or 21; the whole number; the decimals. Entries past the count stay. Any card, any buffers and any row get an answer. Once the table is
 // tested, only the order's own rows and leaves are looked at, and the row behind them.
+// kept (C): the three buffers are those of sargaceu_order_values
 pub fn order_values(
     form: Form,
     card: Card,
@@ -47,7 +48,7 @@ pub fn order_values(
     if !is_order(segments, card.segments, order) {
         return refusal(Refusal::NOT_AN_ORDER);
     }
-    let room = lesser(lesser(numbers.len(), wholes.len()), decimals.len());
+    let room = numbers.len().min(wholes.len()).min(decimals.len());
     if !has_room(card, segments, leaves, text, order, room) {
         return refusal(Refusal::LITTLE_ROOM);
     }
@@ -62,6 +63,7 @@ pub fn order_values(
 }
 
 // A refusal at the place 0, with no answer put.
+#[tactic(auto, unfolding(crate::specs::Results::results_told))]
 fn refusal(number: u8) -> ValuesRead
     ensures { result ≡ results_told (refuses_values number) }
 {
@@ -70,16 +72,6 @@ fn refusal(number: u8) -> ValuesRead
         place: 0,
         count: 0,
     }
-}
-
-// The lesser of two numbers.
-fn lesser(one: usize, other: usize) -> usize
-    ensures { result ≡ min one other }
-{
-    if one < other {
-        return one;
-    }
-    other
 }
 
 // Whether so many places do for all numeric results of an order. As many as there are rows behind it always do; only where there are fewer
@@ -95,10 +87,8 @@ fn has_room(
     requires { OrderRows (lent card segments.now leaves.now text.now) order }
     ensures { result ≡ leb (length (numeric_rows (lent card segments.now leaves.now text.now) order)) room }
 {
-    if card.segments - rows::wide(order) <= room {
-        return true;
-    }
-    count_results(card, segments, leaves, text, order) <= room
+    card.segments - rows::wide(order) <= room
+        || count_results(card, segments, leaves, text, order) <= room
 }
 
 // How many numeric results an order has.
@@ -114,14 +104,11 @@ fn count_results(
 {
     let mut count = 0;
     let mut from = rows::wide(order);
-    loop {
-        let row = next_result(card, segments, leaves, text, order, from);
-        if row == card.segments {
-            return count;
-        }
+    while let Some(row) = next_result(card, segments, leaves, text, order, from) {
         count += 1;
         from = row + 1;
     }
+    count
 }
 
 // Puts the answers of an order's numeric results at the front of the three buffers, and answers how many there are.
@@ -141,23 +128,19 @@ fn put_values(
 {
     let mut count = 0;
     let mut from = rows::wide(order);
-    loop {
-        let row = next_result(card, segments, leaves, text, order, from);
-        if row == card.segments {
-            return count;
-        }
-        let said = result_of(card, segments, leaves, text, row);
-        let whole = signed(said.negative, said.magnitude);
-        numbers[count] = said.number;
-        wholes[count] = whole;
-        decimals[count] = said.decimals as u8;
+    while let Some(row) = next_result(card, segments, leaves, text, order, from) {
+        let value = value_said(result_of(card, segments, leaves, text, row));
+        numbers[count] = value.number;
+        wholes[count] = value.whole;
+        decimals[count] = value.decimals as u8;
         count += 1;
         from = row + 1;
     }
+    count
 }
 
-// The next numeric result of an order, of the segment rows from one on, counted from 0; the count of rows where there is none. The rows under
-// an order lie together behind it, so the first row that belongs to an earlier one ends them.
+// The next numeric result of an order, of the segment rows from one on, counted from 0. The rows
+// under an order lie together behind it, so the first row that belongs to an earlier one ends them.
 fn next_result(
     card: Card,
     segments: &[rows::Entry],
@@ -165,19 +148,17 @@ fn next_result(
     text: &[u8],
     order: rows::Entry,
     from: usize,
-) -> usize
+) -> Option<usize>
     requires { InOrder (lent card segments.now leaves.now text.now) order from }
-    ensures { result ≡ get_or (passing (is_numeric (lent card segments.now leaves.now text.now) order) from (card.segments - from)) 0 card.segments }
+    ensures { result ≡ first_passing (is_numeric (lent card segments.now leaves.now text.now) order) from card.segments }
 {
-    let mut row = from;
-    while row < card.segments {
+    for row in from..card.segments {
         if segments[row * rows::SEGMENT_ROW + rows::OWNER] < order {
-            return card.segments;
+            return None;
         }
         if is_numeric(card, segments, leaves, text, order, row) {
-            return row;
+            return Some(row);
         }
-        row += 1;
     }
-    card.segments
+    None
 }

@@ -1,14 +1,8 @@
-// Whole numbers with a sign, as a caller gives and gets them, and without: everything else in this crate carries sign and magnitude apart.
+// Whole numbers with a sign, as a caller gets them: everything else in this crate carries sign and
+// magnitude apart.
 ghost use Rattle.std.specs.Prelude.{◌≡◌, ◌<◌};
 ghost use Rattle.value.specs.Values.{signed_of};
-ghost use Rattle.value.specs.inner.Signs.{half_range, apart};
-
-// A whole number without its sign, and whether it is below 0.
-#[derive(Clone, Copy)]
-pub(crate) struct Unsigned {
-    pub negative: bool,
-    pub magnitude: u64,
-}
+ghost use Rattle.value.specs.inner.Signs.{half_range};
 
 // The whole number of a sign and a magnitude; a minus before 0 gives 0 (D2).
 pub(crate) fn signed(negative: bool, magnitude: u64) -> i64
@@ -16,25 +10,5 @@ pub(crate) fn signed(negative: bool, magnitude: u64) -> i64
     ensures { result ≡ signed_of negative magnitude }
 {
     let whole = magnitude as i64;
-    if negative {
-        return -whole;
-    }
-    whole
-}
-
-// The sign and the magnitude of any whole number; the least of all has a magnitude, too.
-pub(crate) fn without_sign(whole: i64) -> Unsigned
-    ensures { result ≡ apart whole }
-{
-    if whole < 0 {
-        let below = !whole;
-        return Unsigned {
-            negative: true,
-            magnitude: below as u64 + 1,
-        };
-    }
-    Unsigned {
-        negative: false,
-        magnitude: whole as u64,
-    }
+    if negative { -whole } else { whole }
 }

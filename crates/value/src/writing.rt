@@ -4,17 +4,14 @@ ghost use Rattle.std.proofs.lemmas.List.Edits.{sets};
 ghost use Rattle.value.specs.Numerals.{most_digits};
 ghost use Rattle.value.specs.Writing.{WroteValue, refuses_value, spelling_told};
 ghost use Rattle.value.specs.inner.Digits.{last_digits, tenths, digit_count};
-ghost use Rattle.value.specs.inner.Shortening.{Spellable, PutText, greater_of, digits_for, sign_text, pointed, text_for};
+ghost use Rattle.value.specs.inner.Shortening.{Spellable, PutText, digits_for, sign_text, pointed, text_for};
 
 use crate::digits::{DIGITS, ROOM, TOO_LARGE};
 use crate::refusal::Refusal;
-use crate::sign::without_sign;
 use form::number::Number;
 
-// As many numbers as four digits say.
-const TEN_THOUSAND: u64 = 10000;
-
 // What comes back (D5): 0, 22 or 23, and how many bytes were written, 0 on a refusal.
+// kept (C): sargaceu_write_value answers these numbers
 #[derive(Clone, Copy)]
 pub struct ValueWritten {
     pub number: u8,
@@ -26,23 +23,21 @@ pub struct ValueWritten {
 pub fn write_value(whole: i64, decimals: usize, output: &mut [u8]) -> ValueWritten
     ensures { WroteValue most_digits whole decimals output.old result output.new }
 {
-    let value = without_sign(whole);
-    if TOO_LARGE <= value.magnitude {
-        return refusal(Refusal::OUT_OF_RANGE);
-    }
-    if DIGITS < decimals {
-        return refusal(Refusal::OUT_OF_RANGE);
-    }
-    if output.len() < ROOM {
-        return refusal(Refusal::NARROW_OUTPUT);
-    }
-    ValueWritten {
-        number: Number::ACCEPTED,
-        bytes: put_value(value.negative, value.magnitude, decimals, output),
+    let magnitude = whole.unsigned_abs();
+    if TOO_LARGE <= magnitude || DIGITS < decimals {
+        refusal(Refusal::OUT_OF_RANGE)
+    } else if output.len() < ROOM {
+        refusal(Refusal::NARROW_OUTPUT)
+    } else {
+        ValueWritten {
+            number: Number::ACCEPTED,
+            bytes: put_value(whole < 0, magnitude, decimals, output),
+        }
     }
 }
 
 // A refusal, with no byte written.
+#[tactic(auto, unfolding(crate::specs::Writing::spelling_told))]
 fn refusal(number: u8) -> ValueWritten
     ensures { result ≡ spelling_told (refuses_value number) }
 {
@@ -58,10 +53,11 @@ fn put_value(negative: bool, magnitude: u64, decimals: usize, output: &mut [u8])
     let start = put_sign(negative, output);
     if decimals == 0 {
         put_digits(magnitude, digits, output, start);
-        return start + digits;
+        start + digits
+    } else {
+        put_pointed(magnitude, digits, decimals, output, start);
+        start + digits + 1
     }
-    put_pointed(magnitude, digits, decimals, output, start);
-    start + digits + 1
 }
 
 // So many digits of a number from a place of the output on, with a point before the decimals: these first, then the point, then what is left
@@ -78,15 +74,17 @@ fn put_pointed(magnitude: u64, digits: usize, decimals: usize, output: &mut [u8]
 }
 
 // A minus at the front of the output, or nothing: how many bytes that is.
+#[tactic(auto, unfolding(crate::specs::inner::Shortening::sign_text))]
 fn put_sign(negative: bool, output: &mut [u8]) -> usize
     requires { 1 ≤ length output.old }
     ensures { PutText (sign_text negative) output.old result output.new }
 {
     if negative {
         output[0] = b'-';
-        return 1;
+        1
+    } else {
+        0
     }
-    0
 }
 
 // The last digits of a number, so many of them, zeros in front where it has fewer, from a place of the output on. What comes back is the
@@ -96,64 +94,30 @@ fn put_digits(magnitude: u64, count: usize, output: &mut [u8], at: usize) -> u64
     ensures { (result ≡ tenths count magnitude) × (output.new ≡ sets output.old at (last_digits count magnitude)) }
 {
     let mut left = magnitude;
-    let mut end = at + count;
-    while at < end {
-        end -= 1;
-        output[end] = b'0' + (left % 10) as u8;
+    for place in (at..at + count).rev() {
+        output[place] = b'0' + (left % 10) as u8;
         left /= 10;
     }
     left
 }
 
 // How many digits are written: as many as the number has, as many as there are decimals, and one at least.
+#[tactic(auto, unfolding(crate::specs::inner::Shortening::digits_for))]
 fn digits_for(magnitude: u64, decimals: usize) -> usize
     requires { magnitude < 10 ^ most_digits }
     ensures { result ≡ digits_for most_digits magnitude decimals }
 {
-    let digits = digit_count(magnitude);
-    greater(greater(digits, decimals), 1)
+    digit_count(magnitude).max(decimals).max(1)
 }
 
-// How many digits a number has; 0 has none. Four are taken off in a turn, since a division costs more than the comparisons that it spares.
+// How many digits a number has; 0 has none.
+#[tactic(auto, using(crate::proofs::DigitStores::count_none, crate::proofs::DigitStores::count_last))]
 fn digit_count(magnitude: u64) -> usize
     requires { magnitude < 10 ^ most_digits }
     ensures { result ≡ digit_count most_digits magnitude }
 {
-    let mut left = magnitude;
-    let mut count = 0;
-    while left >= TEN_THOUSAND {
-        left /= TEN_THOUSAND;
-        count += 4;
+    match magnitude.checked_ilog10() {
+        None => 0,
+        Some(last) => last as usize + 1,
     }
-    count + four_digits(left)
-}
-
-// How many digits a number below 10,000 has.
-fn four_digits(magnitude: u64) -> usize
-    requires { magnitude < 10000 }
-    ensures { result ≡ digit_count 4 magnitude }
-{
-    if magnitude < 10 {
-        if magnitude < 1 {
-            return 0;
-        }
-        return 1;
-    }
-    if magnitude < 100 {
-        return 2;
-    }
-    if magnitude < 1000 {
-        return 3;
-    }
-    4
-}
-
-// The greater of two numbers.
-fn greater(one: usize, other: usize) -> usize
-    ensures { result ≡ greater_of one other }
-{
-    if one < other {
-        return other;
-    }
-    one
 }

@@ -1,6 +1,5 @@
 -- `archive::widen` meets its contract: each return is one outcome.
 -- Assumes nothing.
-use native.Mathlib.Omega.{arith}
 use mathlib.Core.Bool.{true, false}
 use mathlib.Core.Path.{◌≡◌}
 use Rattle.form.specs.declared.forms.Form.TheVariants.{Small}
@@ -14,7 +13,14 @@ use Rattle.archive.specs.Widening.{ever_read}
 use Rattle.archive.proofs.Outcomes.{short-text, short-segments, short-leaves, none-short, widening-short, widening-never, refusal_gives}
 use Rattle.archive.proofs.WidenedTables.{given-put}
 use Rattle.archive.proofs.widen.Goals as goal
-use Rattle.archive.proofs.widen.Goals.{Else-new_leaves, Else-not-ever_read, Start}
+use Rattle.archive.proofs.widen.Goals.{
+  Else-new_leaves,
+  Else-not-ever_read,
+  Start,
+  then-new_text-lt-BYTES-via-then-new_text-lt-BYTES,
+  then-new_text-lt-BYTES-via-else-new_text-lt-BYTES+then-new_segments,
+  then-new_text-lt-BYTES-via-else-new_text-lt-BYTES+else-new_segments+then-new_leaves,
+}
 
 small_lawful : Lawful small_form
 unfolding limits_of
@@ -36,24 +42,18 @@ given : (c : Else-not-ever_read) → ever_read small_form (table (goal.at.Else-n
 given c = answered_yes c.ever_read.ensures c.if-not-ever_read.false
 
 pub returns-then-new_text-lt-BYTES : goal.returns-then-new_text-lt-BYTES
-returns-then-new_text-lt-BYTES c = refusal_gives (widening-short small_form (room (goal.at.returns-then-new_text-lt-BYTES c).Start) (table (goal.at.returns-then-new_text-lt-BYTES c).Start) (short-text small_form (room (goal.at.returns-then-new_text-lt-BYTES c).Start) c.if-new_text-lt-BYTES.true)) c.refuse.ensures
-
-pub overflow_mul-t-10 : goal.overflow_mul-t-10
-overflow_mul-t-10 c = omega arith
-
-pub returns-then-new_segments : goal.returns-then-new_segments
-returns-then-new_segments c =
-    refusal_gives (widening-short small_form (room (goal.at.returns-then-new_segments c).Start) (table (goal.at.returns-then-new_segments c).Start) (short-segments small_form (room (goal.at.returns-then-new_segments c).Start) c.if-new_text-lt-BYTES.false c.if-new_segments.true))
-    c.refuse-then-new_segments.ensures
-
-pub overflow_mul-t-10-2 : goal.overflow_mul-t-10-2
-overflow_mul-t-10-2 c = omega arith
-
-pub returns-then-new_leaves : goal.returns-then-new_leaves
-returns-then-new_leaves c =
+returns-then-new_text-lt-BYTES c =
+    let lent_room = room (goal.at.returns-then-new_text-lt-BYTES c).Start in
     refusal_gives
-    (widening-short small_form (room (goal.at.returns-then-new_leaves c).Start) (table (goal.at.returns-then-new_leaves c).Start) (short-leaves small_form (room (goal.at.returns-then-new_leaves c).Start) c.if-new_text-lt-BYTES.false c.if-new_segments.false c.if-new_leaves.true))
-    c.refuse-then-new_leaves.ensures
+    (widening-short small_form lent_room (table (goal.at.returns-then-new_text-lt-BYTES c).Start)
+    (elim c.then-new_text-lt-BYTES.branch [
+      | then-new_text-lt-BYTES-via-then-new_text-lt-BYTES w ↦ short-text small_form lent_room w.if-new_text-lt-BYTES.true
+      | then-new_text-lt-BYTES-via-else-new_text-lt-BYTES+then-new_segments w ↦
+          short-segments small_form lent_room w.if-new_text-lt-BYTES.false w.if-new_segments.true
+      | then-new_text-lt-BYTES-via-else-new_text-lt-BYTES+else-new_segments+then-new_leaves w ↦
+          short-leaves small_form lent_room w.if-new_text-lt-BYTES.false w.if-new_segments.false w.if-new_leaves.true
+    ]))
+    c.refuse.ensures
 
 pub returns-then-not-ever_read : goal.returns-then-not-ever_read
 returns-then-not-ever_read c =

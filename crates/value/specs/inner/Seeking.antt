@@ -1,17 +1,21 @@
 -- What the search for an order's numeric results asks of a table, and what it puts.
 -- Assumes nothing.
-use Rattle.std.specs.Prelude.{List, [], ◌∷◌, map, ◌≡◌, ℕ, suc, ◌+◌, ◌*◌, ◌≤◌, ◌<◌, ℤ, length}
+use Rattle.std.specs.Prelude.{Bool, Option, List, [], ◌∷◌, map, ◌≡◌, ℕ, suc, ◌+◌, ◌-◌, ◌*◌, ◌≤◌, ◌<◌, ℤ, length, slice_get}
 use Rattle.std.proofs.lemmas.List.Edits.{sets}
 use Rattle.laws.specs.Tables.{passing}
 use Rattle.table.specs.Lent.{Lent}
 use Rattle.table.specs.Rows.{leaf_row_size, kind_in, owner_in, start_in, length_in}
 use Rattle.tested.specs.inner.Searchable.{Searchable}
 use Rattle.look.specs.Looking.{result_kind}
-use Rattle.value.specs.declared.numeral.Numeral.{Numeral}
+use Rattle.value.specs.inner.Said.{Numeral}
 use Rattle.value.specs.declared.reading.Value.{Value}
 use Rattle.value.specs.Refusals.{not_a_number}
 use Rattle.value.specs.Numerals.{says_none, numeral_of}
 use Rattle.value.specs.Results.{value_field, of_field, leaf_text_in, numeric_rows, values_of}
+
+-- the first number from one on and before another that passes a test
+abbrev pub first_passing : (ℕ → Bool) → (from to : ℕ) → Option ℕ
+first_passing test from to = slice_get (passing test from (to - from)) 0
 
 -- what the leaves of field 10.6 say, and the value of a row, with the sign and the digits still apart
 unfoldable pub leaf_says : (most : ℕ) → Lent → List ℕ → Numeral

@@ -1,17 +1,14 @@
 -- The shortest text of a value, made from its digits. That no text is shorter is a law.
 -- Assumes nothing.
-use Rattle.std.specs.Prelude.{Bool, true, false, List, [], ◌∷◌, ◌++◌, ◌≡◌, ℕ, zero, suc, ◌+◌, ◌-◌, ◌≤◌, ◌<◌, ◌^◌, ltb, ℤ, length}
+use Rattle.std.specs.Prelude.{Bool, true, false, List, [], ◌∷◌, ◌++◌, ◌≡◌, ℕ, zero, suc, ◌+◌, ◌-◌, ◌≤◌, ◌<◌, ◌^◌, max, ℤ, length}
 use Rattle.std.proofs.lemmas.List.Edits.{sets}
 use Rattle.value.specs.Numerals.{minus, point}
 use Rattle.value.specs.inner.Digits.{tenths, last_digits, digit_count}
 use Rattle.value.specs.inner.Signs.{apart}
 
-unfoldable pub greater_of : ℕ → ℕ → ℕ
-greater_of a b = elim (ltb a b) [ true ↦ b | false ↦ a ]
-
 -- how many digits are written: as many as the number has, as many as there are decimals, and one at least
 unfoldable pub digits_for : (most : ℕ) → (magnitude decimals : ℕ) → ℕ
-digits_for most magnitude decimals = greater_of (greater_of (digit_count most magnitude) decimals) 1
+digits_for most magnitude decimals = max (max (digit_count most magnitude) decimals) 1
 
 -- the minus in front, if any
 unfoldable pub sign_text : Bool → List ℕ
@@ -32,7 +29,7 @@ text_for most negative magnitude decimals = sign_text negative ++ digit_text (di
 
 -- the text of a value
 unfoldable pub shortest_text : (most : ℕ) → ℤ → ℕ → List ℕ
-shortest_text most whole decimals = text_for most (apart whole).negative (apart whole).magnitude decimals
+shortest_text most whole decimals = text_for most (apart whole).0 (apart whole).1 decimals
 
 -- what the writing of a text asks: a number of so many digits, with so many decimals, and room for the longest
 pub record Spellable (most magnitude decimals : ℕ) (output : List ℕ) : Type 0 where

@@ -21,9 +21,9 @@ returns-then-is_table c =
     (room_for_leaves small_form c.args.card c.args.segments.now c.args.leaves.now c.args.text.now c.requires)
     (sym c.is_table.ensures ∙ c.if-is_table.true)
 
-pub returns : goal.returns
+pub returns-else-is_table : goal.returns-else-is_table
 unfolding limits_of
-returns c =
+returns-else-is_table c =
     read-once small_form c.args.card c.args.segments.now c.args.leaves.now c.args.text.now c.requires (replicate 1024 0) (replicate 14336 0)
     c.put_numbers.ensures c.put_numbers-2.ensures
     (room_for_segments small_form c.args.card c.args.segments.now c.args.leaves.now c.args.text.now c.requires)

@@ -1,10 +1,13 @@
 -- `value::reading::read_value` meets its contract: what the text says, with its sign put on.
 -- Assumes nothing.
-use Rattle.value.proofs.SignedValues.{said_small, value-said}
+use mathlib.Core.Path.{ap, ◌∙◌}
+use Rattle.value.specs.Values.{with_sign, value_of}
+use Rattle.value.proofs.SignedValues.{said_small}
 use Rattle.value.proofs.reading.read_value.Goals as goal
 
-pub signed-whole-requires : goal.signed-whole-requires
-signed-whole-requires c = said_small c.args.text.now c.read_numeral-said.ensures
+pub value_said-requires : goal.value_said-requires
+value_said-requires c = said_small c.args.text.now c.read_numeral.ensures
 
 pub returns : goal.returns
-returns c = value-said c.args.text.now c.read_numeral-said.ensures c.signed-whole.ensures
+unfolding value_of
+returns c = c.value_said.ensures ∙ ap with_sign c.read_numeral.ensures

@@ -1,13 +1,12 @@
--- `value::result::is_type` meets its contract: the length and the two bytes.
+-- `value::result::is_type` meets its contract: the bytes of NM.
 -- Assumes nothing.
-use Rattle.value.proofs.NumericRows.{other_length, other-first, second_decides}
+use mathlib.Core.Path.{ap, ◌∙◌}
+use Rattle.laws.specs.Lists.{same}
+use Rattle.laws.specs.Texts.{bytes}
+use Rattle.laws.proofs.Slices.{same_by_eq}
+use Rattle.value.specs.Results.{numeric_type}
 use Rattle.value.proofs.result.is_type.Goals as goal
 
-pub returns-then-text-ne-LETTERS : goal.returns-then-text-ne-LETTERS
-returns-then-text-ne-LETTERS c = other_length c.args.text.now c.if-text-ne-LETTERS.true
-
-pub returns-then-text-ne78 : goal.returns-then-text-ne78
-returns-then-text-ne78 c = other-first c.args.text.now c.if-text-ne78.true
-
 pub returns : goal.returns
-returns c = second_decides c.args.text.now c.if-text-ne-LETTERS.false c.if-text-ne78.false
+unfolding numeric_type bytes
+returns c = c.eq.ensures ∙ same_by_eq _ _ ∙ ap (same c.args.text.now) c.as_slice.ensures

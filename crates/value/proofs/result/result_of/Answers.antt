@@ -1,6 +1,6 @@
 -- `value::result::result_of` meets its contract: by the first leaf of the field, and whether another stands behind it.
 -- Assumes nothing.
-use mathlib.Core.Path.{◌∙◌}
+use mathlib.Core.Path.{sym, ◌∙◌}
 use Prim.Native.Nat.{◌+◌, ◌*◌, ◌≤◌}
 use native.Mathlib.Omega.{arith}
 use lib.ListN.{length}
@@ -8,6 +8,7 @@ use Rattle.table.specs.Lent.{Lent, lent}
 use Rattle.table.specs.Rows.{segment_row_size}
 use Rattle.tested.proofs.NamedLeaves.{row_inside}
 use Rattle.value.specs.Numerals.{most_digits}
+use Rattle.value.specs.inner.Said.{told}
 use Rattle.value.proofs.FieldLeaves.{rows_searched, none_found, one-before, rows_behind, leaf-inside, more-found, one_found}
 use Rattle.value.proofs.result.result_of.Goals as goal
 use Rattle.value.proofs.result.result_of.Goals.{Start}
@@ -28,41 +29,40 @@ overflow_sub-from c = omega (arith, c.requires.table.first c.args.row c.requires
 pub bounds-segments-at-2 : goal.bounds-segments-at-2
 bounds-segments-at-2 c = omega (arith, inside (goal.at.bounds-segments-at-2 c).Start)
 
-pub first_of_field-one-requires : goal.first_of_field-one-requires
-first_of_field-one-requires c = rows_searched most_digits (lent_here (goal.at.first_of_field-one-requires c).Start) c.requires.table c.args.row c.requires.counts c.wide-from.ensures.0 c.wide.ensures.0
+pub first_of_field-requires : goal.first_of_field-requires
+first_of_field-requires c = rows_searched most_digits (lent_here (goal.at.first_of_field-requires c).Start) c.requires.table c.args.row c.requires.counts c.wide-from.ensures.0 c.wide.ensures.0
 
-pub returns-then-one-to : goal.returns-then-one-to
-returns-then-one-to c =
-    c.says_none.ensures
-    ∙ none_found most_digits (lent_here (goal.at.returns-then-one-to c).Start) c.requires.table c.args.row c.requires.counts c.wide-from.ensures.0 c.wide.ensures.0
-    c.first_of_field-one.ensures c.if-one-to.true
+pub returns-in_default : goal.returns-in_default
+unfolding told
+returns-in_default c =
+    none_found most_digits (lent_here (goal.at.returns-in_default c).Start) c.requires.table c.args.row c.requires.counts c.wide-from.ensures.0 c.wide.ensures.0 (sym c.in_default.is ∙ c.first_of_field.ensures)
 
 pub overflow_add-one : goal.overflow_add-one
 overflow_add-one c =
     omega (
       arith,
-      one-before most_digits (lent_here (goal.at.overflow_add-one c).Start) c.requires.table c.args.row c.requires.counts c.wide-from.ensures.0
-          c.wide.ensures.0 c.first_of_field-one.ensures c.if-one-to.false,
+      one-before most_digits (lent_here (goal.at.overflow_add-one c).Start) c.requires.table c.args.row c.requires.counts c.wide-from.ensures.0 c.wide.ensures.0
+          (sym c.in-Some.is ∙ c.first_of_field.ensures),
     )
 
-pub first_of_field-requires : goal.first_of_field-requires
-first_of_field-requires c =
-    rows_behind most_digits (lent_here (goal.at.first_of_field-requires c).Start) c.requires.table c.args.row c.requires.counts c.wide-from.ensures.0
-    c.wide.ensures.0 c.first_of_field-one.ensures c.if-one-to.false
-
-pub returns-then-first_of_field-to : goal.returns-then-first_of_field-to
-returns-then-first_of_field-to c =
-    c.says_none-then-first_of_field-to.ensures
-    ∙ more-found most_digits (lent_here (goal.at.returns-then-first_of_field-to c).Start) c.requires.table c.args.row c.requires.counts c.wide-from.ensures.0
-    c.wide.ensures.0 c.first_of_field-one.ensures c.if-one-to.false c.first_of_field.ensures c.if-first_of_field-to.true
+pub first_of_field-requires-2 : goal.first_of_field-requires-2
+first_of_field-requires-2 c =
+    rows_behind most_digits (lent_here (goal.at.first_of_field-requires-2 c).Start) c.requires.table c.args.row c.requires.counts c.wide-from.ensures.0 c.wide.ensures.0
+    (sym c.in-Some.is ∙ c.first_of_field.ensures)
 
 pub leaf_says-requires : goal.leaf_says-requires
 leaf_says-requires c =
-    leaf-inside most_digits (lent_here (goal.at.leaf_says-requires c).Start) c.requires.table c.args.row c.requires.counts c.wide-from.ensures.0
-    c.wide.ensures.0 c.first_of_field-one.ensures c.if-one-to.false
+    leaf-inside most_digits (lent_here (goal.at.leaf_says-requires c).Start) c.requires.table c.args.row c.requires.counts c.wide-from.ensures.0 c.wide.ensures.0
+    (sym c.in-Some.is ∙ c.first_of_field.ensures)
 
-pub returns : goal.returns
-returns c =
+pub returns-in-None : goal.returns-in-None
+returns-in-None c =
     c.leaf_says.ensures
-    ∙ one_found most_digits (lent_here (goal.at.returns c).Start) c.requires.table c.args.row c.requires.counts c.wide-from.ensures.0
-    c.wide.ensures.0 c.first_of_field-one.ensures c.if-one-to.false c.first_of_field.ensures c.if-first_of_field-to.false
+    ∙ one_found most_digits (lent_here (goal.at.returns-in-None c).Start) c.requires.table c.args.row c.requires.counts c.wide-from.ensures.0 c.wide.ensures.0
+    (sym c.in-Some.is ∙ c.first_of_field.ensures) (sym c.in-None.is ∙ c.first_of_field-2.ensures)
+
+pub returns-in-Some-first_of_field : goal.returns-in-Some-first_of_field
+unfolding told
+returns-in-Some-first_of_field c =
+    more-found most_digits (lent_here (goal.at.returns-in-Some-first_of_field c).Start) c.requires.table c.args.row c.requires.counts c.wide-from.ensures.0 c.wide.ensures.0
+    (sym c.in-Some.is ∙ c.first_of_field.ensures) (sym c.in-Some-first_of_field.is ∙ c.first_of_field-2.ensures)

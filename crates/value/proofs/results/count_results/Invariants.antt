@@ -5,8 +5,8 @@ use Rattle.table.specs.Lent.{lent}
 use Rattle.value.proofs.ResultsPut.{ResultsSeen}
 use Rattle.value.proofs.results.count_results.Given as goal
 
-abbrev pub invariant-loop-card : goal.invariant-loop-card
-invariant-loop-card l = ResultsSeen (lent l.card l.segments l.leaves l.text) l.order l.from l.count
+abbrev pub invariant-loop-row : goal.invariant-loop-row
+invariant-loop-row l = ResultsSeen (lent l.card l.segments l.leaves l.text) l.order l.from l.count
 
-abbrev pub decreases-loop-card : goal.decreases-loop-card
-decreases-loop-card l = l.card.segments - l.from
+abbrev pub decreases-loop-row : goal.decreases-loop-row
+decreases-loop-row l = l.card.segments - l.from

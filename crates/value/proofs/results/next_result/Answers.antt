@@ -1,15 +1,16 @@
--- `value::results::next_result` meets its contract. The loop's invariant: what is left of the rows gives the first of all. A row that belongs to
--- an earlier one ends the order. The measure is the rows that are left. Assumes nothing.
+-- `value::results::next_result` meets its contract. The loop's invariant: the first of the rows
+-- that are left is the first of all. A row that belongs to an earlier one ends the order.
+-- Assumes nothing.
 use mathlib.Core.Bool.{Bool}
 use mathlib.Core.Path.{sym, ◌∙◌}
 use Prim.Native.Nat.{ℕ, ◌+◌, ◌*◌, ◌≤◌, ◌<◌}
 use native.Mathlib.Omega.{arith}
 use lib.ListN.{length}
-use Rattle.laws.proofs.Passing.{passing_begins, passing-found, passing_on, passing-ends, passing-done}
 use Rattle.table.specs.Lent.{Lent, lent}
 use Rattle.table.specs.Rows.{segment_row_size}
 use Rattle.tested.proofs.NamedLeaves.{row_inside}
 use Rattle.value.specs.Results.{is_numeric}
+use Rattle.value.proofs.FirstPassing.{sought_found, sought_on, sought_ends, sought_done}
 use Rattle.value.proofs.NumericRows.{none-behind}
 use Rattle.value.proofs.results.next_result.Goals as goal
 use Rattle.value.proofs.results.next_result.Goals.{At-loop-row, Start}
@@ -26,41 +27,23 @@ inside : (c : At-loop-row) → c.loop-row.row < c.args.card.segments
     → c.loop-row.row * segment_row_size + segment_row_size ≤ length c.args.segments.now
 inside c h = row_inside (lent_here (goal.at.At-loop-row c).Start) c.requires.rows.table c.loop-row.row h
 
-pub loop-row-init : goal.loop-row-init
-loop-row-init c = passing_begins (test_at (goal.at.loop-row-init c).Start) c.args.from c.args.card.segments c.requires.within
-
-pub overflow_mul-row : goal.overflow_mul-row
-overflow_mul-row c = omega (arith, inside (goal.at.overflow_mul-row c).At-loop-row c.loop-row-test.true)
-
-pub overflow_add-row : goal.overflow_add-row
-overflow_add-row c = omega (arith, inside (goal.at.overflow_add-row c).At-loop-row c.loop-row-test.true)
-
-pub offset_bounds-segments-row : goal.offset_bounds-segments-row
-offset_bounds-segments-row c = omega (arith, inside (goal.at.offset_bounds-segments-row c).At-loop-row c.loop-row-test.true)
-
 pub bounds-segments-row : goal.bounds-segments-row
 bounds-segments-row c = omega (arith, inside (goal.at.bounds-segments-row c).At-loop-row c.loop-row-test.true)
 
 pub returns-then-segments-row : goal.returns-then-segments-row
 returns-then-segments-row c =
-    passing-ends (test_at (goal.at.returns-then-segments-row c).Start) c.loop-row.invariant
-    (none-behind (lent_here (goal.at.returns-then-segments-row c).Start) c.args.order c.requires.rows c.loop-row.row (omega (arith, c.requires.behind, c.loop-row.invariant.later))
+    sought_ends (test_at (goal.at.returns-then-segments-row c).Start) c.loop-row.invariant
+    (none-behind (lent_here (goal.at.returns-then-segments-row c).Start) c.args.order c.requires.rows c.loop-row.row (omega (arith, c.requires.behind, c.loop-row.auto.row))
     c.if-segments-row.true)
 
 pub is_numeric-requires : goal.is_numeric-requires
 is_numeric-requires c = record { table = c.requires.rows.table; counts = c.loop-row-test.true }
 
 pub returns-then-is_numeric : goal.returns-then-is_numeric
-returns-then-is_numeric c = passing-found (test_at (goal.at.returns-then-is_numeric c).Start) c.loop-row.invariant c.loop-row-test.true (sym c.is_numeric.ensures ∙ c.if-is_numeric.true)
-
-pub overflow_add-row-in-loop-row : goal.overflow_add-row-in-loop-row
-overflow_add-row-in-loop-row c = omega arith
-
-pub loop-row-smaller : goal.loop-row-smaller
-loop-row-smaller c = omega arith
+returns-then-is_numeric c = sought_found (test_at (goal.at.returns-then-is_numeric c).Start) c.loop-row.invariant c.loop-row-test.true (sym c.is_numeric.ensures ∙ c.if-is_numeric.true)
 
 pub loop-row-preserved : goal.loop-row-preserved
-loop-row-preserved c = passing_on (test_at (goal.at.loop-row-preserved c).Start) c.loop-row.invariant c.loop-row-test.true (sym c.is_numeric.ensures ∙ c.if-is_numeric.false)
+loop-row-preserved c = sought_on (test_at (goal.at.loop-row-preserved c).Start) c.loop-row.invariant c.loop-row-test.true (sym c.is_numeric.ensures ∙ c.if-is_numeric.false)
 
 pub returns : goal.returns
-returns c = passing-done (test_at (goal.at.returns c).Start) c.loop-row.invariant c.loop-row-test.false
+returns c = sought_done (test_at (goal.at.returns c).Start) c.loop-row.invariant c.loop-row-test.false

@@ -23,7 +23,7 @@ use Rattle.value.specs.inner.Seeking.{OrderRows}
 use Rattle.value.proofs.TestedTables.{order-rows}
 use Rattle.value.proofs.ResultsRead.{no_table, no_order, values-refused, values-few, values-put}
 use Rattle.value.proofs.results.order_values.Goals as goal
-use Rattle.value.proofs.results.order_values.Goals.{After-has_room, After-lesser-room, Else-not-has_room, Else-not-is_order, Else-not-is_table, Start}
+use Rattle.value.proofs.results.order_values.Goals.{After-has_room, After-min-room, Else-not-has_room, Else-not-is_order, Else-not-is_table, Start}
 
 -- the limits of its form, the table that is lent, how many results its order has, and how many answers have room
 abbrev limits_here : Start → Limits
@@ -52,11 +52,11 @@ rows_here c =
     c.args.order (order_here c)
 
 -- the room is that of the shortest buffer; whether it does for all results; and past the third test, it does
-room_here : (c : After-lesser-room) → c.lesser-room.result ≡ room-held (goal.at.After-lesser-room c).Start
-room_here c = c.lesser-room.ensures ∙ ap (λ (n : ℕ). min n (length c.args.decimals.now)) c.lesser.ensures
+room_here : (c : After-min-room) → c.min-room.result ≡ room-held (goal.at.After-min-room c).Start
+room_here c = c.min-room.ensures ∙ ap (λ (n : ℕ). min n (length c.args.decimals.now)) c.min.ensures
 
 room-tested : (c : After-has_room) → c.has_room.result ≡ leb (many_here (goal.at.After-has_room c).Start) (room-held (goal.at.After-has_room c).Start)
-room-tested c = c.has_room.ensures ∙ ap (leb (many_here (goal.at.After-has_room c).Start)) (room_here (goal.at.After-has_room c).After-lesser-room)
+room-tested c = c.has_room.ensures ∙ ap (leb (many_here (goal.at.After-has_room c).Start)) (room_here (goal.at.After-has_room c).After-min-room)
 
 all_fit : (c : Else-not-has_room) → leb (many_here (goal.at.Else-not-has_room c).Start) (room-held (goal.at.Else-not-has_room c).Start) ≡ true
 all_fit c = sym (room-tested (goal.at.Else-not-has_room c).After-has_room) ∙ c.if-not-has_room.false

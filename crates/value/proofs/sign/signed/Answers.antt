@@ -9,5 +9,5 @@ overflow_sub-result c = negated_fits c.args.magnitude c.requires
 pub returns-then-negative : goal.returns-then-negative
 returns-then-negative c = signed_minus c.args.magnitude c.requires c.if-negative.true
 
-pub returns : goal.returns
-returns c = signed_plain c.args.magnitude c.requires c.if-negative.false
+pub returns-else-negative : goal.returns-else-negative
+returns-else-negative c = signed_plain c.args.magnitude c.requires c.if-negative.false

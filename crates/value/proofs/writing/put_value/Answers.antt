@@ -32,13 +32,13 @@ returns-then-decimals-eq0 c =
 pub put_pointed-requires : goal.put_pointed-requires
 put_pointed-requires c = (decimals_here (goal.at.put_pointed-requires c).After-put_sign-start, room_here (goal.at.put_pointed-requires c).After-put_sign-start)
 
-pub overflow_add-result-2 : goal.overflow_add-result-2
-overflow_add-result-2 c = omega (arith, room_here (goal.at.overflow_add-result-2 c).After-put_sign-start)
+pub overflow_add-result-else-decimals-eq0 : goal.overflow_add-result-else-decimals-eq0
+overflow_add-result-else-decimals-eq0 c = omega (arith, room_here (goal.at.overflow_add-result-else-decimals-eq0 c).After-put_sign-start)
 
-pub overflow_add-result-3 : goal.overflow_add-result-3
-overflow_add-result-3 c = omega (arith, room_here (goal.at.overflow_add-result-3 c).After-put_sign-start)
+pub overflow_add-result-else-decimals-eq0-2 : goal.overflow_add-result-else-decimals-eq0-2
+overflow_add-result-else-decimals-eq0-2 c = omega (arith, room_here (goal.at.overflow_add-result-else-decimals-eq0-2 c).After-put_sign-start)
 
-pub returns : goal.returns
-returns c =
+pub returns-else-decimals-eq0 : goal.returns-else-decimals-eq0
+returns-else-decimals-eq0 c =
     pointed-put most_digits (omega arith) c.args.negative c.args.magnitude c.args.decimals c.args.output.now c.requires c.digits_for-digits.ensures
     c.put_sign-start.ensures c.if-decimals-eq0.false c.put_pointed.ensures
