@@ -45,13 +45,10 @@ fn answer_input(
     segments: &mut [rows::Entry; SEGMENTS],
     leaves: &mut [rows::Entry; LEAVES],
 ) {
-    let input = input::read_input(&mut rt.reader(), message);
-    if !input.sound {
+    let Ok(bytes) = input::read_input(&mut rt.reader(), message) else {
         return;
-    }
-    let bytes = input.bytes;
-    let whole = &message[..];
-    put_answer(rt, &whole[0..bytes], text, segments, leaves);
+    };
+    put_answer(rt, &message[..bytes], text, segments, leaves);
 }
 
 // Reads a message; says why it is refused, or the verdict on its table.
