@@ -1,6 +1,7 @@
-// Lists the message that comes on standard input: the listing (G1, G2), and nothing else. What matters is in the library; this reads and writes.
-// Where the input cannot be read nothing is printed, which tells it: the exit status is always 0, and an empty message has a listing. A write that
-// fails is passed over.
+// Lists the message that comes on standard input: the listing (G1, G2), and nothing else. What
+// matters is in the library; this reads and writes. Where the input cannot be read nothing is
+// printed, which tells it: the exit status is always 0, and an empty message has a listing. A write
+// that fails is passed over.
 #![tactic(auto)]
 
 use form::forms::SmallForm;

@@ -1,9 +1,9 @@
 -- Counting the codes of the rows up to the next patient (R2): the turns of the loop.
 -- Assumes nothing.
-use mathlib.Core.List.{List, [], ◌∷◌}
+use mathlib.Core.List.{List}
 use mathlib.Core.Logic.{◌⊎◌, inl, inr}
-use mathlib.Core.Path.{◌≡◌, refl, sym, ap, ◌∙◌}
-use Prim.Native.Nat.{ℕ, zero, suc, ◌+◌, ◌-◌, ◌≤◌, ◌<◌}
+use mathlib.Core.Path.{◌≡◌, sym, ap, ◌∙◌}
+use Prim.Native.Nat.{ℕ, suc, ◌+◌, ◌-◌, ◌≤◌, ◌<◌}
 use native.Mathlib.Numerals.{add-one}
 use native.Mathlib.Omega.{arith}
 use borrow.Author.Tests.{eq-eqb, ne_eqb}
@@ -13,7 +13,7 @@ use lib.ListN.{length, get_or, set, length-set}
 use lib.Seq.{get_or-set_same, get_or-set_other}
 use Rattle.laws.specs.Tables.{passing}
 use Rattle.laws.proofs.Cases.{equal_or_not}
-use Rattle.laws.proofs.Passing.{passing_hit, passing_miss, length-passing, Passing, passing_begins, passing_on, passing-found, passing-done}
+use Rattle.laws.proofs.Passing.{passing_hit, passing_miss, length-passing, Passing, passing_on, passing-found, passing-done}
 use Rattle.table.specs.Lent.{Lent}
 use Rattle.table.specs.Rows.{kind_in}
 use Rattle.look.specs.Looking.{patient_kind}
@@ -23,17 +23,6 @@ use Rattle.screen.specs.declared.codes.Code.TheVariants.{Pays, Typor, Pross, Fin
 use Rattle.screen.specs.inner.Codes.{code_number}
 use Rattle.screen.specs.inner.Counting.{code_count, code_in, next_patient, count_between, CodesCounted}
 use Rattle.laws.proofs.Passing.{first_bounds}
-
--- no code counted yet
-abbrev pub no_counts : List ℕ
-no_counts = 0 ∷ 0 ∷ 0 ∷ 0 ∷ []
-
-no_count : (k : ℕ) → k < code_count → get_or no_counts k 0 ≡ 0
-no_count zero l = refl
-no_count (suc zero) l = refl
-no_count (suc (suc zero)) l = refl
-no_count (suc (suc (suc zero))) l = refl
-no_count (suc (suc (suc (suc k)))) l = absurd (omega (arith, l))
 
 -- the place of a code is one of the four
 pub code_placed : (code : Code) → code_number (Some code) < code_count
@@ -48,14 +37,6 @@ module _ (t : Lent) (from : ℕ) where
     pub sought : Passing (has_kind t patient_kind) from t.card.segments i
     pub size : length counts ≡ code_count
     pub each : (k : ℕ) → k < code_count → get_or counts k 0 + count_between t k i (next_patient t from) ≡ count_between t k from (next_patient t from)
-
-  pub counting-begins : from ≤ t.card.segments → CountingCodes no_counts from
-  counting-begins h =
-      record {
-        sought = passing_begins (has_kind t patient_kind) from t.card.segments h;
-        size = refl;
-        each = λ k l. omega (arith, no_count k l);
-      }
 
   module _ {counts : List ℕ} {i : ℕ} (w : CountingCodes counts i) where
     -- where the next patient stands, or at the last row, nothing is left

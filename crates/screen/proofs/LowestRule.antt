@@ -98,18 +98,6 @@ module _ (t : Lent) where
     pub failed : lowest < past_rules → fails_at t (place - 1) lowest ≡ true
     pub first : lowest < past_rules → (m : ℕ) → m < place - 1 → fails_at t m lowest ≡ false
 
-  lowest_begins : LowestSoFar 0 past_rules 0
-  lowest_begins =
-      record {
-        within = omega arith;
-        from = omega arith;
-        to = omega arith;
-        none_lower = λ n g h m l. absurd (omega (arith, l));
-        placed = λ h. absurd (omega (arith, h));
-        failed = λ h. absurd (omega (arith, h));
-        first = λ h m l. absurd (omega (arith, h));
-      }
-
   -- one row more, and the first rule that it fails; past the rules where it fails none
   abbrev first_or_past : ℕ → ℕ
   first_or_past i = get_or (passing (fails_at t i) first_rule (past_rules - first_rule)) 0 past_rules
@@ -163,9 +151,6 @@ module _ (t : Lent) where
   pub record LowestKept (i : ℕ) (lowest : Option Verdict) : Type 0 where
     pub so_far : LowestSoFar i (kept_number lowest) (kept_place lowest)
     pub a_rule : (v : Verdict) → lowest ≡ Some v → v.number < past_rules
-
-  pub kept_begins : LowestKept 0 None
-  kept_begins = record { so_far = lowest_begins; a_rule = λ v e. cc }
 
   -- a row that fails no rule; one that fails the lowest so far; and one that does not fail a lower one
   module _ {i : ℕ} {lowest : Option Verdict} (w : LowestKept i lowest) (here : i < count) where

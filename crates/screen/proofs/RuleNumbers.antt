@@ -187,6 +187,3 @@ module _ (t : Lent) (i : ℕ) where
 
     pub fields-done : field_count ≤ k → None ≡ first_failed t i first_rule first_code_rule
     fields-done h = none_found (fails_at t i) first_rule first_code_rule (omega arith) (passing-done (fails_at t i) w (omega (arith, h)))
-
-  pub fields_begin : RulesTried first_rule first_code_rule first_rule
-  fields_begin = passing_begins (fails_at t i) first_rule first_code_rule (omega arith)

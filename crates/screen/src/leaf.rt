@@ -1,4 +1,5 @@
-// The leaves of a row by their names (S5): the text of one, whether it is a given text, whether it is a letter.
+// The leaves of a row by their names (S5): the text of one, whether it is a given text, whether it
+// is a letter.
 ghost use Rattle.std.specs.Prelude.{◌≡◌};
 ghost use Rattle.table.specs.Lent.{lent};
 ghost use Rattle.screen.specs.Meeting.{leaf_is, is_letter};
@@ -7,8 +8,9 @@ ghost use Rattle.screen.specs.inner.Rows.{text_in, ReportRow, AskedText};
 use look::leaf::{Place, Sought};
 use table::{Card, rows};
 
-// The text of a leaf of a segment row, counted from 0, by its field and subfield; no byte where the leaf is empty or not there. It is sought
-// among the row's own leaves, which in a table that some message reads to gives what the lookup gives.
+// The text of a leaf of a segment row, counted from 0, by its field and subfield; no byte where the
+// leaf is empty or not there. It is sought among the row's own leaves, which in a table that some
+// message reads to gives what the lookup gives.
 pub(crate) fn leaf_text<'a>(
     card: Card,
     segments: &[rows::Entry],

@@ -1,5 +1,6 @@
-// The check for screening reports (rules R1 to R6): whether an ORU has the fields, the pseudo-analyses and the values that are asked of it. It
-// stands above the library: of a table it knows only what the crates below promise.
+// The check for screening reports (rules R1 to R6): whether an ORU has the fields, the
+// pseudo-analyses and the values that are asked of it. It stands above the library: of a table it
+// knows only what the crates below promise.
 #![tactic(auto)]
 
 mod codes;
@@ -26,15 +27,17 @@ use form::forms::Form;
 use form::number::Number;
 use table::{Card, rows};
 
-// What comes back (R4, R5): 0 for yes; else the number of the lowest rule that some row fails, and the first such row; or 13 or 30 with the place 0.
+// What comes back (R4, R5): 0 for yes; else the number of the lowest rule that some row fails, and
+// the first such row; or 13 or 30 with the place 0.
 #[derive(Clone, Copy)]
 pub struct Verdict {
     pub number: u8,
     pub place: usize,
 }
 
-// Whether a table of a form is a screening report that keeps every rule. Any card and any buffers get a verdict, and nothing is changed. Once the table
-// is tested, each row is judged once, and each result once more for its patient.
+// Whether a table of a form is a screening report that keeps every rule. Any card and any buffers
+// get a verdict, and nothing is changed. Once the table is tested, each row is judged once, and
+// each result once more for its patient.
 pub fn screen(
     form: Form,
     card: Card,
@@ -60,7 +63,8 @@ fn refused(number: u8) -> Verdict
     Verdict { number, place: 0 }
 }
 
-// The verdict by the rules. Of each row the lowest rule counts that it fails; the lowest of all rows is kept with the first row that has it.
+// The verdict by the rules. Of each row the lowest rule counts that it fails; the lowest of all
+// rows is kept with the first row that has it.
 fn judge(card: Card, segments: &[rows::Entry], leaves: &[rows::Entry], text: &[u8]) -> Verdict
     requires { Report (lent card segments.now leaves.now text.now) }
     ensures { result ≡ judged_by (lent card segments.now leaves.now text.now) first_rule rules }

@@ -1,4 +1,5 @@
-// Which rule a row fails first: a result by its value; any other row by its fields, and then a patient by the codes of its results.
+// Which rule a row fails first: a result by its value; any other row by its fields, and then a
+// patient by the codes of its results.
 ghost use Rattle.std.specs.Prelude.{◌≡◌};
 ghost use Rattle.table.specs.Lent.{lent};
 ghost use Rattle.screen.specs.Refusals.{first_rule};
