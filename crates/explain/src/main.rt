@@ -68,12 +68,10 @@ fn answer_input(
     leaves: &mut [rows::Entry; LEAVES],
 ) {
     let mut reader = rt.reader();
-    let input = input::read_input(&mut reader, message);
-    let bytes = input.bytes;
-    let rest = read_rest(&mut reader, bytes == MESSAGE);
-    if !input.sound {
+    let Ok(bytes) = input::read_input(&mut reader, message) else {
         return;
-    }
+    };
+    let rest = read_rest(&mut reader, bytes == MESSAGE);
     if !rest.sound {
         return;
     }

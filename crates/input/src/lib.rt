@@ -1,57 +1,37 @@
-// Standard input, read to its end or as far as a buffer reaches, and a fault told apart from the end: what the programs for one message share.
+// Standard input, read to its end or as far as a buffer reaches, and a fault told apart from the
+// end: what the programs for one message share.
 #![tactic(auto)]
 
-ghost use Rattle.std.specs.Prelude.{◌≡◌, ◌<◌, length, take, IsTrue};
+ghost use Rattle.std.specs.Prelude.{◌<◌, length, take, IfOk};
 ghost use Rattle.std.specs.Io.KnownBytes.{Consumes, IsAtEnd};
-ghost use Rattle.input.specs.Counts.{IsPrefixLen};
+ghost use Rattle.input.specs.Counts.{IsPrefixLen, came_in};
 
 use std::io::Read;
 
-// How many bytes came, and whether every read went well.
-#[derive(Clone, Copy)]
-pub struct Input {
+// A read that failed, and how many bytes had come before it.
+#[derive(Clone, Copy, PartialEq, Eq, Debug)]
+pub struct Fault {
     pub bytes: usize,
-    pub sound: bool,
 }
 
-// Fills a buffer from a reader such as standard input, until it is full, the input ends or a read fails. Of a reader whose bytes are known the buffer
-// has those that came, in their order, and where no read fails and there is room left none are left.
-pub fn read_input<R: Read>(reader: &mut R, buffer: &mut [u8]) -> Input
-    ensures within { IsPrefixLen result.bytes buffer.new }
-    ensures came { Consumes (R.remaining reader.old) (R.remaining reader.new) (take result.bytes buffer.new) }
-    ensures ended { IsTrue result.sound → result.bytes < length buffer.new → IsAtEnd (R.remaining reader.new) }
+// Fills a buffer from a reader such as standard input, until it is full, the input ends or a read
+// fails, and says how many bytes came. Of a reader whose bytes are known the buffer has those that
+// came, in their order, and where no read fails and there is room left none are left.
+pub fn read_input<R: Read>(reader: &mut R, buffer: &mut [u8]) -> Result<usize, Fault>
+    ensures within { IsPrefixLen (came_in result) buffer.new }
+    ensures came { Consumes (R.remaining reader.old) (R.remaining reader.new) (take (came_in result) buffer.new) }
+    ensures ended { IfOk result (λ bytes. bytes < length buffer.new → IsAtEnd (R.remaining reader.new)) }
 {
     let mut bytes = 0;
+    // kept (plainer): a read says by how much the count rises, so no range or iterator counts it
     while bytes < buffer.len() {
-        let more = read_once(reader, &mut buffer[bytes..]);
-        if !more.sound {
-            return Input {
-                bytes,
-                sound: false,
-            };
+        match reader.read(&mut buffer[bytes..]) {
+            Ok(0) => break,
+            Ok(more) => bytes += more,
+            Err(_) => return Err(Fault { bytes }),
         }
-        if more.bytes == 0 {
-            break;
-        }
-        bytes += more.bytes;
     }
-    Input { bytes, sound: true }
-}
-
-// One read: no bytes are the end, and an error is a fault.
-fn read_once<R: Read>(reader: &mut R, part: &mut [u8]) -> Input
-    ensures within { IsPrefixLen result.bytes part.new }
-    ensures came { Consumes (R.remaining reader.old) (R.remaining reader.new) (take result.bytes part.new) }
-    ensures ended { IsTrue result.sound → result.bytes ≡ 0 → 0 < length part.new → IsAtEnd (R.remaining reader.new) }
-    ensures faulty { ¬ IsTrue result.sound → result.bytes ≡ 0 }
-{
-    match reader.read(part) {
-        Ok(bytes) => Input { bytes, sound: true },
-        Err(_) => Input {
-            bytes: 0,
-            sound: false,
-        },
-    }
+    Ok(bytes)
 }
 
 #[cfg(test)]
@@ -83,8 +63,7 @@ mod tests {
     fn reads_to_the_end(rt: HostRuntime) {
         let mut buffer = [0; 4];
         let input = read_input(&mut &b"abc"[..], &mut buffer);
-        assert!(rt; input.sound);
-        assert_eq!(rt; input.bytes, 3);
+        assert_eq!(rt; input, Ok(3));
         assert_eq!(rt; buffer, *b"abc\0");
     }
 
@@ -93,8 +72,7 @@ mod tests {
         let mut buffer = [0; 2];
         let mut reader = &b"abc"[..];
         let input = read_input(&mut reader, &mut buffer);
-        assert!(rt; input.sound);
-        assert_eq!(rt; input.bytes, 2);
+        assert_eq!(rt; input, Ok(2));
         assert_eq!(rt; buffer, *b"ab");
         assert_eq!(rt; reader, b"c".as_slice());
     }
@@ -103,8 +81,7 @@ mod tests {
     fn tells_a_fault_from_the_end(rt: HostRuntime) {
         let mut buffer = [0; 4];
         let input = read_input(&mut Failing { left: b"abc" }, &mut buffer);
-        assert!(rt; !input.sound);
-        assert_eq!(rt; input.bytes, 3);
+        assert_eq!(rt; input, Err(Fault { bytes: 3 }));
         assert_eq!(rt; buffer, *b"abc\0");
     }
 
@@ -112,7 +89,6 @@ mod tests {
     fn a_full_buffer_meets_no_fault(rt: HostRuntime) {
         let mut buffer = [0; 3];
         let input = read_input(&mut Failing { left: b"abc" }, &mut buffer);
-        assert!(rt; input.sound);
-        assert_eq!(rt; input.bytes, 3);
+        assert_eq!(rt; input, Ok(3));
     }
 }

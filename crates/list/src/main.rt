@@ -1,6 +1,7 @@
-// Lists the message that comes on standard input: the listing (G1, G2), and nothing else. What matters is in the library; this reads and writes.
-// Where the input cannot be read nothing is printed, which tells it: the exit status is always 0, and an empty message has a listing. A write that
-// fails is passed over.
+// Lists the message that comes on standard input: the listing (G1, G2), and nothing else. What
+// matters is in the library; this reads and writes. Where the input cannot be read nothing is
+// printed, which tells it: the exit status is always 0, and an empty message has a listing. A write
+// that fails is passed over.
 #![tactic(auto)]
 
 use form::forms::SmallForm;
@@ -19,12 +20,10 @@ const LEAVES: usize = SmallForm::LEAVES * rows::LEAF_ROW;
 
 fn main(rt: HostRuntime) {
     let mut message = [0; MESSAGE];
-    let input = input::read_input(&mut rt.stdin(), &mut message);
-    if !input.sound {
+    let Ok(bytes) = input::read_input(&mut rt.stdin(), &mut message) else {
         return;
-    }
-    let bytes = input.bytes;
-    print_listing(&rt, &message[0..bytes]);
+    };
+    print_listing(&rt, &message[..bytes]);
 }
 
 // Writes the listing of a message to standard output.
@@ -34,5 +33,5 @@ fn print_listing(rt: &impl Print, message: &[u8]) {
     let mut leaves = [0; LEAVES];
     let mut listing = [0; SIZE];
     let bytes = list(message, &mut text, &mut segments, &mut leaves, &mut listing);
-    let _ = rt.write_all(&listing[0..bytes]);
+    let _ = rt.write_all(&listing[..bytes]);
 }

@@ -1,58 +1,49 @@
 -- Counting the codes of the rows up to the next patient (R2): the turns of the loop.
 -- Assumes nothing.
-use mathlib.Core.List.{List, [], ◌∷◌}
+use mathlib.Core.List.{List}
 use mathlib.Core.Logic.{◌⊎◌, inl, inr}
-use mathlib.Core.Path.{◌≡◌, refl, sym, ap, ◌∙◌}
-use Prim.Native.Nat.{ℕ, zero, suc, ◌+◌, ◌-◌, ◌≤◌, ◌<◌}
+use mathlib.Core.Path.{◌≡◌, sym, ap, ◌∙◌}
+use Prim.Native.Nat.{ℕ, suc, ◌+◌, ◌-◌, ◌≤◌, ◌<◌}
 use native.Mathlib.Numerals.{add-one}
 use native.Mathlib.Omega.{arith}
 use borrow.Author.Tests.{eq-eqb, ne_eqb}
+use Rattle.std.specs.Prelude.{Some}
 use lib.Dec.{eqb}
 use lib.ListN.{length, get_or, set, length-set}
 use lib.Seq.{get_or-set_same, get_or-set_other}
 use Rattle.laws.specs.Tables.{passing}
 use Rattle.laws.proofs.Cases.{equal_or_not}
-use Rattle.laws.proofs.Passing.{passing_hit, passing_miss, length-passing, Passing, passing_begins, passing_on, passing-found, passing-done}
+use Rattle.laws.proofs.Passing.{passing_hit, passing_miss, length-passing, Passing, passing_on, passing-found, passing-done}
 use Rattle.table.specs.Lent.{Lent}
 use Rattle.table.specs.Rows.{kind_in}
 use Rattle.look.specs.Looking.{patient_kind}
 use Rattle.screen.specs.Meeting.{has_kind}
+use Rattle.screen.specs.declared.codes.Code.{Code}
+use Rattle.screen.specs.declared.codes.Code.TheVariants.{Pays, Typor, Pross, Finge}
+use Rattle.screen.specs.inner.Codes.{code_number}
 use Rattle.screen.specs.inner.Counting.{code_count, code_in, next_patient, count_between, CodesCounted}
 use Rattle.laws.proofs.Passing.{first_bounds}
-use Rattle.screen.proofs.RowCodes.{few-codes}
 
--- no code counted yet
-abbrev pub no_counts : List ℕ
-no_counts = 0 ∷ 0 ∷ 0 ∷ 0 ∷ 0 ∷ []
-
-no_count : (k : ℕ) → k ≤ code_count → get_or no_counts k 0 ≡ 0
-no_count zero l = refl
-no_count (suc zero) l = refl
-no_count (suc (suc zero)) l = refl
-no_count (suc (suc (suc zero))) l = refl
-no_count (suc (suc (suc (suc zero)))) l = refl
-no_count (suc (suc (suc (suc (suc k))))) l = absurd (omega (arith, l))
+-- the place of a code is one of the four
+pub code_placed : (code : Code) → code_number (Some code) < code_count
+code_placed Pays = omega arith
+code_placed Typor = omega arith
+code_placed Pross = omega arith
+code_placed Finge = omega arith
 
 module _ (t : Lent) (from : ℕ) where
   -- before the turn at i: no patient came yet, and what is counted with what is left gives the whole, of each code
   pub record CountingCodes (counts : List ℕ) (i : ℕ) : Type 0 where
     pub sought : Passing (has_kind t patient_kind) from t.card.segments i
-    pub size : length counts ≡ suc code_count
-    pub each : (k : ℕ) → k ≤ code_count → get_or counts k 0 + count_between t k i (next_patient t from) ≡ count_between t k from (next_patient t from)
-
-  pub counting-begins : from ≤ t.card.segments → CountingCodes no_counts from
-  counting-begins h =
-      record {
-        sought = passing_begins (has_kind t patient_kind) from t.card.segments h;
-        size = refl;
-        each = λ k l. omega (arith, no_count k l);
-      }
+    pub size : length counts ≡ code_count
+    pub each : (k : ℕ) → k < code_count → get_or counts k 0 + count_between t k i (next_patient t from) ≡ count_between t k from (next_patient t from)
 
   module _ {counts : List ℕ} {i : ℕ} (w : CountingCodes counts i) where
     -- where the next patient stands, or at the last row, nothing is left
     counted_at : i ≡ next_patient t from → CodesCounted t from counts
     counted_at e =
         record {
+          size = w.size;
           each = λ k l. let none : count_between t k i (next_patient t from) ≡ 0 = omega (arith, e, length-passing (λ j. eqb (code_in t j) k) i (next_patient t from - i)) in
               omega (arith, w.each k l, none);
         }
@@ -86,6 +77,15 @@ module _ (t : Lent) (from : ℕ) where
           ∙ ap length (passing_miss (λ j. eqb (code_in t j) k) i (next_patient t from - (i + 1)) (ne_eqb (code_in t i) k n))
           ∙ ap (λ (m : ℕ). length (passing (λ j. eqb (code_in t j) k) m (next_patient t from - (i + 1)))) (sym (add-one i))
 
+      -- a row without a code leaves the counts
+      pub counting_none : code_count ≡ code_in t i → CountingCodes counts (i + 1)
+      counting_none e =
+          record {
+            sought = sought_on;
+            size = w.size;
+            each = λ k l. omega (arith, w.each k l, left_miss k (λ q. omega (arith, q, e, l)));
+          }
+
       pub counting_on : {code : ℕ} → code ≡ code_in t i → CountingCodes (set counts code (get_or counts code 0 + 1)) (i + 1)
       counting_on {code} e =
           record {
@@ -94,7 +94,7 @@ module _ (t : Lent) (from : ℕ) where
             each = λ k l. by k l (equal_or_not code k);
           }
         where
-          by : (k : ℕ) → k ≤ code_count → (code ≡ k) ⊎ (code ≡ k → ⊥)
+          by : (k : ℕ) → k < code_count → (code ≡ k) ⊎ (code ≡ k → ⊥)
               → get_or (set counts code (get_or counts code 0 + 1)) k 0 + count_between t k (i + 1) (next_patient t from) ≡ count_between t k from (next_patient t from)
           by k l (inl q) =
               omega (
@@ -114,11 +114,11 @@ module _ (t : Lent) (from : ℕ) where
               )
 
     -- a count is small
-    pub count_small : from ≤ t.card.segments → {code : ℕ} → code ≡ code_in t i → get_or counts code 0 ≤ t.card.segments
-    count_small h {code} e =
+    pub count_small : from ≤ t.card.segments → (code : ℕ) → code < code_count → get_or counts code 0 ≤ t.card.segments
+    count_small h code l =
         omega (
           arith,
-          w.each code (omega (arith, e, few-codes t i)),
+          w.each code l,
           length-passing (λ j. eqb (code_in t j) code) from (next_patient t from - from),
           (first_bounds (has_kind t patient_kind) from t.card.segments h).1,
         )

@@ -1,4 +1,5 @@
 pub mod Letters
+pub mod FirstFound
 pub mod LeafTexts
 pub mod RowCodes
 pub mod CodesCounted

@@ -6,7 +6,9 @@ use mathlib.Core.Logic.{◌⊎◌, inl, inr}
 use mathlib.Core.Path.{◌≡◌, refl, sym, ap, ap₂, ◌∙◌}
 use Prim.Native.Nat.{ℕ, zero, suc, ◌+◌, ◌-◌, ◌≤◌, ◌<◌}
 use native.Mathlib.Omega.{arith}
-use borrow.Author.Tests.{eq-eqb, ne_eqb}
+use Rattle.std.specs.Prelude.{Option, Some, None, MatchOption, IsTrue, nat_lt}
+use borrow.Author.Tests.{ltb-true, ltb-false}
+use Rattle.std.specs.Option.{unwrap_or}
 use lib.ListN.{length, get_or}
 use Rattle.laws.specs.Tables.{passing}
 use Rattle.laws.proofs.Cases.{equal_or_not}
@@ -17,8 +19,9 @@ use Rattle.screen.specs.Refusals.{first_rule}
 use Rattle.screen.specs.Rules.{Rule, once, wanted_fields, codes, value_rules, rules}
 use Rattle.screen.specs.Meeting.{fails}
 use Rattle.screen.specs.Verdicts.{yes, at_first, judged_by}
-use Rattle.screen.specs.inner.Rows.{past_rules, fails_at, first_failed, verdict_at}
+use Rattle.screen.specs.inner.Rows.{past_rules, fails_at, first_failed}
 use Rattle.laws.proofs.Passing.{first_bounds, none_before}
+use Rattle.screen.proofs.FirstFound.{number_found, end_found, found_below}
 
 -- the rows that fail a rule, where one is the first of them, and where there is none
 first-row : (test : ℕ → Bool) (n p : ℕ) → p < n → test p ≡ true → ((m : ℕ) → m < p → test m ≡ false)
@@ -26,6 +29,33 @@ first-row : (test : ℕ → Bool) (n p : ℕ) → p < n → test p ≡ true → 
 first-row test n p h e none =
     passing-behind test p 0 (suc (n - suc p)) n (omega (arith, h)) (λ k g l. none k (omega (arith, l)))
     ∙ ap (λ (k : ℕ). passing test k (suc (n - suc p))) (let q : 0 + p ≡ p = omega arith in q) ∙ passing_hit test p (n - suc p) e
+
+-- the lowest rule that is kept, past the rules for none; its place; and the verdict on it
+abbrev pub kept_number : Option Verdict → ℕ
+kept_number None = past_rules
+kept_number (Some v) = v.number
+
+abbrev pub kept_place : Option Verdict → ℕ
+kept_place None = 0
+kept_place (Some v) = v.place
+
+abbrev pub kept_verdict : Option Verdict → Verdict
+kept_verdict None = yes
+kept_verdict (Some v) = v
+
+pub kept_or : (o : Option Verdict) → unwrap_or o yes ≡ kept_verdict o
+kept_or None = refl
+kept_or (Some v) = refl
+
+-- what the test for a lower rule says
+lower_told : (o : Option Verdict) (r : ℕ) {b : Bool} → MatchOption o (IsTrue b) (λ (v : Verdict). b ≡ nat_lt r v.number) → b ≡ true → r < past_rules
+    → r < kept_number o
+lower_told None r m e h = h
+lower_told (Some v) r m e h = ltb-true r v.number (sym m ∙ e)
+
+other_told : (o : Option Verdict) (r : ℕ) {b : Bool} → MatchOption o (IsTrue b) (λ (v : Verdict). b ≡ nat_lt r v.number) → b ≡ false → kept_number o ≤ r
+other_told None r m e = let never : false ≡ true = sym e ∙ m in cc
+other_told (Some v) r m e = ltb-false r v.number (sym m ∙ e)
 
 module _ (t : Lent) where
   abbrev count : ℕ
@@ -68,27 +98,18 @@ module _ (t : Lent) where
     pub failed : lowest < past_rules → fails_at t (place - 1) lowest ≡ true
     pub first : lowest < past_rules → (m : ℕ) → m < place - 1 → fails_at t m lowest ≡ false
 
-  pub lowest_begins : LowestSoFar 0 past_rules 0
-  lowest_begins =
-      record {
-        within = omega arith;
-        from = omega arith;
-        to = omega arith;
-        none_lower = λ n g h m l. absurd (omega (arith, l));
-        placed = λ h. absurd (omega (arith, h));
-        failed = λ h. absurd (omega (arith, h));
-        first = λ h m l. absurd (omega (arith, h));
-      }
+  -- one row more, and the first rule that it fails; past the rules where it fails none
+  abbrev first_or_past : ℕ → ℕ
+  first_or_past i = get_or (passing (fails_at t i) first_rule (past_rules - first_rule)) 0 past_rules
 
-  -- one row more, and the first rule that it fails
-  module _ {i lowest place : ℕ} (w : LowestSoFar i lowest place) (here : i < count) {r : ℕ} (found : r ≡ first_failed t i first_rule past_rules) where
+  module _ {i lowest place : ℕ} (w : LowestSoFar i lowest place) (here : i < count) {r : ℕ} (found : r ≡ first_or_past i) where
     bounds : (first_rule ≤ r) × (r ≤ past_rules)
     bounds = let b = first_bounds (fails_at t i) first_rule past_rules (omega arith) in (omega (arith, b.0, found), omega (arith, b.1, found))
 
     kept-below : (n : ℕ) → first_rule ≤ n → n < r → fails_at t i n ≡ false
     kept-below n g h = none_before (fails_at t i) first_rule past_rules n (omega arith) g (omega (arith, h, found))
 
-    pub lower_row : r < lowest → LowestSoFar (i + 1) r (i + 1)
+    lower_row : r < lowest → LowestSoFar (i + 1) r (i + 1)
     lower_row h =
         record {
           within = omega (arith, here);
@@ -106,7 +127,7 @@ module _ (t : Lent) where
         by n g l m v (inl e) = ap (λ (j : ℕ). fails_at t j n) e ∙ kept-below n g l
         by n g l m v (inr e) = w.none_lower n g (omega (arith, l, h)) m (omega (arith, v, e))
 
-    pub other_row : lowest ≤ r → LowestSoFar (i + 1) lowest place
+    other_row : lowest ≤ r → LowestSoFar (i + 1) lowest place
     other_row h =
         record {
           within = omega (arith, here);
@@ -126,24 +147,51 @@ module _ (t : Lent) where
   unfolding rules wanted_fields codes value_rules
   rule_count = refl
 
-  -- all rows give the verdict
-  pub all-judged : {i lowest place : ℕ} → LowestSoFar i lowest place → count ≤ i → verdict_at lowest place ≡ judged_by t first_rule rules
-  unfolding verdict_at
-  all-judged {i} {lowest} {place} w all = by (equal_or_not lowest past_rules)
-    where
-      below : (k : ℕ) → k < lowest - first_rule → (m : ℕ) → m < count → fails t (get_or rules k (once [])) m ≡ false
-      below k h m v =
-          ap (λ (n : ℕ). fails t (get_or rules n (once [])) m) (let q : k ≡ first_rule + k - first_rule = omega arith in q)
-          ∙ w.none_lower (first_rule + k) (omega arith) (omega (arith, h)) m (omega (arith, v, all))
+  -- the same of the verdict on the lowest rule so far, where there is one
+  pub record LowestKept (i : ℕ) (lowest : Option Verdict) : Type 0 where
+    pub so_far : LowestSoFar i (kept_number lowest) (kept_place lowest)
+    pub a_rule : (v : Verdict) → lowest ≡ Some v → v.number < past_rules
 
-      by : (lowest ≡ past_rules) ⊎ (lowest ≡ past_rules → ⊥) → verdict_at lowest place ≡ judged_by t first_rule rules
-      by (inl e) =
-          rw (eq-eqb lowest past_rules e, verdict_at) (sym (judged-yes rules first_rule (λ j h. below j (omega (arith, h, e, rule_count)))))
-      by (inr n) =
-          let past : lowest < past_rules = omega (arith, n, w.to) in
-          rw (ne_eqb lowest past_rules n, verdict_at)
-          (ap₂ {C = Verdict} (λ (a b : ℕ). record { number = a; place = b })
-          (let q : lowest ≡ first_rule + (lowest - first_rule) = omega (arith, w.from) in q)
-          (let q : place ≡ suc (place - 1) = omega (arith, (w.placed past).0) in q)
-          ∙ sym (judged_no (place - 1) (omega (arith, (w.placed past).0, (w.placed past).1, w.within)) rules first_rule (lowest - first_rule)
-          (omega (arith, past, w.from, rule_count)) below (w.failed past) (w.first past)))
+  -- a row that fails no rule; one that fails the lowest so far; and one that does not fail a lower one
+  module _ {i : ℕ} {lowest : Option Verdict} (w : LowestKept i lowest) (here : i < count) where
+    pub kept_over : None ≡ first_failed t i first_rule past_rules → LowestKept (i + 1) lowest
+    kept_over e =
+        record {
+          so_far = other_row w.so_far here (end_found (fails_at t i) first_rule past_rules e) w.so_far.to;
+          a_rule = w.a_rule;
+        }
+
+    module _ {r : ℕ} {b : Bool} (e : Some r ≡ first_failed t i first_rule past_rules) (m : MatchOption lowest (IsTrue b) (λ (v : Verdict). b ≡ nat_lt r v.number)) where
+      pub kept_new : b ≡ true → LowestKept (i + 1) (Some (record { number = r; place = i + 1 }))
+      kept_new q =
+          let below = found_below (fails_at t i) first_rule past_rules (omega arith) e in
+          record {
+            so_far = lower_row w.so_far here (number_found (fails_at t i) first_rule past_rules e) (lower_told lowest r m q below);
+            a_rule = λ v g. let same : r ≡ v.number = ap kept_number g in omega (arith, same, below);
+          }
+
+      pub kept_old : b ≡ false → LowestKept (i + 1) lowest
+      kept_old q =
+          record {
+            so_far = other_row w.so_far here (number_found (fails_at t i) first_rule past_rules e) (other_told lowest r m q);
+            a_rule = w.a_rule;
+          }
+
+  -- all rows give the verdict: yes where no rule is kept
+  pub all-judged : {i : ℕ} {lowest : Option Verdict} → LowestKept i lowest → count ≤ i → kept_verdict lowest ≡ judged_by t first_rule rules
+  all-judged {i} {lowest} w all = by lowest w.so_far w.a_rule
+    where
+      below : {number place : ℕ} → LowestSoFar i number place → (k : ℕ) → k < number - first_rule → (m : ℕ) → m < count → fails t (get_or rules k (once [])) m ≡ false
+      below s k h m v =
+          ap (λ (n : ℕ). fails t (get_or rules n (once [])) m) (let q : k ≡ first_rule + k - first_rule = omega arith in q)
+          ∙ s.none_lower (first_rule + k) (omega arith) (omega (arith, h)) m (omega (arith, v, all))
+
+      by : (o : Option Verdict) → LowestSoFar i (kept_number o) (kept_place o) → ((v : Verdict) → o ≡ Some v → v.number < past_rules) → kept_verdict o ≡ judged_by t first_rule rules
+      by None s low = sym (judged-yes rules first_rule (λ j h. below s j (omega (arith, h, rule_count))))
+      by (Some v) s low =
+          let past : v.number < past_rules = low v refl in
+          ap₂ {C = Verdict} (λ (a b : ℕ). record { number = a; place = b })
+          (let q : v.number ≡ first_rule + (v.number - first_rule) = omega (arith, s.from) in q)
+          (let q : v.place ≡ suc (v.place - 1) = omega (arith, (s.placed past).0) in q)
+          ∙ sym (judged_no (v.place - 1) (omega (arith, (s.placed past).0, (s.placed past).1, s.within)) rules first_rule (v.number - first_rule)
+          (omega (arith, past, s.from, rule_count)) (below s) (s.failed past) (s.first past))

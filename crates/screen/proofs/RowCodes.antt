@@ -4,7 +4,7 @@
 use mathlib.Core.Bool.{Bool, true, false}
 use mathlib.Core.List.{List}
 use mathlib.Core.Path.{◌≡◌, refl, sym, ap, ◌∙◌}
-use Prim.Native.Nat.{ℕ, zero, suc, ◌+◌, ◌≤◌, ◌<◌}
+use Prim.Native.Nat.{ℕ, zero, suc, ◌+◌, ◌<◌}
 use native.Mathlib.Omega.{arith}
 use borrow.Author.Tests.{eq-eqb, ne_eqb}
 use lib.Dec.{eqb}
@@ -15,14 +15,13 @@ use Rattle.laws.specs.Texts.{bytes}
 use Rattle.laws.proofs.Lists.{same_equal}
 use Rattle.laws.proofs.Passing.{Passing, passing_begins, passing_on, passing-found, passing-done, found_first}
 use Rattle.laws.proofs.Tests.{Tested, passed, failed, tested, never_both}
-use Rattle.laws.proofs.Passing.{first_bounds}
 use Rattle.table.specs.Lent.{Lent}
 use Rattle.table.specs.Rows.{kind_in}
 use Rattle.look.specs.declared.leaf.Sought.{Sought}
 use Rattle.look.specs.declared.leaf.Sought.TheVariants.{At, Empty, NotThere}
 use Rattle.look.specs.Looking.{result_kind, says_text, text_found}
 use Rattle.screen.specs.Rules.{codes}
-use Rattle.screen.specs.Meeting.{has_kind, has_code, sought_of}
+use Rattle.screen.specs.Meeting.{has_code, sought_of}
 use Rattle.screen.specs.inner.Rows.{text_in}
 use Rattle.screen.specs.inner.Counting.{code_count, code_named, first_code, code_of, code_in}
 
@@ -108,12 +107,3 @@ module _ (t : Lent) (i : ℕ) where
     -- it has a code exactly where that is the one it is found to have
     pub row-code : (k : ℕ) → k < code_count → has_code t (code_named k) i ≡ eqb (code_in t i) k
     row-code k h = sought_code t.text sought k h ∙ ap (λ (n : ℕ). eqb n k) (by_sought refl)
-
--- it is one of the four, or none of them
-pub few-codes : (t : Lent) (i : ℕ) → code_in t i ≤ code_count
-unfolding code_in
-few-codes t i = by (tested (has_kind t result_kind i))
-  where
-    by : Tested (has_kind t result_kind i) → code_in t i ≤ code_count
-    by (passed e) = rw (e, code_in) (first_bounds (λ k. has_code t (code_named k) i) 0 code_count (omega arith)).1
-    by (failed e) = rw (e, code_in) (omega arith)

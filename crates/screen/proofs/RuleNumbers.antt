@@ -6,6 +6,7 @@ use mathlib.Core.Path.{◌≡◌, refl, sym, ap, ◌∙◌, subst}
 use Prim.Native.Nat.{ℕ, zero, suc, ◌+◌, ◌-◌, ◌≤◌, ◌<◌}
 use native.Mathlib.Omega.{arith}
 use borrow.Author.Tests.{eq-eqb, ne_eqb}
+use Rattle.std.specs.Prelude.{Option, Some, None}
 use lib.Dec.{eqb}
 use lib.ListN.{get_or}
 use Rattle.laws.specs.Texts.{bytes}
@@ -21,6 +22,7 @@ use Rattle.screen.specs.Meeting.{has_kind, sought_of, has_text, says_letter, cou
 use Rattle.screen.specs.inner.Rows.{first_code_rule, first_value_rule, past_rules, rule_numbered, fails_at, first_failed}
 use Rattle.laws.proofs.Passing.{passing_over}
 use Rattle.screen.specs.inner.Counting.{code_count, code_named}
+use Rattle.screen.proofs.FirstFound.{some_found, none_found, front_part, back_part}
 
 -- the k-th field, counted from 0, and the rules by their numbers
 abbrev pub field_named : ℕ → Field
@@ -162,8 +164,16 @@ module _ (t : Lent) (i : ℕ) where
   past_codes w other = passing_over (fails_at t i) first_value_rule w (omega arith) (omega arith) (λ k g h. codes-kept other k g h)
 
   pub past_values : {from : ℕ} → RulesTried from past_rules first_value_rule → (kind_in t.segment_rows i ≡ result_kind → ⊥)
-      → past_rules ≡ first_failed t i from past_rules
-  past_values w other = passing-ends (fails_at t i) w (λ k g h. values-kept other k g h)
+      → None ≡ first_failed t i from past_rules
+  past_values {from} w other =
+      none_found (fails_at t i) from past_rules (omega (arith, w.later)) (passing-ends (fails_at t i) w (λ k g h. values-kept other k g h))
+
+  -- a row that is neither a patient's nor a result's is judged by its fields alone
+  pub fields_only : (o : Option ℕ) → o ≡ first_failed t i first_rule first_code_rule → (kind_in t.segment_rows i ≡ patient_kind → ⊥)
+      → (kind_in t.segment_rows i ≡ result_kind → ⊥) → o ≡ first_failed t i first_rule past_rules
+  fields_only (Some n) e patient result = front_part (fails_at t i) {mid = first_code_rule} {end = past_rules} (omega arith) (omega arith) e
+  fields_only None e patient result =
+      past_values (past_codes (back_part (fails_at t i) {mid = first_code_rule} {end = past_rules} (omega arith) (omega arith) e) patient) result
 
   -- the rules of fields in turn
   module _ {k : ℕ} (w : RulesTried first_rule first_code_rule (first_rule + k)) where
@@ -172,11 +182,8 @@ module _ (t : Lent) (i : ℕ) where
         subst (RulesTried first_rule first_code_rule) (let q : first_rule + k + 1 ≡ first_rule + (k + 1) = omega arith in q)
         (passing_on (fails_at t i) w (omega (arith, h)) e)
 
-    pub field_found : k < field_count → fails_at t i (first_rule + k) ≡ true → first_rule + k ≡ first_failed t i first_rule first_code_rule
-    field_found h e = passing-found (fails_at t i) w (omega (arith, h)) e
+    pub field_found : k < field_count → fails_at t i (first_rule + k) ≡ true → Some (first_rule + k) ≡ first_failed t i first_rule first_code_rule
+    field_found h e = some_found (fails_at t i) first_rule first_code_rule (omega (arith, h)) (passing-found (fails_at t i) w (omega (arith, h)) e)
 
-    pub fields-done : field_count ≤ k → first_code_rule ≡ first_failed t i first_rule first_code_rule
-    fields-done h = passing-done (fails_at t i) w (omega (arith, h))
-
-  pub fields_begin : RulesTried first_rule first_code_rule first_rule
-  fields_begin = passing_begins (fails_at t i) first_rule first_code_rule (omega arith)
+    pub fields-done : field_count ≤ k → None ≡ first_failed t i first_rule first_code_rule
+    fields-done h = none_found (fails_at t i) first_rule first_code_rule (omega arith) (passing-done (fails_at t i) w (omega (arith, h)))

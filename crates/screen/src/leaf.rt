@@ -1,16 +1,16 @@
-// The leaves of a row by their names (S5): the text of one, whether it is a given text, whether it is a letter.
+// The leaves of a row by their names (S5): the text of one, whether it is a given text, whether it
+// is a letter.
 ghost use Rattle.std.specs.Prelude.{◌≡◌};
-ghost use Rattle.laws.specs.Lists.{among};
 ghost use Rattle.table.specs.Lent.{lent};
 ghost use Rattle.screen.specs.Meeting.{leaf_is, is_letter};
 ghost use Rattle.screen.specs.inner.Rows.{text_in, ReportRow, AskedText};
 
 use look::leaf::{Place, Sought};
-use look::text::same_bytes;
 use table::{Card, rows};
 
-// The text of a leaf of a segment row, counted from 0, by its field and subfield; no byte where the leaf is empty or not there. It is sought
-// among the row's own leaves, which in a table that some message reads to gives what the lookup gives.
+// The text of a leaf of a segment row, counted from 0, by its field and subfield; no byte where the
+// leaf is empty or not there. It is sought among the row's own leaves, which in a table that some
+// message reads to gives what the lookup gives.
 pub(crate) fn leaf_text<'a>(
     card: Card,
     segments: &[rows::Entry],
@@ -31,12 +31,8 @@ pub(crate) fn leaf_text<'a>(
         subsubfield: 1,
     };
     match look::leaf::find_leaf_in_segment(card, segments, leaves, text, place) {
-        Sought::At(start, length) => {
-            let end = start + length;
-            &text[start..end]
-        }
-        Sought::Empty => &text[0..0],
-        Sought::NotThere => &text[0..0],
+        Sought::At(start, length) => &text[start..start + length],
+        Sought::Empty | Sought::NotThere => &[],
     }
 }
 
@@ -54,32 +50,15 @@ pub(crate) fn leaf_says(
     requires { AskedText (lent card segments.now leaves.now text.now) row wanted.now }
     ensures { result ≡ leaf_is (lent card segments.now leaves.now text.now) row field subfield wanted.now }
 {
-    same_bytes(
-        leaf_text(card, segments, leaves, text, row, field, subfield),
-        wanted,
-    )
+    leaf_text(card, segments, leaves, text, row, field, subfield) == wanted
 }
 
 // Whether a text is one of these letters.
 pub(crate) fn is_letter(text: &[u8], letters: &[u8]) -> bool
     ensures { result ≡ is_letter letters.now text.now }
 {
-    if text.len() != 1 {
-        return false;
+    match text {
+        [letter] => letters.contains(letter),
+        _ => false,
     }
-    is_among(letters, text[0])
-}
-
-// Whether a byte is one of these.
-fn is_among(bytes: &[u8], byte: u8) -> bool
-    ensures { result ≡ among bytes.now byte }
-{
-    let mut at = 0;
-    while at < bytes.len() {
-        if byte == bytes[at] {
-            return true;
-        }
-        at += 1;
-    }
-    false
 }

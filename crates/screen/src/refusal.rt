@@ -1,12 +1,13 @@
-// The numbers of a verdict (R5). What keeps all rules has the number 0, as everywhere, and what is no table 13. From 31 on they are the numbers of
-// the rules, in the rules' order.
+// The numbers of a verdict (R5). What keeps all rules has the number 0, as everywhere, and what is
+// no table 13. From 31 on they are the numbers of the rules, in the rules' order.
 #[derive(Drop)]
 pub struct Refusal {}
 
 impl Refusal {
     // an ORU is asked for
     pub const NOT_A_REPORT: u8 = 30;
-    // a P without its name in use (8.6.1), first name (8.6.2), birth name (8.7), telephone (8.13) or postal code (8.11.5)
+    // a P without its name in use (8.6.1), first name (8.6.2), birth name (8.7), telephone (8.13)
+    // or postal code (8.11.5)
     pub const NO_NAME: u8 = 31;
 
     pub const NO_FIRST_NAME: u8 = 32;

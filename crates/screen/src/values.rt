@@ -7,10 +7,9 @@ ghost use Rattle.screen.specs.Rules.{in_system};
 ghost use Rattle.screen.specs.Meeting.{is_about};
 ghost use Rattle.screen.specs.inner.Rows.{first_code_rule, past_rules, first_failed, misses_letter, ReportRow, RowOfKind};
 
-use crate::codes::{CODE, PROSS, TYPOR, code_in};
+use crate::codes::{CODE, Code, code_in};
 use crate::leaf::{is_letter, leaf_says, leaf_text};
 use crate::refusal::Refusal;
-use crate::rule::KEPT;
 use table::{Card, rows};
 
 // The fields of a result that have its type, 10.3, and its value, 10.6.
@@ -18,47 +17,45 @@ const TYPE: rows::Entry = 3;
 
 const VALUE: rows::Entry = 6;
 
-// The first of the rules of values that a result's row, counted from 0, fails: its value is none that it may take.
+// The first of the rules of values that a result's row, counted from 0, fails: its value is none
+// that it may take. None where it fails none of them.
 pub(crate) fn first_misvalued(
     card: Card,
     segments: &[rows::Entry],
     leaves: &[rows::Entry],
     text: &[u8],
     row: usize,
-) -> u8
+) -> Option<u8>
     requires { RowOfKind (lent card segments.now leaves.now text.now) row result_kind }
     ensures { result ≡ first_failed (lent card segments.now leaves.now text.now) row first_code_rule past_rules }
 {
     let code = code_in(card, segments, leaves, text, row);
-    if misses(card, segments, leaves, text, row, code == TYPOR, b"IHECAU") {
-        return Refusal::WRONG_TYPOR;
+    if code == Some(Code::Typor) && misses(card, segments, leaves, text, row, b"IHECAU") {
+        Some(Refusal::WRONG_TYPOR)
+    } else if code == Some(Code::Pross) && misses(card, segments, leaves, text, row, b"ONU") {
+        Some(Refusal::WRONG_PROSS)
+    } else if is_coded(card, segments, leaves, text, row)
+        && misses(card, segments, leaves, text, row, b"PNIX")
+    {
+        Some(Refusal::WRONG_RESULT)
+    } else {
+        None
     }
-    if misses(card, segments, leaves, text, row, code == PROSS, b"ONU") {
-        return Refusal::WRONG_PROSS;
-    }
-    let coded = is_coded(card, segments, leaves, text, row);
-    if misses(card, segments, leaves, text, row, coded, b"PNIX") {
-        return Refusal::WRONG_RESULT;
-    }
-    KEPT
 }
 
-// Whether a result must take one of these letters and does not: its value, 10.6.1, is another text, empty or not there.
+// Whether a result takes none of these letters: its value, 10.6.1, is another text, empty or not
+// there.
 fn misses(
     card: Card,
     segments: &[rows::Entry],
     leaves: &[rows::Entry],
     text: &[u8],
     row: usize,
-    must: bool,
     letters: &[u8],
 ) -> bool
     requires { ReportRow (lent card segments.now leaves.now text.now) row }
-    ensures { result ≡ misses_letter (lent card segments.now leaves.now text.now) row must letters.now }
+    ensures { result ≡ misses_letter (lent card segments.now leaves.now text.now) row letters.now }
 {
-    if !must {
-        return false;
-    }
     !is_letter(
         leaf_text(card, segments, leaves, text, row, VALUE, 1),
         letters,
@@ -76,11 +73,7 @@ fn is_coded(
     requires { ReportRow (lent card segments.now leaves.now text.now) row }
     ensures { result ≡ is_about (lent card segments.now leaves.now text.now) (in_system (bytes "CE") (bytes "LN")) row }
 {
-    if !leaf_says(card, segments, leaves, text, row, TYPE, 1, b"CE") {
-        return false;
-    }
-    if leaf_says(card, segments, leaves, text, row, CODE, 3, b"LN") {
-        return true;
-    }
-    leaf_says(card, segments, leaves, text, row, CODE, 6, b"LN")
+    leaf_says(card, segments, leaves, text, row, TYPE, 1, b"CE")
+        && (leaf_says(card, segments, leaves, text, row, CODE, 3, b"LN")
+            || leaf_says(card, segments, leaves, text, row, CODE, 6, b"LN"))
 }

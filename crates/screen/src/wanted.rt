@@ -2,8 +2,9 @@
 use form::kind::Kind;
 use table::rows::Entry;
 
-// A field by the kind of its segments and its name there (S5): field and subfield, the other numbers of its place being 1.
-#[derive(Clone, Copy)]
+// A field by the kind of its segments and its name there (S5): field and subfield, the other
+// numbers of its place being 1.
+#[derive(Clone, Copy, PartialEq, Eq, Debug)]
 pub struct Field {
     pub kind: Entry,
     pub field: Entry,

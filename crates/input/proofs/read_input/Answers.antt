@@ -1,5 +1,5 @@
 -- What a read puts behind the bytes that came before is what the reader gave next.
-use Rattle.std.proofs.Common.{◌≡◌, ℕ, ◌+◌, ◌≤◌, List, ◌++◌, rules, arith, length, take, drop, sym, ap, ◌∙◌, subst, refl, le_refl, drop_at, length-take-le}
+use Rattle.std.proofs.Common.{◌≡◌, ℕ, ◌+◌, ◌≤◌, List, ◌++◌, rules, length, take, drop, sym, ap, ◌∙◌, subst, refl, le_refl, drop_at, length-take-le}
 use Rattle.std.proofs.lemmas.Slice.{take-put_mid_below}
 use Rattle.std.specs.Io.KnownBytes.{Consumes}
 use Rattle.std.proofs.KnownBytes.{Consumes-trans}
@@ -23,14 +23,9 @@ came-behind : (first then last : Option (List ℕ)) (a k n m : ℕ) (xs ys : Lis
 came-behind first then last a k n m xs ys within fits same one other =
     subst (Consumes first last) (sym (ap (λ l. take l (put_mid a k xs ys)) same ∙ take-read a k n xs ys within fits)) (Consumes-trans first then last _ _ one other)
 
-pub returns-then-not-more-clause-came : goal.returns-then-not-more-clause-came
-returns-then-not-more-clause-came g c =
-    let none : c.read_once-more.result.bytes ≡ 0 = search rules in
-    came-behind _ _ _ _ _ c.read_once-more.result.bytes _ _ _ c.loop-bytes.invariant.within c.read_once-more.ensures.within.0 (omega arith) c.loop-bytes.invariant.came c.read_once-more.ensures.came
-
 pub loop-bytes-preserved : goal.loop-bytes-preserved
 loop-bytes-preserved g c = record {
   within = search rules;
   same_length = search rules;
-  came = came-behind _ _ _ _ _ _ _ _ _ c.loop-bytes.invariant.within c.read_once-more.ensures.within.0 refl c.loop-bytes.invariant.came c.read_once-more.ensures.came;
+  came = came-behind _ _ _ _ _ _ _ _ _ c.loop-bytes.invariant.within c.in-Ok.ensures.bound.0 refl c.loop-bytes.invariant.came c.in-Ok.ensures.bytes.0;
 }

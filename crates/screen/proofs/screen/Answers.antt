@@ -38,5 +38,5 @@ judge-requires c =
     let f = form_here (goal.at.judge-requires c).After-is_table in
     report_here (limits_of f) (form_lawful f) (lent_here (goal.at.judge-requires c).After-is_table) (table_here (goal.at.judge-requires c).Else-not-is_table) (omega (arith, (form_fits f).segments)) c.if-card-ne-ORU.false
 
-pub returns : goal.returns
-returns c = c.judge.ensures ∙ sym (by_rules (limits_of (form_here (goal.at.returns c).After-is_table)) level (lent_here (goal.at.returns c).After-is_table) (table_here (goal.at.returns c).Else-not-is_table) c.if-card-ne-ORU.false)
+pub returns-else-card-ne-ORU : goal.returns-else-card-ne-ORU
+returns-else-card-ne-ORU c = c.judge.ensures ∙ sym (by_rules (limits_of (form_here (goal.at.returns-else-card-ne-ORU c).After-is_table)) level (lent_here (goal.at.returns-else-card-ne-ORU c).After-is_table) (table_here (goal.at.returns-else-card-ne-ORU c).Else-not-is_table) c.if-card-ne-ORU.false)

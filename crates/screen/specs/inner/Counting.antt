@@ -1,6 +1,6 @@
 -- How the codes of a patient's results are counted: each result's code by its place among the four, over the rows up to the next patient.
 -- Assumes nothing.
-use Rattle.std.specs.Prelude.{Bool, true, false, List, [], ◌≡◌, ℕ, ◌-◌, ◌≤◌, eqb, length, get_or}
+use Rattle.std.specs.Prelude.{Bool, true, false, List, [], ◌≡◌, ℕ, ◌-◌, ◌≤◌, ◌<◌, eqb, length, get_or}
 use Rattle.laws.specs.Lists.{same}
 use Rattle.laws.specs.Tables.{passing}
 use Rattle.table.specs.Lent.{Lent}
@@ -35,9 +35,10 @@ next_patient t from = get_or (passing (has_kind t patient_kind) from (t.card.seg
 abbrev pub count_between : Lent → (k from to : ℕ) → ℕ
 count_between t k from to = length (passing (λ i. eqb (code_in t i) k) from (to - from))
 
--- numbers that count the rows from one on, up to the next patient, by their codes; the last of them counts those that have none
+-- numbers that count the rows from one on, up to the next patient, by their codes
 pub record CodesCounted (t : Lent) (from : ℕ) (counts : List ℕ) : Type 0 where
-  pub each : (k : ℕ) → k ≤ code_count → get_or counts k 0 ≡ count_between t k from (next_patient t from)
+  pub size : length counts ≡ code_count
+  pub each : (k : ℕ) → k < code_count → get_or counts k 0 ≡ count_between t k from (next_patient t from)
 
 -- a row behind which the rest of a report's rows is counted
 pub record CountedRows (t : Lent) (from : ℕ) : Type 0 where

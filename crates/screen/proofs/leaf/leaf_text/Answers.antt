@@ -11,8 +11,9 @@ use Rattle.look.proofs.TextParts.{part_long}
 use Rattle.tested.proofs.NamedLeaves.{sought_named, named-inside}
 use Rattle.screen.specs.Meeting.{sought_of}
 use Rattle.look.specs.Looking.{text_found}
+use Rattle.screen.proofs.LeafTexts.{no_text}
 use Rattle.screen.proofs.leaf.leaf_text.Goals as goal
-use Rattle.screen.proofs.leaf.leaf_text.Goals.{After-find_leaf_in_segment, In-At, In-At-2, Start}
+use Rattle.screen.proofs.leaf.leaf_text.Goals.{After-find_leaf_in_segment, In-At, Start}
 
 abbrev lent_here : Start → Lent
 lent_here c = lent c.args.card c.args.segments.now c.args.leaves.now c.args.text.now
@@ -32,8 +33,8 @@ within : (c : In-At) → c.in-At.start + c.in-At.length ≤ length c.args.text.n
 within c =
     named-inside (lent_here (goal.at.In-At c).Start) c.args.row c.args.field c.args.subfield c.in-At.start c.in-At.length (found c)
 
-pub overflow_add-end : goal.overflow_add-end
-overflow_add-end c = omega (arith, within c)
+pub overflow_add-result : goal.overflow_add-result
+overflow_add-result c = omega (arith, within c)
 
 pub slice_bounds-result-end : goal.slice_bounds-result-end
 slice_bounds-result-end c = omega (arith, within c)
@@ -45,9 +46,5 @@ returns-in-At c =
     part_long text c.in-At.start c.in-At.length ∙ ap (text_found text) (found (goal.at.returns-in-At c).In-At)
 
 pub returns-in-Empty : goal.returns-in-Empty
-unfolding text_found
-returns-in-Empty c = ap (text_found c.args.text.now) (sym c.in-Empty.is ∙ sought_so (goal.at.returns-in-Empty c).After-find_leaf_in_segment)
-
-pub returns-in-NotThere : goal.returns-in-NotThere
-unfolding text_found
-returns-in-NotThere c = ap (text_found c.args.text.now) (sym c.in-NotThere.is ∙ sought_so (goal.at.returns-in-NotThere c).After-find_leaf_in_segment)
+returns-in-Empty c =
+    no_text c.args.text.now c.in-Empty.is ∙ ap (text_found c.args.text.now) (sought_so (goal.at.returns-in-Empty c).After-find_leaf_in_segment)
