@@ -1,4 +1,5 @@
-// What is shown of an accepted message: a line a row, with its number, the number of its first line in the file, and what people look for in it.
+// What is shown of an accepted message: a line a row, with its number, the number of its first line
+// in the file, and what people look for in it.
 use crate::advised::{READ_LETTERS, write_advice};
 use crate::fields::put_fields;
 use crate::going::{Row, Rows, count_ends, count_lines};
@@ -10,7 +11,8 @@ use crate::unicode::count_characters;
 use itoa::Buffer;
 use std::iter::successors;
 
-// What each owner in a row's chain moves it to the right, and the longest chain that is shown: no level is deeper than 4, with a C below it (O1).
+// What each owner in a row's chain moves it to the right, and the longest chain that is shown: no
+// level is deeper than 4, with a C below it (O1).
 const STEP: &str = "  ";
 
 const DEEPEST: usize = 8;
@@ -47,7 +49,8 @@ fn count_digits(n: usize) -> usize {
     digits.format(n).len()
 }
 
-// Advice on a message whose letters are in UTF-8, though it is accepted: all of it reads as UTF-8, and some letters have several bytes.
+// Advice on a message whose letters are in UTF-8, though it is accepted: all of it reads as UTF-8,
+// and some letters have several bytes.
 fn write_letters(rt: &impl Print, message: &[u8]) {
     if count_characters(message).is_some_and(|count| count < message.len()) {
         Line::whole().write_whole(rt);

@@ -66,7 +66,8 @@ fn is_foreign(message: &[u8]) -> bool {
         || message.starts_with(b"\xEF\xBB\xBFMSH")
 }
 
-// Whether a file is in UTF-16: it begins with that mark, either way round, or has a NUL beside its H.
+// Whether a file is in UTF-16: it begins with that mark, either way round, or has a NUL beside its
+// H.
 fn is_wide(message: &[u8]) -> bool {
     message.starts_with(b"\xFF\xFE")
         || message.starts_with(b"\xFE\xFF")
@@ -105,7 +106,8 @@ fn advice_on_line(message: &[u8], limit: usize, offset: usize) -> &'static str {
     }
 }
 
-// A last line without its end: where it is the L, alone or before a field separator, nothing else is missing.
+// A last line without its end: where it is the L, alone or before a field separator, nothing else
+// is missing.
 fn advice_on_end(message: &[u8]) -> &'static str {
     let start = text_start(message, message.len());
     if text_from(message, start, field_of(message)) == b"L".as_slice() {
@@ -136,7 +138,8 @@ fn advice_on_kind(message: &[u8], spot: Spot) -> Option<&'static str> {
     }
 }
 
-// Whether a row has a field separator in its first line, or further lines: then its first line is no piece of another row's text.
+// Whether a row has a field separator in its first line, or further lines: then its first line is
+// no piece of another row's text.
 fn has_field(message: &[u8], start: usize) -> bool {
     let field = field_of(message);
     let behind = start.saturating_add(text_from(message, start, field).len());

@@ -31,7 +31,8 @@ pub const TABS: &str = "put a space for each tab (tr '\\t' ' ' <FILE >NEW)";
 
 // A byte order mark in front of UTF-8.
 pub const MARK: &str =
-    "a byte order mark stands before the message: take it off and convert the letters to ISO 8859-1 (tail -c +4 FILE | iconv -f UTF-8 -t ISO-8859-1 >NEW)";
+    "a byte order mark stands before the message: take it off and convert the letters to ISO 8859-1 \
+    (tail -c +4 FILE | iconv -f UTF-8 -t ISO-8859-1 >NEW)";
 
 // UTF-16, with a mark or without.
 pub const WIDE: &str =
@@ -39,21 +40,26 @@ pub const WIDE: &str =
 
 // Letters of UTF-8, two bytes and more each: a line is too long by them.
 pub const LETTERS: &str =
-    "the letters are in UTF-8, and the line is short enough with one byte for each: convert them to ISO 8859-1 (iconv -f UTF-8 -t ISO-8859-1 <FILE >NEW)";
+    "the letters are in UTF-8, and the line is short enough with one byte for each: convert them to \
+    ISO 8859-1 (iconv -f UTF-8 -t ISO-8859-1 <FILE >NEW)";
 
 // The message was read all the same.
 pub const READ_LETTERS: &str =
-    "the letters are in UTF-8, and each of their bytes was read as a letter of its own: convert them to ISO 8859-1 (iconv -f UTF-8 -t ISO-8859-1 <FILE >NEW)";
+    "the letters are in UTF-8, and each of their bytes was read as a letter of its own: convert \
+    them to ISO 8859-1 (iconv -f UTF-8 -t ISO-8859-1 <FILE >NEW)";
 
-// On what belongs to no message, or to another: an MLLP frame around the message, inside a line, or between two messages.
+// On what belongs to no message, or to another: an MLLP frame around the message, inside a line, or
+// between two messages.
 pub const FRAME: &str =
     "an MLLP frame stands around the message: take off the VT in front, and FS and CR behind";
 
 pub const FRAME_INSIDE: &str =
-    "a byte of an MLLP frame stands inside a line: take it off, and end each line in CR, the last one too";
+    "a byte of an MLLP frame stands inside a line: take it off, and end each line in CR, the last \
+    one too";
 
 pub const FRAME_BETWEEN: &str =
-    "another message begins behind this byte: split the file there, take off the FS and VT of its frames, and end the line before them in CR";
+    "another message begins behind this byte: split the file there, take off the FS and VT of its \
+    frames, and end the line before them in CR";
 
 pub const TWO_MESSAGES: &str = "another message begins here: split the file before this line";
 
@@ -75,4 +81,5 @@ pub const SMALL_CONTEXT: &str = "write the context in capital letters";
 pub const LONG_CONTEXT: &str = "leave nothing but the context's name in field 7";
 
 pub const LONG_LINE: &str =
-    "cut the segment: what is past the line's limit goes into lines of its own that begin with A and the field separator";
+    "cut the segment: what is past the line's limit goes into lines of its own that begin with A \
+    and the field separator";

@@ -18,7 +18,8 @@ const NARROWEST: usize = 40;
 
 const WIDEST: usize = 1000;
 
-// The form that a message is judged by: the small one where the first argument is `small`, and else the large one.
+// The form that a message is judged by: the small one where the first argument is `small`, and else
+// the large one.
 pub fn form_asked(rt: &impl Env) -> Form {
     let mut room = [0; LONGEST];
     match argument(rt, FORM, &mut room) {
@@ -27,7 +28,8 @@ pub fn form_asked(rt: &impl Env) -> Form {
     }
 }
 
-// The columns that a line may have: the second argument where it is a number that makes sense, and else 80.
+// The columns that a line may have: the second argument where it is a number that makes sense, and
+// else 80.
 pub fn width_asked(rt: &impl Env) -> usize {
     let mut room = [0; LONGEST];
     let width = argument(rt, WIDTH, &mut room).and_then(number_of);
@@ -42,7 +44,8 @@ fn argument<'a>(rt: &impl Env, place: usize, room: &'a mut [u8; LONGEST]) -> Opt
     room.get(..length)
 }
 
-// The number that decimal digits say; none where there are none, or something else stands among them, also a sign.
+// The number that decimal digits say; none where there are none, or something else stands among
+// them, also a sign.
 fn number_of(digits: &[u8]) -> Option<usize> {
     if !digits.iter().all(|b| b.is_ascii_digit()) {
         return None;

@@ -18,7 +18,8 @@ pub fn line_stop(message: &[u8], offset: usize) -> usize {
         .map_or(message.len(), |(at, _)| at)
 }
 
-// The text that begins at a place, up to the next control byte, or a byte that is given, or the message's end; none past that.
+// The text that begins at a place, up to the next control byte, or a byte that is given, or the
+// message's end; none past that.
 pub fn text_from(message: &[u8], from: usize, stop: u8) -> &[u8] {
     let Some(rest) = message.get(from..) else {
         return b"";
@@ -38,7 +39,8 @@ pub fn text_end(message: &[u8], end: usize) -> usize {
         .map_or(0, |at| at + 1)
 }
 
-// The text of the line that an offset lies in. Control bytes in front of it, which are skipped, do not belong to it.
+// The text of the line that an offset lies in. Control bytes in front of it, which are skipped, do
+// not belong to it.
 pub fn line_text(message: &[u8], offset: usize) -> &[u8] {
     text_from(message, text_start(message, offset), CR)
 }

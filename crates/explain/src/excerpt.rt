@@ -1,4 +1,5 @@
-// The line of a message that is wrong, and a mark under the place. A long line is shown as far as there is room around it.
+// The line of a message that is wrong, and a mark under the place. A long line is shown as far as
+// there is room around it.
 use crate::edges::{line_start, line_stop};
 use crate::output::Line;
 use crate::place::Spot;
@@ -21,12 +22,14 @@ pub fn write_excerpt(rt: &impl Print, message: &[u8], spot: Spot, width: usize) 
     write_mark(rt, from, to);
 }
 
-// The bytes from one place up to another; none where the places are not in order or not within the message.
+// The bytes from one place up to another; none where the places are not in order or not within the
+// message.
 fn part(message: &[u8], from: usize, to: usize) -> &[u8] {
     message.get(from..to).unwrap_or(b"")
 }
 
-// The end of the line before the spot that takes no more than so many columns, with dots where it does not begin with the line.
+// The end of the line before the spot that takes no more than so many columns, with dots where it
+// does not begin with the line.
 fn put_before(line: &mut Line, before: &[u8], room: usize) {
     let hidden = before.len().saturating_sub(count_fitting(before, room));
     line.put("  ");

@@ -4,7 +4,8 @@ use crate::output::Line;
 use form::kind::Kind;
 use table::rows::Entry;
 
-// The fields that are shown: of H (7.5, 7.10), P (8.6), OBR (9.3, 9.4), OBX (10.4, 10.6, 10.7) and C (12.4),
+// The fields that are shown: of H (7.5, 7.10), P (8.6), OBR (9.3, 9.4), OBX (10.4, 10.6, 10.7) and
+// C (12.4),
 const SENDER: Entry = 5;
 
 const RECEIVER: Entry = 10;
@@ -92,7 +93,8 @@ fn put_both(line: &mut Line, row: TableRow<'_>, field: Entry) {
     put_leaf(line, row.text(field, 2));
 }
 
-// Of a result its code (10.4.1), its value (10.6.1), whether there is more of it, and the unit (10.7).
+// Of a result its code (10.4.1), its value (10.6.1), whether there is more of it, and the unit
+// (10.7).
 fn put_result(line: &mut Line, row: TableRow<'_>) {
     put_leaf(line, row.text(CODE, 1));
     put_behind(line, " =", row.text(VALUE, 1));

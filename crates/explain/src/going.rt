@@ -1,4 +1,5 @@
-// Going through a message from row to row. Places are offsets in the message; a row's end is the place where the next row begins.
+// Going through a message from row to row. Places are offsets in the message; a row's end is the
+// place where the next row begins.
 ghost use Rattle.std.specs.Prelude.{◌-◌};
 ghost use Rattle.std.specs.Iterator.{at_most};
 
@@ -6,7 +7,7 @@ use crate::text::CR;
 use source::row::{is_addendum, row_at};
 
 // The rows of a message, up to its first fault.
-#[derive(Clone, Copy)]
+#[derive(Drop)]
 pub struct Rows<'a> {
     message: &'a [u8],
     at: usize,
@@ -62,7 +63,9 @@ impl Iterator for Rows<'_> {
 
 // How many lines its rows take: lines that are not blank, addenda among them.
 pub fn count_lines(message: &[u8]) -> usize {
-    Rows::of(message).fold(0, |lines, row| row.lines.saturating_add(lines))
+    Rows::of(message)
+        .map(|row| row.lines)
+        .fold(0, usize::saturating_add)
 }
 
 // How many line ends a part of a message has.
@@ -70,7 +73,8 @@ pub fn count_ends(part: &[u8]) -> usize {
     part.iter().filter(|b| **b == CR).count()
 }
 
-// The number of the row whose line an offset lies in; none where a line before it is broken, so that rows cannot be counted up to there.
+// The number of the row whose line an offset lies in; none where a line before it is broken, so
+// that rows cannot be counted up to there.
 pub fn row_of(message: &[u8], field: u8, offset: usize) -> Option<usize> {
     let before = Rows::of(message)
         .take_while(|row| row.start <= offset)

@@ -25,7 +25,8 @@ pub enum Flaw {
     NoField,
 }
 
-// The place of the first byte that breaks the rule, which is the message's end where it breaks off; the header's length where none does.
+// The place of the first byte that breaks the rule, which is the message's end where it breaks off;
+// the header's length where none does.
 pub fn first_flaw(message: &[u8]) -> usize {
     (0..HEADER)
         .find(|at| flaw_at(message, *at).is_some())
@@ -44,7 +45,8 @@ pub fn flaw_at(message: &[u8], at: usize) -> Option<Flaw> {
     }
 }
 
-// Those between the H and the last are separators, from 33 to 126: first each by itself, then beside those before it.
+// Those between the H and the last are separators, from 33 to 126: first each by itself, then
+// beside those before it.
 fn separator_flaw(message: &[u8], at: usize, b: u8) -> Option<Flaw> {
     match b {
         0..=31 => Some(Flaw::Control),

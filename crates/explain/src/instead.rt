@@ -1,4 +1,5 @@
-// What stands in a message where something else should: a byte, or the name that a joined segment has there.
+// What stands in a message where something else should: a byte, or the name that a joined segment
+// has there.
 use crate::joined::Segment;
 use crate::output::Line;
 
@@ -18,7 +19,8 @@ pub fn put_byte(line: &mut Line, b: u8) {
     write!(line, " (byte {b})");
 }
 
-// What stands in a joined segment up to the next field separator, as far as it is shown; `nothing` where nothing does.
+// What stands in a joined segment up to the next field separator, as far as it is shown; `nothing`
+// where nothing does.
 pub fn put_joined(line: &mut Line, segment: Segment<'_>) {
     let field = segment.field;
     let letters = segment.bytes().take_while(|(_, b)| *b != field).take(SHOWN);

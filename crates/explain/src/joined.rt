@@ -1,4 +1,5 @@
-// Going through a row's joined segment from byte to byte (A1 to A3): its kind, its fields, and the names in them.
+// Going through a row's joined segment from byte to byte (A1 to A3): its kind, its fields, and the
+// names in them.
 ghost use Rattle.std.specs.Prelude.{◌≡◌, ℕ, ◌≤◌, ◌<◌, ◌-◌, Some};
 ghost use Rattle.std.specs.Iterator.{at_most};
 
@@ -21,8 +22,9 @@ pub struct Segment<'a> {
     pub end: usize,
 }
 
-// The bytes of a joined segment, each with its place: line ends and what an addendum begins with are passed.
-#[derive(Clone, Copy)]
+// The bytes of a joined segment, each with its place: line ends and what an addendum begins with
+// are passed.
+#[derive(Drop)]
 pub struct Joined<'a> {
     message: &'a [u8],
     at: usize,
@@ -41,7 +43,8 @@ impl Iterator for Joined<'_> {
     }
 }
 
-// The first byte of a row's joined segment that stands at a place or behind it, with its place; none where the row ends before.
+// The first byte of a row's joined segment that stands at a place or behind it, with its place;
+// none where the row ends before.
 fn joined_at(message: &[u8], at: usize, end: usize) -> Option<(usize, u8)>
     ensures { (place : ℕ) → (b : ℕ) → result ≡ Some (place, b) → (at ≤ place) × (place < end) }
 {
@@ -99,8 +102,8 @@ impl<'a> Segment<'a> {
         separators.saturating_add(1)
     }
 
-    // What it has from a field on, its fields counted from 1; none where it has no such field, or has it empty at its end. An empty field before
-    // that begins with the separator behind it.
+    // What it has from a field on, its fields counted from 1; none where it has no such field, or
+    // has it empty at its end. An empty field before that begins with the separator behind it.
     pub fn from_field(self, number: usize) -> Option<Segment<'a>> {
         let mut left = number.saturating_sub(1);
         for (start, b) in self.bytes() {

@@ -4,15 +4,14 @@ use crate::header::HEADER;
 use crate::joined::Segment;
 use form::separators::Separators;
 
-// The leaves of the first row that its header makes up: H, the separators, and the field behind them (S4).
+// The leaves of the first row that its header makes up: H, the separators, and the field behind
+// them (S4).
 const HEADER_LEAVES: usize = 3;
 
 // How many leaves a message has.
 pub fn count_leaves(message: &[u8], separators: Separators) -> usize {
-    Rows::of(message).fold(
-        0,
-        |leaves, row| leaves_of_row(message, separators, row).saturating_add(leaves),
-    )
+    let rows = Rows::of(message).map(|row| leaves_of_row(message, separators, row));
+    rows.fold(0, usize::saturating_add)
 }
 
 // The first row of a message with which its leaves pass a limit.
@@ -27,7 +26,8 @@ pub fn row_past(message: &[u8], separators: Separators, limit: usize) -> Option<
     None
 }
 
-// The leaves of a row: one more than its splitting bytes (S3); in the first row the header's bytes split nothing (S4).
+// The leaves of a row: one more than its splitting bytes (S3); in the first row the header's bytes
+// split nothing (S4).
 fn leaves_of_row(message: &[u8], separators: Separators, row: Row) -> usize {
     let (start, whole) = if row.start == 0 {
         (HEADER, HEADER_LEAVES)

@@ -1,4 +1,5 @@
-// Lookups in the table of an accepted message: the leaves are named as the recommendation's tables number them (S5).
+// Lookups in the table of an accepted message: the leaves are named as the recommendation's tables
+// number them (S5).
 use look::leaf::{Place, Sought, find_leaf_in_segment};
 use table::rows::Entry;
 use table::{Card, rows};
@@ -12,7 +13,8 @@ pub struct Table<'a> {
     pub text: &'a [u8],
 }
 
-// A row of it, by its number (T1). There may be no such row: then it has no kind, no owner and no leaves.
+// A row of it, by its number (T1). There may be no such row: then it has no kind, no owner and no
+// leaves.
 #[derive(Clone, Copy)]
 pub struct TableRow<'a> {
     table: Table<'a>,
@@ -83,7 +85,8 @@ impl<'a> TableRow<'a> {
         }
     }
 
-    // The second subfield of a field, which is a name, or the first, a code, where that has no text.
+    // The second subfield of a field, which is a name, or the first, a code, where that has no
+    // text.
     pub fn name(self, field: Entry) -> Option<&'a [u8]> {
         self.text(field, 2).or(self.text(field, 1))
     }

@@ -1,6 +1,8 @@
-// Explains the answer on the message that comes on standard input: why and where it is refused, what was expected there and what to do about it; or, where
-// it is accepted, what its rows are and on which lines they stand. The first line is the verdict in short. The command is ./explain. Where the input cannot
-// be read nothing is printed, which tells it: the exit status is always 0, and an empty message has a line.
+// Explains the answer on the message that comes on standard input: why and where it is refused,
+// what was expected there and what to do about it; or, where it is accepted, what its rows are and
+// on which lines they stand. The first line is the verdict in short. The command is ./explain.
+// Where the input cannot be read nothing is printed, which tells it: the exit status is always 0,
+// and an empty message has a line.
 #![tactic(auto)]
 
 mod accepted;
@@ -50,7 +52,8 @@ const SEGMENTS: usize = LargeForm::SEGMENTS * rows::SEGMENT_ROW;
 
 const LEAVES: usize = LargeForm::LEAVES * rows::LEAF_ROW;
 
-// What the reader writes into. The buffers are arrays: their types state their lengths then, and no proof counts a megabyte.
+// What the reader writes into. The buffers are arrays: their types state their lengths then, and no
+// proof counts a megabyte.
 #[derive(Drop)]
 struct Buffers<'a> {
     text: &'a mut [u8; TEXT],

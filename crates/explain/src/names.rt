@@ -21,7 +21,8 @@ pub fn put_context(line: &mut Line, context: u8) {
     put_name(line, Context::name(usize::from(context)));
 }
 
-// The letters of a name; nothing where it counts more than it has, as no name of a kind or a context does.
+// The letters of a name; nothing where it counts more than it has, as no name of a kind or a
+// context does.
 fn put_name(line: &mut Line, name: Spelled) {
     if let Some(letters) = name.1.get(..name.0) {
         line.put_letters(letters);
@@ -43,7 +44,8 @@ pub fn count_kinds(kinds: [u8; KINDS]) -> usize {
     kinds.iter().filter(|told| **told == 1).count()
 }
 
-// What stands before a name of a list, by how many are before it and how many there are: nothing before the first.
+// What stands before a name of a list, by how many are before it and how many there are: nothing
+// before the first.
 fn joint(before: usize, count: usize) -> &'static str {
     if before == 0 {
         ""

@@ -1,9 +1,10 @@
-// Lines of output: each is built in a room of its own and written at once. A write that fails is passed over.
+// Lines of output: each is built in a room of its own and written at once. A write that fails is
+// passed over.
 use std::fmt;
 use std::fmt::{Display, Write};
 
-// The bytes that a line has room for: two for each of the most columns that can be asked for, and some for a long word at its end. What does not
-// fit is left out.
+// The bytes that a line has room for: two for each of the most columns that can be asked for, and
+// some for a long word at its end. What does not fit is left out.
 pub const ROOM: usize = 4096;
 
 // What stands at the end of a line that is cut, and the columns that it takes.
@@ -94,7 +95,8 @@ impl Line {
         self.end_whole();
     }
 
-    // Ends a character, or a sign that takes several columns: where the line up to here leaves room for the dots of a cut, it stays whole.
+    // Ends a character, or a sign that takes several columns: where the line up to here leaves room
+    // for the dots of a cut, it stays whole.
     pub fn end_whole(&mut self) {
         if self.columns.saturating_add(CUT_COLUMNS) <= self.width {
             self.kept = self.length;

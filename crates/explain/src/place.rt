@@ -43,7 +43,8 @@ impl Spot {
         }
     }
 
-    // The text from a place up to the next field separator or its line's end, and one byte at least.
+    // The text from a place up to the next field separator or its line's end, and one byte at
+    // least.
     fn of_text(message: &[u8], field: u8, offset: usize, row: usize) -> Spot {
         let bytes = text_from(message, offset, field).len().max(1);
         Spot {
@@ -53,7 +54,8 @@ impl Spot {
         }
     }
 
-    // A row's kind, as far as it stands in the row's first line; the message's end where there is no such row.
+    // A row's kind, as far as it stands in the row's first line; the message's end where there is
+    // no such row.
     fn of_row(message: &[u8], field: u8, row: usize) -> Spot {
         let place = row_place(message, row);
         if place.lines == 0 {
@@ -85,7 +87,8 @@ pub fn spot_of(message: &[u8], refusal: Refusal) -> Spot {
     }
 }
 
-// The offset where the header is broken, so that there are no rows: a message that is too long was not looked at, and else it is the header's.
+// The offset where the header is broken, so that there are no rows: a message that is too long was
+// not looked at, and else it is the header's.
 fn spot_without_rows(message: &[u8], refusal: Refusal) -> usize {
     if refusal.number == Number::LONG_MESSAGE {
         return refusal.form.limits().bytes;

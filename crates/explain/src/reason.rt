@@ -37,8 +37,9 @@ fn put_position(line: &mut Line, message: &[u8], spot: Spot) {
     line.put(")");
 }
 
-// What is wrong with the message, by the reader's number (N1). The order may be wrong at the message's end, too. The last words are for the numbers
-// that no message of standard input has, since its buffers are long enough.
+// What is wrong with the message, by the reader's number (N1). The order may be wrong at the
+// message's end, too. The last words are for the numbers that no message of standard input has,
+// since its buffers are long enough.
 fn reason(number: u8, at_end: bool) -> &'static str {
     match number {
         Number::LONG_MESSAGE => "the message is too long",

@@ -1,4 +1,5 @@
-// The explanation of a refusal: its verdict, the line and the place in it, what was expected there, and what to do.
+// The explanation of a refusal: its verdict, the line and the place in it, what was expected there,
+// and what to do.
 use crate::advice::advice_on;
 use crate::advised::write_advice;
 use crate::excerpt::write_excerpt;

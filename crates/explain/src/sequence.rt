@@ -1,4 +1,5 @@
-// What was expected where a kind stands that may not, or the message breaks off (C2, C3, V1), and what stands there instead.
+// What was expected where a kind stands that may not, or the message breaks off (C2, C3, V1), and
+// what stands there instead.
 use crate::going::Rows;
 use crate::instead::put_joined;
 use crate::joined::Segment;
@@ -21,7 +22,8 @@ pub fn put_order(line: &mut Line, message: &[u8], field: u8, offset: usize) {
     line.put(" stands there");
 }
 
-// The kinds that may come next, and behind which kind, C aside, of which context; the message's end where none may come.
+// The kinds that may come next, and behind which kind, C aside, of which context; the message's end
+// where none may come.
 fn put_next(line: &mut Line, watcher: Watcher) {
     let kinds = watcher.next_kinds();
     if count_kinds(kinds) == 0 {

@@ -1,5 +1,5 @@
-// Bytes of a message as a terminal may show them (ISO 8859-1): a letter is a column, and a byte that would do something to the terminal is a sign in
-// brackets, such as <LF>, that takes several.
+// Bytes of a message as a terminal may show them (ISO 8859-1): a letter is a column, and a byte
+// that would do something to the terminal is a sign in brackets, such as <LF>, that takes several.
 use crate::output::Line;
 
 const NUL: u8 = 0;
@@ -42,7 +42,8 @@ impl Line {
         }
     }
 
-    // The sign of a byte that is not shown as it is: its name, or else its two hexadecimal digits. It stays whole where the line is cut.
+    // The sign of a byte that is not shown as it is: its name, or else its two hexadecimal digits.
+    // It stays whole where the line is cut.
     fn put_sign(&mut self, b: u8) {
         self.put_columns(b"<");
         match name_of(b) {

@@ -1,7 +1,8 @@
 // Letters that are written in UTF-8, where a message has one byte for each.
 
-// How many characters a text has that is read as UTF-8; none where some of its bytes make up no whole character. Of the bytes behind a character's
-// first only their number and their kind are looked at, so that some texts are taken here that `str::from_utf8` refuses.
+// How many characters a text has that is read as UTF-8; none where some of its bytes make up no
+// whole character. Of the bytes behind a character's first only their number and their kind are
+// looked at, so that some texts are taken here that `str::from_utf8` refuses.
 pub fn count_characters(text: &[u8]) -> Option<usize> {
     let mut left = text;
     let mut count = 0;

@@ -1,5 +1,5 @@
--- `explain::joined::joined_at` gives a byte that stands at the place or behind it, before the row's end. The loop goes on from the place. The measure
--- is how much of the row is left.
+-- `explain::joined::joined_at` gives a byte that stands at the place or behind it, before the row's
+-- end. The loop goes on from the place. The measure is how much of the row is left.
 -- Assumes nothing.
 use Prim.Native.Nat.{◌≤◌, ◌-◌}
 use Rattle.explain.proofs.joined.joined_at.Given as goal

@@ -1,5 +1,5 @@
--- `explain::unicode::count_characters` is safe and ends. The loop's invariant: no more characters are counted than bytes are passed. The measure is how
--- much of the text is left.
+-- `explain::unicode::count_characters` is safe and ends. The loop's invariant: no more characters
+-- are counted than bytes are passed. The measure is how much of the text is left.
 -- Assumes nothing.
 use Prim.Native.Nat.{◌≤◌, ◌+◌}
 use lib.ListN.{length}
