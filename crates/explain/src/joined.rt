@@ -90,6 +90,7 @@ impl<'a> Segment<'a> {
     }
 
     // The number of the kind that it begins with, or 0 where that is unknown (S1).
+    // kept (C): `Kind::of` gives a number, and `Watcher::tell_by` takes it
     pub fn kind(self) -> u8 {
         let name = self.letters();
         Kind::of(name.length, name.first, name.second, name.third)

@@ -4,7 +4,7 @@ use look::leaf::{Place, Sought, find_leaf_in_segment};
 use table::rows::Entry;
 use table::{Card, rows};
 
-// A table that a message was read to.
+// A table that a message was read to: the card and the buffers that it counts in.
 #[derive(Clone, Copy)]
 pub struct Table<'a> {
     pub card: Card,
@@ -40,6 +40,7 @@ impl<'a> TableRow<'a> {
     }
 
     // The number of its kind; 0, which is no kind, where there is no such row.
+    // kept (C): the kinds of `form::kind` are numbers
     pub fn kind(self) -> u8 {
         let kind = self.entry(0).and_then(|kind| u8::try_from(kind).ok());
         kind.unwrap_or(0)

@@ -9,6 +9,7 @@ use order::watcher::KINDS;
 const CONTEXTS: usize = 7;
 
 // All kinds, in the form of a list: a 1 at the number of each, and no kind has 0.
+// kept (C): this is the form in which `Watcher::next_kinds` gives a list of kinds
 pub const EVERY_KIND: [u8; KINDS] = [0, 1, 1, 1, 1, 1, 1, 1, 1, 1, 1, 1, 1];
 
 // The name of a kind; nothing where no kind has the number.

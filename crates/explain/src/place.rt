@@ -14,6 +14,7 @@ use source::row::row_place;
 pub const CONTEXT: usize = 7;
 
 // A refusal: what the reader answers, what it judged by, and what else is known of the input.
+// kept (C): `number` is what `read::read` answers, and `form::number` has no enum of the numbers
 #[derive(Clone, Copy)]
 pub struct Refusal {
     pub number: u8,

@@ -37,6 +37,7 @@ fn put_next(line: &mut Line, watcher: Watcher) {
 }
 
 // The context of a message (C1), or 0, which is no context, where it has none.
+// kept (C): `Context::of` gives a number, and `Watcher::begin` takes it
 fn context_of(message: &[u8], field: u8) -> u8 {
     let Some(context) = Segment::at(message, field, 0).from_field(CONTEXT) else {
         return 0;
