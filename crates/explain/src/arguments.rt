@@ -1,16 +1,14 @@
 // What the program is told when it is started: the form to judge by, and how wide its lines may be.
-ghost use Rattle.std.specs.Prelude.{◌<◌};
-
 use form::forms::Form;
-use look::text::same_bytes;
 use std::env::Env;
+use std::str;
 
 // The arguments' places. The program's own name is at 0.
 const FORM: usize = 1;
 
 const WIDTH: usize = 2;
 
-// The longest argument that has a meaning is shorter.
+// No argument that has a meaning is longer.
 const LONGEST: usize = 8;
 
 // The columns of a line where none are asked for, and the least and the most that can be.
@@ -20,61 +18,37 @@ const NARROWEST: usize = 40;
 
 const WIDEST: usize = 1000;
 
-// The form that a message is judged by: the small one where the first argument is `small`, and else the large one.
+// The form that a message is judged by: the small one where the first argument is `small`, and else
+// the large one.
 pub fn form_asked(rt: &impl Env) -> Form {
-    let mut word = [0; LONGEST];
-    let length = rt.arg(FORM, &mut word).unwrap_or(0);
-    if same_bytes(&word[..length], b"small") {
-        return Form::Small;
+    let mut room = [0; LONGEST];
+    match argument(rt, FORM, &mut room) {
+        Some(word) if word == b"small".as_slice() => Form::Small,
+        _ => Form::Large,
     }
-    Form::Large
 }
 
-// The columns that a line may have: the second argument where it is a number that makes sense, and else 80.
+// The columns that a line may have: the second argument where it is a number that makes sense, and
+// else 80.
 pub fn width_asked(rt: &impl Env) -> usize {
-    let mut word = [0; LONGEST];
-    let length = rt.arg(WIDTH, &mut word).unwrap_or(0);
-    let width = number_of(&word[..length]);
-    if width < NARROWEST {
-        return USUAL;
-    }
-    if WIDEST < width {
-        return USUAL;
-    }
+    let mut room = [0; LONGEST];
+    let width = argument(rt, WIDTH, &mut room).and_then(number_of);
     width
+        .filter(|width| (NARROWEST..=WIDEST).contains(width))
+        .unwrap_or(USUAL)
 }
 
-// The number that decimal digits say; 0 where there are none, something else stands among them, or it is past the widest line.
-fn number_of(digits: &[u8]) -> usize {
-    let mut number = 0;
-    let mut at = 0;
-    while at < digits.len() {
-        if !is_digit(digits[at]) {
-            return 0;
-        }
-        if WIDEST < number {
-            return 0;
-        }
-        number = number * 10 + digit_of(digits[at]);
-        at += 1;
-    }
-    number
+// An argument; none where there is none, or it is longer than its room.
+fn argument<'a>(rt: &impl Env, place: usize, room: &'a mut [u8; LONGEST]) -> Option<&'a [u8]> {
+    let length = rt.arg(place, room).ok()?;
+    room.get(..length)
 }
 
-// Whether a byte is a decimal digit.
-fn is_digit(b: u8) -> bool {
-    if b < b'0' {
-        return false;
+// The number that decimal digits say; none where there are none, or something else stands among
+// them, also a sign.
+fn number_of(digits: &[u8]) -> Option<usize> {
+    if !digits.iter().all(|b| b.is_ascii_digit()) {
+        return None;
     }
-    b <= b'9'
-}
-
-// The number of a digit, below 10; of another byte some number below 10.
-fn digit_of(b: u8) -> usize
-    ensures { result < 10 }
-{
-    if b < b'0' {
-        return 0;
-    }
-    ((b - b'0') % 10) as usize
+    str::from_utf8(digits).ok()?.parse().ok()
 }

@@ -1,83 +1,97 @@
-// Going through a message from row to row. Places are offsets in the message; a row's end is the place where the next row begins.
-use crate::counts::sum;
-use source::position::position_of;
+// Going through a message from row to row. Places are offsets in the message; a row's end is the
+// place where the next row begins.
+ghost use Rattle.std.specs.Prelude.{◌-◌};
+ghost use Rattle.std.specs.Iterator.{at_most};
+
+use crate::text::CR;
 use source::row::{is_addendum, row_at};
 
-// How many rows a message has, up to its first fault.
-pub fn count_rows(message: &[u8]) -> usize {
-    let mut at = 0;
-    let mut rows = 0;
-    while at < message.len() {
-        let run = row_at(message, at);
-        let next = run.next;
-        if next <= at {
-            return rows;
+// The rows of a message, up to its first fault.
+#[derive(Drop)]
+pub struct Rows<'a> {
+    message: &'a [u8],
+    at: usize,
+    end: usize,
+    // how many were given
+    count: usize,
+}
+
+// A row: its number, counted from 1, where it begins and ends, and how many lines it takes.
+#[derive(Clone, Copy)]
+pub struct Row {
+    pub number: usize,
+    pub start: usize,
+    pub end: usize,
+    pub lines: usize,
+}
+
+impl<'a> Rows<'a> {
+    pub fn of(message: &'a [u8]) -> Rows<'a> {
+        Rows {
+            message,
+            at: 0,
+            end: message.len(),
+            count: 0,
         }
-        at = next;
-        rows += 1;
     }
-    rows
+}
+
+impl Iterator for Rows<'_> {
+    type Item = Row;
+
+    ghost remaining = { λ s. at_most (s.end - s.at) };
+
+    fn next(&mut self) -> Option<Row> {
+        let start = self.at;
+        if self.end <= start {
+            return None;
+        }
+        let run = row_at(self.message, start);
+        if run.next <= start {
+            return None;
+        }
+        self.at = run.next;
+        self.count = self.count.saturating_add(1);
+        Some(Row {
+            number: self.count,
+            start,
+            end: run.next,
+            lines: run.lines,
+        })
+    }
 }
 
 // How many lines its rows take: lines that are not blank, addenda among them.
 pub fn count_lines(message: &[u8]) -> usize {
-    let mut at = 0;
-    let mut lines = 0;
-    while at < message.len() {
-        let run = row_at(message, at);
-        let next = run.next;
-        if next <= at {
-            return lines;
-        }
-        at = next;
-        lines = sum(lines, run.lines);
-    }
-    lines
+    Rows::of(message)
+        .map(|row| row.lines)
+        .fold(0, usize::saturating_add)
 }
 
 // How many line ends a part of a message has.
 pub fn count_ends(part: &[u8]) -> usize {
-    let position = position_of(part, part.len());
-    let line = position.line;
-    if line < 1 {
-        return 0;
-    }
-    line - 1
+    part.iter().filter(|b| **b == CR).count()
 }
 
-// The row of the line that an offset lies in; 0 where a line before it is broken, so that rows cannot be counted up to there.
-pub fn row_of(message: &[u8], field: u8, offset: usize) -> usize {
-    let mut at = 0;
-    let mut rows = 0;
-    while at < message.len() {
-        if offset < at {
-            return rows;
-        }
-        let run = row_at(message, at);
-        let next = run.next;
-        if next <= at {
-            return broken_row(message, field, at, offset, rows);
-        }
-        at = next;
-        rows += 1;
+// The number of the row whose line an offset lies in; none where a line before it is broken, so
+// that rows cannot be counted up to there.
+pub fn row_of(message: &[u8], field: u8, offset: usize) -> Option<usize> {
+    let before = Rows::of(message)
+        .take_while(|row| row.start <= offset)
+        .count();
+    let end = Rows::of(message).last().map_or(0, |row| row.end);
+    if offset < end || message.len() <= end {
+        return Some(before);
     }
-    rows
-}
-
-// The row that a broken line belongs to, by the place where it begins and the rows before it: where it begins as an addendum does it carries the last of
-// these on. 0 where the offset lies in a later line.
-fn broken_row(message: &[u8], field: u8, at: usize, offset: usize, rows: usize) -> usize {
-    if offset < at {
-        return rows;
+    // the line at the end is broken: the offset lies in it or behind it
+    let broken = message.get(end..)?;
+    if 0 < count_ends(message.get(end..offset)?) {
+        return None;
     }
-    if message.len() < offset {
-        return 0;
-    }
-    if 0 < count_ends(&message[at..offset]) {
-        return 0;
-    }
-    if is_addendum(&message[at..], field) {
-        return rows;
-    }
-    sum(rows, 1)
+    // a broken addendum carries the row before it on
+    Some(if is_addendum(broken, field) {
+        before
+    } else {
+        before.saturating_add(1)
+    })
 }

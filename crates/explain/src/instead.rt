@@ -1,66 +1,40 @@
-// What stands in a message where something else should: a byte, or the name that a joined segment has there.
-use crate::counts::sum;
-use crate::joined::{joined_place, letters_from};
-use crate::output::{Pen, ROOM, put, put_number};
-use crate::text::{byte_at, put_shown};
+// What stands in a message where something else should: a byte, or the name that a joined segment
+// has there.
+use crate::joined::Segment;
+use crate::output::Line;
 
 // The most bytes that are shown of what stands in the place of a name.
 const SHOWN: usize = 20;
 
 // A byte that stands where another should, by its sign and its number, and what it is.
-pub fn put_instead(line: &mut [u8; ROOM], pen: Pen, b: u8, what: &[u8]) -> Pen {
-    let pen = put(line, pen, b"; ");
-    let pen = put_byte(line, pen, b);
-    let pen = put(line, pen, b" stands there");
-    put(line, pen, what)
+pub fn put_instead(line: &mut Line, b: u8, what: &str) {
+    line.put("; ");
+    put_byte(line, b);
+    write!(line, " stands there{what}");
 }
 
 // A byte by its sign and its number.
-pub fn put_byte(line: &mut [u8; ROOM], pen: Pen, b: u8) -> Pen {
-    let pen = put_shown(line, pen, b);
-    let pen = put(line, pen, b" (byte ");
-    let pen = put_number(line, pen, b as usize);
-    put(line, pen, b")")
+pub fn put_byte(line: &mut Line, b: u8) {
+    line.put_shown(b);
+    write!(line, " (byte {b})");
 }
 
-// What stands in a joined segment from a place up to the next field separator, as far as it is shown; `nothing` where nothing does.
-pub fn put_joined(
-    line: &mut [u8; ROOM],
-    pen: Pen,
-    message: &[u8],
-    field: u8,
-    from: usize,
-    end: usize,
-) -> Pen {
-    let name = letters_from(message, field, from, end);
-    if name.length == 0 {
-        return put(line, pen, b"nothing");
+// What stands in a joined segment up to the next field separator, as far as it is shown; `nothing`
+// where nothing does.
+pub fn put_joined(line: &mut Line, segment: Segment<'_>) {
+    let field = segment.field;
+    let letters = segment.bytes().take_while(|(_, b)| *b != field).take(SHOWN);
+    for (_, b) in letters {
+        line.put_shown(b);
     }
-    put_letters(line, pen, message, field, from, end)
-}
-
-// The same where something does.
-fn put_letters(
-    line: &mut [u8; ROOM],
-    pen: Pen,
-    message: &[u8],
-    field: u8,
-    from: usize,
-    end: usize,
-) -> Pen {
-    let mut next = pen;
-    let mut left = SHOWN;
-    let mut at = joined_place(message, from, end);
-    while 0 < left {
-        if end <= at {
-            return next;
-        }
-        if byte_at(message, at) == field {
-            return next;
-        }
-        next = put_shown(line, next, byte_at(message, at));
-        at = joined_place(message, sum(at, 1), end);
-        left -= 1;
+    let shown = segment
+        .bytes()
+        .take_while(|(_, b)| *b != field)
+        .take(SHOWN)
+        .count();
+    match shown {
+        0 => line.put("nothing"),
+        SHOWN => line.put(".."),
+        _ => {}
     }
-    put(line, next, b"..")
 }

@@ -1,109 +1,120 @@
-// Going through a row's joined segment from byte to byte (A1 to A3): its kind, its fields, and the names in them.
-use crate::counts::sum;
+// Going through a row's joined segment from byte to byte (A1 to A3): its kind, its fields, and the
+// names in them.
+ghost use Rattle.std.specs.Prelude.{◌≡◌, ℕ, ◌≤◌, ◌<◌, ◌-◌, Some};
+ghost use Rattle.std.specs.Iterator.{at_most};
+
 use crate::text::SPACE;
 use form::kind::Kind;
 use form::letters::Letters;
 use line::finder::low_end;
+use source::row::row_at;
 
 // The A and the separator that an addendum begins with (A1).
 const ADDENDUM: usize = 2;
 
-// The place of the first byte of a row's joined segment that stands at a place or behind it: line ends and what an addendum begins with are passed. The
-// row's end where there is none.
-pub fn joined_place(message: &[u8], at: usize, end: usize) -> usize {
+// A row's joined segment from a place of the message on, up to the row's end.
+#[derive(Clone, Copy)]
+pub struct Segment<'a> {
+    pub message: &'a [u8],
+    // the field separator
+    pub field: u8,
+    pub start: usize,
+    pub end: usize,
+}
+
+// The bytes of a joined segment, each with its place: line ends and what an addendum begins with
+// are passed.
+#[derive(Drop)]
+pub struct Joined<'a> {
+    message: &'a [u8],
+    at: usize,
+    end: usize,
+}
+
+impl Iterator for Joined<'_> {
+    type Item = (usize, u8);
+
+    ghost remaining = { λ s. at_most (s.end - s.at) };
+
+    fn next(&mut self) -> Option<(usize, u8)> {
+        let (place, b) = joined_at(self.message, self.at, self.end)?;
+        self.at = place + 1;
+        Some((place, b))
+    }
+}
+
+// The first byte of a row's joined segment that stands at a place or behind it, with its place;
+// none where the row ends before.
+fn joined_at(message: &[u8], at: usize, end: usize) -> Option<(usize, u8)>
+    ensures { (place : ℕ) → (b : ℕ) → result ≡ Some (place, b) → (at ≤ place) × (place < end) }
+{
     let mut place = at;
+    // kept (plainer): how far a step goes is told by the control bytes that stand there
     while place < end {
-        if message.len() <= place {
-            return end;
+        let b = *message.get(place)?;
+        if SPACE <= b {
+            return Some((place, b));
         }
-        if SPACE <= message[place] {
-            return place;
-        }
-        let behind = low_end(message, place);
-        if behind < place {
-            return end;
-        }
-        if end <= behind {
-            return end;
-        }
-        if message.len() < behind {
-            return end;
-        }
-        if message.len() - behind < ADDENDUM {
-            return end;
-        }
-        place = behind + ADDENDUM;
+        place = low_end(message, place).saturating_add(ADDENDUM);
     }
-    end
+    None
 }
 
-// The letters of a joined segment from a place up to the next field separator, or to the row's end.
-pub fn letters_from(message: &[u8], field: u8, from: usize, end: usize) -> Letters {
-    let mut name = Letters::of(&message[0..0]);
-    let mut at = joined_place(message, from, end);
-    while at < message.len() {
-        if end <= at {
-            return name;
+impl<'a> Segment<'a> {
+    // The segment of the row that begins at a place.
+    pub fn at(message: &'a [u8], field: u8, start: usize) -> Segment<'a> {
+        let end = row_at(message, start).next;
+        Segment {
+            message,
+            field,
+            start,
+            end,
         }
-        if message[at] == field {
-            return name;
-        }
-        name = name.with(message[at]);
-        let next = joined_place(message, at + 1, end);
-        if next <= at {
-            return name;
-        }
-        at = next;
     }
-    name
-}
 
-// The kind of the row between two places, or 0 where it is unknown (S1).
-pub fn kind_of_row(message: &[u8], field: u8, start: usize, end: usize) -> u8 {
-    let name = letters_from(message, field, start, end);
-    Kind::of(name.length, name.first, name.second, name.third)
-}
-
-// The place of a field's first byte in the row between two places, its fields counted from 1: that of the separator behind it where it is empty, and the
-// row's end where the row has no such field, or has it empty at its end.
-pub fn field_place(message: &[u8], field: u8, number: usize, start: usize, end: usize) -> usize {
-    let mut at = joined_place(message, start, end);
-    let mut left = number;
-    while at < message.len() {
-        if left <= 1 {
-            return at;
+    // Its bytes.
+    pub fn bytes(self) -> Joined<'a> {
+        Joined {
+            message: self.message,
+            at: self.start,
+            end: self.end,
         }
-        if end <= at {
-            return end;
-        }
-        if message[at] == field {
-            left -= 1;
-        }
-        let next = joined_place(message, at + 1, end);
-        if next <= at {
-            return end;
-        }
-        at = next;
     }
-    end
-}
 
-// How many fields the row between two places has.
-pub fn count_fields(message: &[u8], field: u8, start: usize, end: usize) -> usize {
-    let mut at = joined_place(message, start, end);
-    let mut fields = 1;
-    while at < message.len() {
-        if end <= at {
-            return fields;
-        }
-        if message[at] == field {
-            fields = sum(fields, 1);
-        }
-        let next = joined_place(message, at + 1, end);
-        if next <= at {
-            return fields;
-        }
-        at = next;
+    // Its letters up to the next field separator.
+    pub fn letters(self) -> Letters {
+        let field = self.field;
+        self.bytes()
+            .take_while(|(_, b)| *b != field)
+            .fold(Letters::of(b""), |name, (_, b)| name.with(b))
     }
-    fields
+
+    // The number of the kind that it begins with, or 0 where that is unknown (S1).
+    // kept (C): `Kind::of` gives a number, and `Watcher::tell_by` takes it
+    pub fn kind(self) -> u8 {
+        let name = self.letters();
+        Kind::of(name.length, name.first, name.second, name.third)
+    }
+
+    // How many fields it has.
+    pub fn count_fields(self) -> usize {
+        let field = self.field;
+        let separators = self.bytes().filter(|(_, b)| *b == field).count();
+        separators.saturating_add(1)
+    }
+
+    // What it has from a field on, its fields counted from 1; none where it has no such field, or
+    // has it empty at its end. An empty field before that begins with the separator behind it.
+    pub fn from_field(self, number: usize) -> Option<Segment<'a>> {
+        let mut left = number.saturating_sub(1);
+        for (start, b) in self.bytes() {
+            if left == 0 {
+                return Some(Segment { start, ..self });
+            }
+            if b == self.field {
+                left -= 1;
+            }
+        }
+        None
+    }
 }

@@ -1,6 +1,5 @@
 // Names of kinds and contexts, by number (S1, C1), and lists of them.
-use crate::counts::{less, sum};
-use crate::output::{Pen, ROOM, put};
+use crate::output::Line;
 use form::context::Context;
 use form::kind::Kind;
 use form::letters::Spelled;
@@ -9,82 +8,68 @@ use order::watcher::KINDS;
 // How many contexts there are (C1).
 const CONTEXTS: usize = 7;
 
+// All kinds, in the form of a list: a 1 at the number of each, and no kind has 0.
+// kept (C): this is the form in which `Watcher::next_kinds` gives a list of kinds
+pub const EVERY_KIND: [u8; KINDS] = [0, 1, 1, 1, 1, 1, 1, 1, 1, 1, 1, 1, 1];
+
 // The name of a kind; nothing where no kind has the number.
-pub fn put_kind(line: &mut [u8; ROOM], pen: Pen, kind: u8) -> Pen {
-    put_name(line, pen, Kind::name(kind as usize))
+pub fn put_kind(line: &mut Line, kind: u8) {
+    put_name(line, Kind::name(usize::from(kind)));
 }
 
 // The name of a context; nothing where no context has the number.
-pub fn put_context(line: &mut [u8; ROOM], pen: Pen, context: usize) -> Pen {
-    put_name(line, pen, Context::name(context))
+pub fn put_context(line: &mut Line, context: u8) {
+    put_name(line, Context::name(usize::from(context)));
 }
 
-// The letters of a name; nothing where it counts more than it has, as no name of a kind or a context does.
-fn put_name(line: &mut [u8; ROOM], pen: Pen, name: Spelled) -> Pen {
-    let length = name.0;
-    let array = name.1;
-    let letters = &array[..];
-    if length <= letters.len() {
-        return put(line, pen, &letters[0..length]);
+// The letters of a name; nothing where it counts more than it has, as no name of a kind or a
+// context does.
+fn put_name(line: &mut Line, name: Spelled) {
+    if let Some(letters) = name.1.get(..name.0) {
+        line.put_letters(letters);
     }
-    pen
 }
 
 // The kinds at whose numbers there is a 1, as `OBR, P or C`; nothing where there is none.
-pub fn put_kinds(line: &mut [u8; ROOM], pen: Pen, kinds: [u8; KINDS]) -> Pen {
-    let mut next = pen;
-    let mut left = count_kinds(kinds);
-    let mut kind = 0;
-    while kind < KINDS {
-        if kinds[kind] == 1 {
-            next = put_kind(line, next, kind as u8);
-            left = less(left);
-            next = put_joint(line, next, left);
-        }
-        kind += 1;
+pub fn put_kinds(line: &mut Line, kinds: [u8; KINDS]) {
+    let count = count_kinds(kinds);
+    let told = kinds.iter().enumerate().filter(|(_, told)| **told == 1);
+    for (nth, (kind, _)) in told.enumerate() {
+        line.put(joint(nth, count));
+        put_name(line, Kind::name(kind));
     }
-    next
 }
 
 // How many kinds have a 1.
 pub fn count_kinds(kinds: [u8; KINDS]) -> usize {
-    let mut count = 0;
-    let mut kind = 0;
-    while kind < KINDS {
-        if kinds[kind] == 1 {
-            count = sum(count, 1);
-        }
-        kind += 1;
-    }
-    count
+    kinds.iter().filter(|told| **told == 1).count()
 }
 
-// What stands between a name of a list and the next, by how many are left: nothing behind the last.
-fn put_joint(line: &mut [u8; ROOM], pen: Pen, left: usize) -> Pen {
-    match left {
-        0 => pen,
-        1 => put(line, pen, b" or "),
-        _ => put(line, pen, b", "),
+// What stands before a name of a list, by how many are before it and how many there are: nothing
+// before the first.
+fn joint(before: usize, count: usize) -> &'static str {
+    if before == 0 {
+        ""
+    } else if count.saturating_sub(before) == 1 {
+        " or "
+    } else {
+        ", "
     }
 }
 
 // All contexts, as a list.
-pub fn put_contexts(line: &mut [u8; ROOM], pen: Pen) -> Pen {
-    let mut next = pen;
-    let mut left = CONTEXTS;
-    while 0 < left {
-        next = put_context(line, next, CONTEXTS + 1 - left);
-        left -= 1;
-        next = put_joint(line, next, left);
+pub fn put_contexts(line: &mut Line) {
+    for before in 0..CONTEXTS {
+        line.put(joint(before, CONTEXTS));
+        put_name(line, Context::name(before + 1));
     }
-    next
 }
 
 // A context's name with its article.
-pub fn put_a_context(line: &mut [u8; ROOM], pen: Pen, context: u8) -> Pen {
-    let begun = match context {
-        Context::REG | Context::FAC => put(line, pen, b"a "),
-        _ => put(line, pen, b"an "),
-    };
-    put_context(line, begun, context as usize)
+pub fn put_a_context(line: &mut Line, context: u8) {
+    line.put(match context {
+        Context::REG | Context::FAC => "a ",
+        _ => "an ",
+    });
+    put_context(line, context);
 }

@@ -1,5 +1,5 @@
 // What comes on standard input behind the longest message: read to be counted, and kept nowhere.
-use crate::counts::sum;
+use std::io;
 use std::io::Read;
 
 // How often is read at most: input that never ends is not counted to its end.
@@ -8,45 +8,27 @@ const READS: usize = 65536;
 // The bytes that a read asks for.
 const CHUNK: usize = 65536;
 
-// The bytes that came, whether the input has ended, and whether every read went well.
+// How many bytes the whole input has.
 #[derive(Clone, Copy)]
-pub struct Rest {
-    pub bytes: usize,
-    pub ended: bool,
-    pub sound: bool,
+pub enum Length {
+    Exactly(usize),
+    // it had not ended where counting stopped
+    AtLeast(usize),
 }
 
-// Counts the rest of the input, where there may be some.
-pub fn read_rest(reader: &mut impl Read, more: bool) -> Rest {
-    let mut rest = Rest {
-        bytes: 0,
-        ended: !more,
-        sound: true,
-    };
-    let mut left = READS;
-    while 0 < left {
-        if rest.ended {
-            return rest;
+// The length of an input of which so many bytes were read, and which may have more.
+pub fn count_input(reader: &mut impl Read, read: usize, more: bool) -> io::Result<Length> {
+    let mut bytes = read;
+    if !more {
+        return Ok(Length::Exactly(bytes));
+    }
+    let mut chunk = [0; CHUNK];
+    for _ in 0..READS {
+        let count = reader.read(&mut chunk)?;
+        if count == 0 {
+            return Ok(Length::Exactly(bytes));
         }
-        rest = read_more(reader, rest.bytes);
-        left -= 1;
+        bytes = bytes.saturating_add(count);
     }
-    rest
-}
-
-// One read behind so many bytes: none are the end, and an error is a fault, which ends it as well.
-fn read_more(reader: &mut impl Read, bytes: usize) -> Rest {
-    let mut buffer = [0; CHUNK];
-    match reader.read(&mut buffer) {
-        Ok(count) => Rest {
-            bytes: sum(bytes, count),
-            ended: count == 0,
-            sound: true,
-        },
-        Err(_) => Rest {
-            bytes,
-            ended: true,
-            sound: false,
-        },
-    }
+    Ok(Length::AtLeast(bytes))
 }

@@ -1,72 +1,58 @@
-// What was expected where a kind stands that may not, or the message breaks off (C2, C3, V1), and what stands there instead.
+// What was expected where a kind stands that may not, or the message breaks off (C2, C3, V1), and
+// what stands there instead.
+use crate::going::Rows;
 use crate::instead::put_joined;
-use crate::joined::{field_place, kind_of_row, letters_from};
+use crate::joined::Segment;
 use crate::names::{count_kinds, put_a_context, put_kind, put_kinds};
-use crate::output::{Pen, ROOM, put};
+use crate::output::Line;
 use crate::place::CONTEXT;
 use form::context::Context;
 use order::followers;
-use order::watcher::{KINDS, Watcher};
-use source::row::row_at;
+use order::watcher::Watcher;
 
 // The kinds that may come at a row's place, and what stands there instead.
-pub fn put_order(line: &mut [u8; ROOM], pen: Pen, message: &[u8], field: u8, offset: usize) -> Pen {
-    let context = context_of(message, field);
-    let watcher = watch_rows(message, field, context, offset);
-    let pen = put_next(line, pen, watcher);
+pub fn put_order(line: &mut Line, message: &[u8], field: u8, offset: usize) {
+    put_next(line, watch_rows(message, field, offset));
     if message.len() <= offset {
-        return put(line, pen, b"; the message ends there, and L must end it");
+        line.put("; the message ends there, and L must end it");
+        return;
     }
-    let run = row_at(message, offset);
-    let pen = put(line, pen, b"; ");
-    let pen = put_joined(line, pen, message, field, offset, run.next);
-    put(line, pen, b" stands there")
+    line.put("; ");
+    put_joined(line, Segment::at(message, field, offset));
+    line.put(" stands there");
 }
 
-// The kinds that may come next, and behind which kind, C aside, of which context.
-fn put_next(line: &mut [u8; ROOM], pen: Pen, watcher: Watcher) -> Pen {
+// The kinds that may come next, and behind which kind, C aside, of which context; the message's end
+// where none may come.
+fn put_next(line: &mut Line, watcher: Watcher) {
     let kinds = watcher.next_kinds();
-    let pen = put_next_kinds(line, pen, kinds);
-    let pen = put(line, pen, b", after ");
-    let pen = put_kind(line, pen, watcher.last);
-    let pen = put(line, pen, b" in ");
-    put_a_context(line, pen, watcher.context)
-}
-
-// The kinds; the message's end where none may come.
-fn put_next_kinds(line: &mut [u8; ROOM], pen: Pen, kinds: [u8; KINDS]) -> Pen {
     if count_kinds(kinds) == 0 {
-        return put(line, pen, b"the message's end");
+        line.put("the message's end");
     }
-    put_kinds(line, pen, kinds)
+    put_kinds(line, kinds);
+    line.put(", after ");
+    put_kind(line, watcher.last);
+    line.put(" in ");
+    put_a_context(line, watcher.context);
 }
 
-// The context of a message (C1), or 0 where it has none.
+// The context of a message (C1), or 0, which is no context, where it has none.
+// kept (C): `Context::of` gives a number, and `Watcher::begin` takes it
 fn context_of(message: &[u8], field: u8) -> u8 {
-    let run = row_at(message, 0);
-    let end = run.next;
-    let at = field_place(message, field, CONTEXT, 0, end);
-    let name = letters_from(message, field, at, end);
+    let Some(context) = Segment::at(message, field, 0).from_field(CONTEXT) else {
+        return 0;
+    };
+    let name = context.letters();
     Context::of(name.length, name.first, name.second, name.third)
 }
 
 // A watcher that was told the kinds of the rows before a place.
-fn watch_rows(message: &[u8], field: u8, context: u8, stop: usize) -> Watcher {
+fn watch_rows(message: &[u8], field: u8, stop: usize) -> Watcher {
     let followers = followers::table();
-    let mut watcher = Watcher::begin(context);
-    let mut at = 0;
-    while at < message.len() {
-        if stop <= at {
-            return watcher;
-        }
-        let run = row_at(message, at);
-        let next = run.next;
-        if next <= at {
-            return watcher;
-        }
-        let told = watcher.tell_by(&followers, kind_of_row(message, field, at, next));
-        watcher = told.watcher;
-        at = next;
+    let mut watcher = Watcher::begin(context_of(message, field));
+    for row in Rows::of(message).take_while(|row| row.start < stop) {
+        let kind = Segment::at(message, field, row.start).kind();
+        watcher = watcher.tell_by(&followers, kind).watcher;
     }
     watcher
 }

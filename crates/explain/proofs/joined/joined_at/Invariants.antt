@@ -1,7 +1,8 @@
--- `explain::joined::joined_place` is safe and ends. The loop goes on from the place that is asked for. The measure is how much of the row is left.
+-- `explain::joined::joined_at` gives a byte that stands at the place or behind it, before the row's
+-- end. The loop goes on from the place. The measure is how much of the row is left.
 -- Assumes nothing.
 use Prim.Native.Nat.{◌≤◌, ◌-◌}
-use Rattle.explain.proofs.joined.joined_place.Given as goal
+use Rattle.explain.proofs.joined.joined_at.Given as goal
 
 abbrev pub invariant-loop-place : goal.invariant-loop-place
 invariant-loop-place l = l.at ≤ l.place
