@@ -1,6 +1,6 @@
 // The answers that are lent to operations 1023 and 11023, each in three buffers: what they hold
 // before a case, and their sum.
-use crate::buffers::{fill, number_before};
+use crate::buffers::{LARGE, fill, number_before};
 use crate::sums::summed;
 use std::alloc::{AllocError, Global};
 use table::rows::Entry;
@@ -32,14 +32,14 @@ impl Answers {
 
     // The sum of them. An answer has four elements: its number, 1 if the whole number is below 0
     // and else 0, the whole number without its sign, the decimals.
-    pub fn sum(&self) -> u64 {
+    pub fn sum(&self) -> u16 {
         let mut sum = 0;
         let parts = self.numbers.iter().zip(&self.wholes).zip(&self.decimals);
         for ((number, whole), decimals) in parts {
-            sum = summed(sum, u64::from(*number));
-            sum = summed(sum, u64::from(*whole < 0));
-            sum = summed(sum, whole.unsigned_abs());
-            sum = summed(sum, u64::from(*decimals));
+            sum = summed(sum, u32::from(*number));
+            sum = summed(sum, u32::from(*whole < 0));
+            sum = summed(sum, (whole.unsigned_abs() % LARGE as u64) as u32);
+            sum = summed(sum, u32::from(*decimals));
         }
         sum
     }

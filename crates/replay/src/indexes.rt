@@ -93,15 +93,15 @@ fn code_before(i: usize) -> u8 {
 }
 
 // The sum of the lengths at all places.
-fn sum_lengths(codes: &[u8]) -> u64 {
+fn sum_lengths(codes: &[u8]) -> u16 {
     codes
         .iter()
         .step_by(PLACE)
-        .fold(0, |sum, length| summed(sum, u64::from(*length)))
+        .fold(0, |sum, length| summed(sum, u32::from(*length)))
 }
 
 // The sum of the named codes' bytes, end to end, as far as there are places.
-fn sum_codes(codes: &[u8], named: usize) -> u64 {
+fn sum_codes(codes: &[u8], named: usize) -> u16 {
     codes
         .chunks_exact(PLACE)
         .take(named)

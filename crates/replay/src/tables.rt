@@ -41,6 +41,7 @@ impl Table {
     // changed.
     fn read_and_change<R: Read + Drop>(input: &mut CaseReader<R>) -> Result<Table, Stop> {
         let message = input.parts()?;
+        // the message counts as one number
         input.take(1)?;
         let changes = input.row()?;
         let mut table = Table::read(input.alloc(), &message)?;
