@@ -1,107 +1,87 @@
-// Which operations there are: what their cases are made of, and what runs them.
-use crate::buffers::{BYTES, LEAF_ROWS, SEGMENT_ROWS};
-use crate::input::{ROOM, number};
-use crate::pieces::take_in;
+// Which operations there are, and what runs them.
+//
+// To add an operation: a variant of `Operation`, its number in `try_from`, its line in `next_case`,
+// and a module whose `run` takes in the pieces of the case by the methods of `CaseReader`, all of
+// them before it writes, and then writes the line. Its cases go into `crates/replay/cases`.
+use crate::input::CaseReader;
+use crate::stop::Stop;
 use crate::{
-    comparing, filing, finding, indexing, judging, looking, naming, seeking, value_writing, values,
-    walking, watching,
+    comparing, filing, finding, indexing, looking, naming, order_values, screening, seeking,
+    value_writing, values, walking, watching, widening, writing,
 };
+use form::forms::Form;
 use std::io::Read;
 use table::rows::Entry;
 
-// The pieces of an operation's case, as digits from the right to the left: B bytes, A a row of numbers, C a whole number with its sign, D a
-// message in parts, 1 to 9 so many numbers. A table is BAA5: five numbers, segment rows, leaf rows, text area; a table by reading is AD: a
-// message in parts, changes. Of a case with an index these are the index's own numbers, and `indexing` takes in what follows. 0 where there is
-// no such operation.
-fn pieces_of(operation: usize) -> usize {
-    match operation {
-        1 => 0x3B,
-        2 => 0x1BAA5,
-        3 => 0xB5BAA5,
-        4 => 0x3BAA5,
-        5 => 0x1BAA51BAA5,
-        6 => 0xB,
-        7 => 0xA1,
-        101 => 0x5BAA5,
-        104 => 0xBAA5,
-        105 => 0xB,
-        106 => 0x3BAA5,
-        107 => 0x3,
-        1021 => 0xB,
-        1022 => 0x2C,
-        1023 => 0x2BAA5,
-        10001 => 0x3D,
-        10002 => 0x1AD,
-        10104 => 0xAD,
-        10107 => 0x3,
-        11023 => 0x2AD,
-        _ => 0,
-    }
+// An operation. Those that go by a form's limits have a number for each form.
+#[derive(Clone, Copy)]
+pub enum Operation {
+    Read(Form),
+    Write(Form),
+    LeafText,
+    NextRow,
+    SameOrder,
+    WalkLines,
+    WatchOrder,
+    FindLeaf,
+    Screen(Form),
+    NameKind,
+    Widen,
+    ReadIndexed(Form),
+    ReadValue,
+    WriteValue,
+    OrderValues(Form),
 }
 
-// Takes in the next case and runs it; false where there is none.
-pub fn next_case(
-    rt: &impl Print,
-    reader: &mut impl Read,
-    numbers: &mut [Entry; ROOM],
-    bytes: &mut [u8; ROOM],
-    message: &mut [u8; BYTES],
-    text: &mut [u8; BYTES],
-    segments: &mut [Entry; SEGMENT_ROWS],
-    leaves: &mut [Entry; LEAF_ROWS],
-) -> bool {
-    let operation = number(reader);
-    if !take_in(reader, pieces_of(operation), numbers, bytes, message) {
-        return false;
-    }
-    match operation {
-        107 | 10107 => indexing::run(
-            rt, reader, operation, numbers, bytes, message, text, segments, leaves,
-        ),
-        _ => {
-            run(
-                rt, operation, numbers, bytes, message, text, segments, leaves,
-            );
-            true
+impl TryFrom<Entry> for Operation {
+    type Error = Stop;
+
+    // The operation that has a number.
+    fn try_from(number: Entry) -> Result<Operation, Stop> {
+        match number {
+            1 => Ok(Operation::Read(Form::Small)),
+            2 => Ok(Operation::Write(Form::Small)),
+            3 => Ok(Operation::LeafText),
+            4 => Ok(Operation::NextRow),
+            5 => Ok(Operation::SameOrder),
+            6 => Ok(Operation::WalkLines),
+            7 => Ok(Operation::WatchOrder),
+            101 => Ok(Operation::FindLeaf),
+            104 => Ok(Operation::Screen(Form::Small)),
+            105 => Ok(Operation::NameKind),
+            106 => Ok(Operation::Widen),
+            107 => Ok(Operation::ReadIndexed(Form::Small)),
+            1021 => Ok(Operation::ReadValue),
+            1022 => Ok(Operation::WriteValue),
+            1023 => Ok(Operation::OrderValues(Form::Small)),
+            10001 => Ok(Operation::Read(Form::Large)),
+            10002 => Ok(Operation::Write(Form::Large)),
+            10104 => Ok(Operation::Screen(Form::Large)),
+            10107 => Ok(Operation::ReadIndexed(Form::Large)),
+            11023 => Ok(Operation::OrderValues(Form::Large)),
+            _ => Err(Stop::NoOperation),
         }
     }
 }
 
-// Runs a case whose pieces have come. The three buffers behind the message are for a table that is written or read.
-fn run(
-    rt: &impl Print,
-    operation: usize,
-    numbers: &[Entry; ROOM],
-    bytes: &[u8; ROOM],
-    message: &mut [u8; BYTES],
-    text: &mut [u8; BYTES],
-    segments: &mut [Entry; SEGMENT_ROWS],
-    leaves: &mut [Entry; LEAF_ROWS],
-) {
-    match operation {
-        1 | 106 | 10001 => filing::run(
-            rt, operation, numbers, bytes, message, text, segments, leaves,
-        ),
-        2 | 104 | 1023 => judging::run(rt, operation, numbers, bytes, message),
-        10002 | 10104 | 11023 => judging::run_large(
-            rt, operation, numbers, message, text, segments, leaves,
-        ),
-        1022 => value_writing::run(rt, numbers, bytes, text),
-        _ => ask(rt, operation, numbers, bytes),
-    }
-}
-
-// Runs a case of an operation that asks something of its pieces and writes no buffer.
-fn ask(rt: &impl Print, operation: usize, numbers: &[Entry; ROOM], bytes: &[u8; ROOM]) {
-    match operation {
-        3 => looking::run(rt, numbers, bytes),
-        4 => finding::run(rt, numbers),
-        5 => comparing::run(rt, numbers, bytes),
-        6 => walking::run(rt, numbers, bytes),
-        7 => watching::run(rt, numbers),
-        101 => seeking::run(rt, numbers, bytes),
-        105 => naming::run(rt, numbers, bytes),
-        1021 => values::run(rt, numbers, bytes),
-        _ => {}
+// Takes in the next case, runs it and writes its line.
+pub fn next_case<R: Read + Drop>(rt: &impl Print, input: &mut CaseReader<R>) -> Result<(), Stop> {
+    let number = input.operation()?;
+    match Operation::try_from(number)? {
+        Operation::Read(form) => filing::run(rt, input, number, form),
+        Operation::Write(form) => writing::run(rt, input, number, form),
+        Operation::LeafText => looking::run(rt, input),
+        Operation::NextRow => finding::run(rt, input),
+        Operation::SameOrder => comparing::run(rt, input),
+        Operation::WalkLines => walking::run(rt, input),
+        Operation::WatchOrder => watching::run(rt, input),
+        Operation::FindLeaf => seeking::run(rt, input),
+        Operation::Screen(form) => screening::run(rt, input, number, form),
+        Operation::NameKind => naming::run(rt, input),
+        Operation::Widen => widening::run(rt, input),
+        Operation::ReadIndexed(form) => indexing::run(rt, input, number, form),
+        Operation::ReadValue => values::run(rt, input),
+        Operation::WriteValue => value_writing::run(rt, input),
+        Operation::OrderValues(form) => order_values::run(rt, input, number, form),
     }
 }

@@ -1,31 +1,28 @@
 // Operation 5: the same-order test.
-use crate::input::ROOM;
-use crate::output::{begin, end, put_yes_or_no};
-use crate::pieces::{bytes_at, number_at, row_at};
-use crate::tables::{AREA, ASKED, LEAVES, SEGMENTS, card_at};
+use crate::input::CaseReader;
+use crate::stop::Stop;
+use crate::tables::Table;
 use look::order_rows::same_order;
-use table::rows::Entry;
-
-// Which piece the second table begins with.
-const OTHER: u8 = 5;
+use std::io::Read;
 
 // Compares a row of a table, which follows it, with a row of another table, which follows that one.
-pub fn run(rt: &impl Print, numbers: &[Entry; ROOM], bytes: &[u8; ROOM]) {
-    begin(rt, 5);
-    put_yes_or_no(
-        rt,
-        same_order(
-            card_at(numbers, 0),
-            row_at(numbers, SEGMENTS),
-            row_at(numbers, LEAVES),
-            bytes_at(numbers, bytes, AREA),
-            number_at(numbers, ASKED, 0),
-            card_at(numbers, OTHER),
-            row_at(numbers, OTHER + SEGMENTS),
-            row_at(numbers, OTHER + LEAVES),
-            bytes_at(numbers, bytes, OTHER + AREA),
-            number_at(numbers, OTHER + ASKED, 0),
-        ),
+pub fn run<R: Read + Drop>(rt: &impl Print, input: &mut CaseReader<R>) -> Result<(), Stop> {
+    let one = Table::take_in(input)?;
+    let row = input.number()?;
+    let other = Table::take_in(input)?;
+    let other_row = input.number()?;
+    let same = same_order(
+        one.card,
+        &one.segments,
+        &one.leaves,
+        &one.text,
+        row,
+        other.card,
+        &other.segments,
+        &other.leaves,
+        &other.text,
+        other_row,
     );
-    end(rt);
+    println!(rt; "5 {}", u8::from(same))?;
+    Ok(())
 }

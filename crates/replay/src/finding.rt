@@ -1,23 +1,16 @@
 // Operation 4: the row finder.
-use crate::input::ROOM;
-use crate::output::{begin, end, put};
-use crate::pieces::{number_at, row_at};
-use crate::tables::{ASKED, SEGMENTS, card_at};
+use crate::input::CaseReader;
+use crate::stop::Stop;
+use crate::tables::Table;
 use look::row::next_row;
-use table::rows::Entry;
+use std::io::Read;
 
-// Asks for the row after the one that follows the table, with the kind and the owner that follow it.
-pub fn run(rt: &impl Print, numbers: &[Entry; ROOM]) {
-    begin(rt, 4);
-    put(
-        rt,
-        next_row(
-            card_at(numbers, 0),
-            row_at(numbers, SEGMENTS),
-            number_at(numbers, ASKED, 0) as usize,
-            number_at(numbers, ASKED, 1),
-            number_at(numbers, ASKED, 2),
-        ),
-    );
-    end(rt);
+// Asks for the row after the one that follows the table, with the kind and the owner that follow
+// it.
+pub fn run<R: Read + Drop>(rt: &impl Print, input: &mut CaseReader<R>) -> Result<(), Stop> {
+    let table = Table::take_in(input)?;
+    let [after, kind, owner] = input.numbers::<3>()?;
+    let row = next_row(table.card, &table.segments, after as usize, kind, owner);
+    println!(rt; "4 {row}")?;
+    Ok(())
 }

@@ -1,184 +1,117 @@
-// An index among the pieces of a case: how many codes it names, how many places it has, how many entries follow, and then each entry. It has
-// two buffers to itself, as `index` lays it: places of codes, and how many codes are named with their counts behind.
-use crate::buffers::{BYTES, byte_before, fill_numbers, least, sum_numbers, sum_on, summed, wide};
-use crate::input::ROOM;
-use crate::output::put;
-use crate::pieces::{bytes_at, bytes_between, number_at, numbers_between, take_in};
+// The index of a case, in two buffers as `index` lays it: places of codes, and how many codes are
+// named with their counts behind.
+use crate::buffers::{byte_before, fill, number_before};
+use crate::input::CaseReader;
+use crate::stop::Stop;
+use crate::sums::{sum, sum_on, summed};
 use index::{CODE, PLACE};
+use std::alloc::{AllocError, Global};
 use std::io::Read;
 use table::rows::Entry;
 
 // The most places that a case asks for.
-const PLACES: usize = 600;
+const PLACES: Entry = 600;
 
-// The two buffers of so many.
-pub const CODE_BYTES: usize = PLACES * PLACE;
-
-pub const COUNTS: usize = PLACES + 1;
-
-// The pieces of an entry, as digits: its length, its bytes, its count. The bytes may be others than the length says.
-const ENTRY: usize = 0x1B1;
-
-// How many places the index has whose three numbers are piece 0.
-pub fn places_at(numbers: &[Entry; ROOM]) -> Entry {
-    number_at(numbers, 0, 1)
+#[derive(Drop)]
+pub struct Index {
+    pub codes: Vec<u8>,
+    pub counts: Vec<Entry>,
 }
 
-// Takes in the entries of the index whose three numbers are piece 0. Everything else is filled before. False where the input ends first, or the
-// index is past the format's sizes.
-pub fn index_in(
-    reader: &mut impl Read,
-    numbers: &mut [Entry; ROOM],
-    bytes: &mut [u8; ROOM],
-    message: &mut [u8; BYTES],
-    codes: &mut [u8; CODE_BYTES],
-    counts: &mut [Entry; COUNTS],
-) -> bool {
-    let places = places_at(numbers) as usize;
-    let entries = number_at(numbers, 0, 2) as usize;
-    if PLACES < places {
-        return false;
-    }
-    if places < entries {
-        return false;
-    }
-    fill_codes(codes);
-    fill_counts(counts);
-    counts[0] = number_at(numbers, 0, 0);
-    entries_in(reader, entries, numbers, bytes, message, codes, counts)
-}
-
-// Takes in so many entries, and puts them at the first places.
-fn entries_in(
-    reader: &mut impl Read,
-    entries: usize,
-    numbers: &mut [Entry; ROOM],
-    bytes: &mut [u8; ROOM],
-    message: &mut [u8; BYTES],
-    codes: &mut [u8; CODE_BYTES],
-    counts: &mut [Entry; COUNTS],
-) -> bool {
-    let mut i = 0;
-    while i < entries {
-        if !take_in(reader, ENTRY, numbers, bytes, message) {
-            return false;
+impl Index {
+    // Takes in an index: how many codes it names, how many places it has, how many entries follow,
+    // and then each entry. Everything else is filled before. Each entry is as long as a case at
+    // most.
+    pub fn take_in<R: Read + Drop>(input: &mut CaseReader<R>) -> Result<Index, Stop> {
+        let [named, places, entries] = input.numbers::<3>()?;
+        if PLACES < places || places < entries {
+            return Err(Stop::TooLong);
         }
-        put_entry(i, numbers, bytes, codes, counts);
-        i += 1;
-    }
-    true
-}
-
-// Puts the entry whose pieces have come at place i. That there is such a place is tested for the proof.
-fn put_entry(
-    i: usize,
-    numbers: &[Entry; ROOM],
-    bytes: &[u8; ROOM],
-    codes: &mut [u8; CODE_BYTES],
-    counts: &mut [Entry; COUNTS],
-) {
-    if PLACES <= i {
-        return;
-    }
-    let at = PLACE * i;
-    codes[at] = (number_at(numbers, 0, 0) % 256) as u8;
-    lay(bytes_at(numbers, bytes, 1), codes, at + 1);
-    counts[i + 1] = number_at(numbers, 2, 0);
-}
-
-// Lays a code's bytes from a byte on, at most as many as a place has room for.
-fn lay(code: &[u8], codes: &mut [u8], from: usize) {
-    let end = least(CODE, code.len());
-    let mut at = from;
-    let mut i = 0;
-    while i < end {
-        if codes.len() <= at {
-            return;
+        let mut index = Index::filled(input.alloc(), named, places)?;
+        for i in 0..entries {
+            input.begin();
+            let length = input.number()?;
+            let code = input.bytes()?;
+            let count = input.number()?;
+            index.put(i, length, &code, count);
         }
-        codes[at] = code[i];
-        at += 1;
-        i += 1;
+        Ok(index)
+    }
+
+    // An index that names so many codes and has so many places.
+    fn filled(alloc: Global, named: Entry, places: Entry) -> Result<Index, AllocError> {
+        let places = places as usize;
+        let mut codes = vec![in alloc; 0; PLACE * places]?;
+        let mut counts = vec![in alloc; named; 1 + places]?;
+        fill(&mut codes, code_before);
+        fill(&mut counts[1..], number_before);
+        Ok(Index { codes, counts })
+    }
+
+    // Puts an entry at place i. Its bytes may be others than its length says, and lie there as far
+    // as the place has room.
+    fn put(&mut self, i: Entry, length: Entry, code: &[u8], count: Entry) {
+        if let Some(place) = self.codes.chunks_exact_mut(PLACE).nth(i as usize) {
+            lay(place, (length % 256) as u8, code);
+        }
+        if let Some(old) = self.counts.get_mut(i as usize + 1) {
+            *old = count;
+        }
+    }
+
+    // How many codes are named, and the sums of lengths, codes and counts.
+    pub fn put_sums(&self, rt: &impl Print) -> Result<(), Stop> {
+        let named = self.counts.first().copied().unwrap_or(0);
+        print!(rt;
+            " {named} {} {} {}",
+            sum_lengths(&self.codes),
+            sum_codes(&self.codes, named as usize),
+            sum(self.counts.get(1..).unwrap_or(&[]))
+        )?;
+        Ok(())
     }
 }
 
-// Fills places of codes as they are to stand before an operation.
-fn fill_codes(codes: &mut [u8]) {
-    let mut i = 0;
-    while i < codes.len() {
-        codes[i] = code_before(i);
-        i += 1;
+// Lays a length and a code's bytes at a place, as far as it has room.
+fn lay(place: &mut [u8], length: u8, code: &[u8]) {
+    if let Some((first, rest)) = place.split_first_mut() {
+        *first = length;
+        for (byte, new) in rest.iter_mut().zip(code) {
+            *byte = *new;
+        }
     }
 }
 
-// Byte i of them. The lengths of the places are filled as one buffer, and the bytes behind them as another.
+// Byte i of places of codes as they are to stand before an operation. The lengths of the places are
+// filled as one buffer, and the bytes behind them as another.
 fn code_before(i: usize) -> u8 {
     let place = i / PLACE;
-    let k = i % PLACE;
-    if k == 0 {
-        return byte_before(place);
+    match i % PLACE {
+        0 => byte_before(place),
+        k => byte_before(CODE * place + k - 1),
     }
-    byte_before(CODE * place + k - 1)
-}
-
-// Fills the counts, which stand behind how many codes are named, as row numbers are filled.
-fn fill_counts(counts: &mut [Entry]) {
-    let end = counts.len();
-    let first = least(1, end);
-    fill_numbers(&mut counts[first..end]);
-}
-
-// How many codes are named, and the sums of lengths, codes and counts.
-pub fn put_index(rt: &impl Print, codes: &[u8], counts: &[Entry]) {
-    let named = named_in(counts) as usize;
-    put(rt, named);
-    put(rt, sum_lengths(codes));
-    put(rt, sum_codes(codes, named));
-    put(rt, sum_numbers(numbers_between(counts, 1, counts.len())));
-}
-
-// How many codes are named. There is always such a number, which the test says to the proof.
-fn named_in(counts: &[Entry]) -> Entry {
-    if counts.len() == 0 {
-        return 0;
-    }
-    counts[0]
 }
 
 // The sum of the lengths at all places.
-fn sum_lengths(codes: &[u8]) -> usize {
-    let places = codes.len() / PLACE;
-    let mut sum = 0;
-    let mut i = 0;
-    while i < places {
-        sum = summed(sum, wide(codes[PLACE * i]));
-        i += 1;
-    }
-    sum
+fn sum_lengths(codes: &[u8]) -> u16 {
+    codes
+        .iter()
+        .step_by(PLACE)
+        .fold(0, |sum, length| summed(sum, u32::from(*length)))
 }
 
 // The sum of the named codes' bytes, end to end, as far as there are places.
-fn sum_codes(codes: &[u8], named: usize) -> usize {
-    let places = least(named, codes.len() / PLACE);
-    let mut sum = 0;
-    let mut i = 0;
-    while i < places {
-        sum = sum_on(sum, code_in(codes, PLACE * i));
-        i += 1;
-    }
-    sum
+fn sum_codes(codes: &[u8], named: usize) -> u16 {
+    codes
+        .chunks_exact(PLACE)
+        .take(named)
+        .fold(0, |sum, place| sum_on(sum, code_in(place)))
 }
 
-// The code at a place that begins there: as long as its length says, and at most as long as a place has room for.
-fn code_in(codes: &[u8], at: usize) -> &[u8] {
-    let place = bytes_between(codes, at, codes.len());
-    let length = least(length_in(place) as usize, CODE);
-    bytes_between(place, 1, 1 + length)
-}
-
-// The length with which a place begins. There is one, which the test says to the proof.
-fn length_in(place: &[u8]) -> Entry {
-    if place.len() == 0 {
-        return 0;
+// The code at a place: as long as its length says, and at most as long as the place has room for.
+fn code_in(place: &[u8]) -> &[u8] {
+    match place.split_first() {
+        Some((length, code)) => &code[..code.len().min(*length as usize)],
+        None => &[],
     }
-    wide(place[0])
 }

@@ -1,11 +1,12 @@
-// Runs the public functions on cases that come on standard input, and writes a line for each. The large buffers are made here, once, and lent
-// from here; an operation fills what it writes. `cases` says which operations there are, what their cases are made of, and which module's
-// function `run` runs them.
+// Runs the public functions on cases that come on standard input, and writes a line for each.
+// `cases` says which operations there are, and which module runs each.
 #![tactic(auto)]
 
-use buffers::{BYTES, LEAF_ROWS, SEGMENT_ROWS};
 use cases::next_case;
-use input::ROOM;
+use input::CaseReader;
+use std::io;
+use std::io::BufReader;
+use stop::Stop;
 
 mod answers;
 mod buffers;
@@ -17,50 +18,34 @@ mod finding;
 mod indexes;
 mod indexing;
 mod input;
-mod judging;
 mod looking;
-mod messages;
 mod naming;
 mod order_values;
-mod output;
-mod pieces;
-mod read_tables;
 mod screening;
 mod seeking;
+mod stop;
+mod sums;
 mod tables;
 mod value_writing;
 mod values;
 mod walking;
 mod watching;
-mod wholes;
 mod widening;
 mod writing;
 
 // More cases than any file has: a loop has to end, and nothing says that an input does.
-const MOST_CASES: u32 = 1000000;
+const MOST_CASES: usize = 1000000;
 
-fn main(rt: HostRuntime) {
-    let mut reader = rt.reader();
-    let mut numbers = [0; ROOM];
-    let mut bytes = [0; ROOM];
-    let mut message = [0; BYTES];
-    let mut text = [0; BYTES];
-    let mut segments = [0; SEGMENT_ROWS];
-    let mut leaves = [0; LEAF_ROWS];
-    let mut left = MOST_CASES;
-    while left > 0 {
-        if !next_case(
-            &rt,
-            &mut reader,
-            &mut numbers,
-            &mut bytes,
-            &mut message,
-            &mut text,
-            &mut segments,
-            &mut leaves,
-        ) {
-            return;
+// Runs case after case until one stops the program. Only that memory has run out is told.
+fn main(rt: HostRuntime) -> io::Result<()> {
+    let reader = BufReader::new(rt.alloc(), rt.reader())?;
+    let mut input = CaseReader::new(rt.alloc(), reader);
+    for _ in 0..MOST_CASES {
+        match next_case(&rt, &mut input) {
+            Ok(()) => {}
+            Err(Stop::OutOfMemory) => return Err(io::Error::from(io::ErrorKind::OutOfMemory)),
+            Err(_) => return Ok(()),
         }
-        left -= 1;
     }
+    Ok(())
 }

@@ -1,18 +1,12 @@
 // Operation 105: the kind of a text.
-use crate::input::ROOM;
-use crate::output::{begin, end, put};
-use crate::pieces::bytes_at;
+use crate::input::CaseReader;
+use crate::stop::Stop;
 use form::kind::Kind;
-use table::rows::Entry;
+use std::io::Read;
 
-// Asks for the kind whose name the text is.
-pub fn run(rt: &impl Print, numbers: &[Entry; ROOM], bytes: &[u8; ROOM]) {
-    put_kind(rt, Kind::named(bytes_at(numbers, bytes, 0)));
-}
-
-// Its number.
-fn put_kind(rt: &impl Print, kind: u8) {
-    begin(rt, 105);
-    put(rt, kind as usize);
-    end(rt);
+// Asks for the number of the kind whose name the text is.
+pub fn run<R: Read + Drop>(rt: &impl Print, input: &mut CaseReader<R>) -> Result<(), Stop> {
+    let text = input.bytes()?;
+    println!(rt; "105 {}", Kind::named(&text))?;
+    Ok(())
 }

@@ -1,25 +1,27 @@
 // Operations 104 and 10104: the check for screening reports.
-use crate::output::{end, put};
+use crate::input::CaseReader;
+use crate::stop::Stop;
+use crate::tables::Table;
 use form::forms::Form;
-use screen::{Verdict, screen};
-use table::Card;
+use screen::screen;
+use std::io::Read;
 use table::rows::Entry;
 
-// Asks for the verdict on the table.
-pub fn run(
+// Asks for the verdict on the table: the number and the place.
+pub fn run<R: Read + Drop>(
     rt: &impl Print,
+    input: &mut CaseReader<R>,
+    operation: Entry,
     form: Form,
-    card: Card,
-    segments: &[Entry],
-    leaves: &[Entry],
-    text: &[u8],
-) {
-    put_verdict(rt, screen(form, card, segments, leaves, text));
-}
-
-// The number and the place.
-fn put_verdict(rt: &impl Print, verdict: Verdict) {
-    put(rt, verdict.number as usize);
-    put(rt, verdict.place);
-    end(rt);
+) -> Result<(), Stop> {
+    let table = Table::of(form, input)?;
+    let verdict = screen(
+        form,
+        table.card,
+        &table.segments,
+        &table.leaves,
+        &table.text,
+    );
+    println!(rt; "{operation} {} {}", verdict.number, verdict.place)?;
+    Ok(())
 }

@@ -1,10 +1,13 @@
-// A table of narrow rows, as operation 106 has it: its numbers are below 65,536 and lie in buffers of their own.
-use crate::buffers::least;
-use crate::input::ROOM;
-use crate::pieces::{bytes_at, row_at};
-use crate::tables::{AREA, LEAVES, SEGMENTS, card_at};
+// Operation 106: a table of narrow rows, whose numbers are below 65,536, into a table in lent
+// buffers.
+use crate::buffers::Buffers;
+use crate::filing::put_filing;
+use crate::input::CaseReader;
+use crate::stop::Stop;
+use crate::tables::Table;
 use archive::widen;
-use read::Answer;
+use std::alloc::{AllocError, Global};
+use std::io::Read;
 use table::rows::Entry;
 
 // The longest narrow rows that a case has, of segments and of leaves.
@@ -12,47 +15,33 @@ const NARROW_SEGMENTS: usize = 1100;
 
 const NARROW_LEAVES: usize = 14400;
 
-// More than every number of a narrow row.
-const NARROW: Entry = 65536;
-
-// Widens the table among the pieces.
-pub fn widen_table(
-    numbers: &[Entry; ROOM],
-    bytes: &[u8; ROOM],
-    text: &mut [u8],
-    segments: &mut [Entry],
-    leaves: &mut [Entry],
-) -> Answer {
-    let mut narrow_segments = [0; NARROW_SEGMENTS];
-    let mut narrow_leaves = [0; NARROW_LEAVES];
-    let a = narrow(row_at(numbers, SEGMENTS), &mut narrow_segments);
-    let b = narrow(row_at(numbers, LEAVES), &mut narrow_leaves);
-    widen(
-        card_at(numbers, 0),
-        narrow_part(&narrow_segments, a),
-        narrow_part(&narrow_leaves, b),
-        bytes_at(numbers, bytes, AREA),
-        text,
-        segments,
-        leaves,
-    )
+// Widens the table into buffers of the lengths that follow it.
+pub fn run<R: Read + Drop>(rt: &impl Print, input: &mut CaseReader<R>) -> Result<(), Stop> {
+    let table = Table::take_in(input)?;
+    let mut buffers = Buffers::new(input.alloc(), input.numbers()?)?;
+    buffers.fill();
+    let segments = narrow(input.alloc(), &table.segments, NARROW_SEGMENTS)?;
+    let leaves = narrow(input.alloc(), &table.leaves, NARROW_LEAVES)?;
+    let answer = widen(
+        table.card,
+        &segments,
+        &leaves,
+        &table.text,
+        &mut buffers.text,
+        &mut buffers.segments,
+        &mut buffers.leaves,
+    );
+    print!(rt; "106")?;
+    put_filing(rt, answer, &buffers)?;
+    println!(rt; "")?;
+    Ok(())
 }
 
-// Copies numbers below 65,536, which the remainder says to the proof, as far as the buffer goes. Answers how many there are.
-fn narrow(numbers: &[Entry], buffer: &mut [u16]) -> usize {
-    let mut i = 0;
-    while i < numbers.len() {
-        if buffer.len() <= i {
-            return i;
-        }
-        buffer[i] = (numbers[i] % NARROW) as u16;
-        i += 1;
-    }
-    i
-}
-
-// The so many numbers that a buffer begins with.
-fn narrow_part(buffer: &[u16], count: usize) -> &[u16] {
-    let end = least(count, buffer.len());
-    &buffer[0..end]
+// At most so many numbers, below 65,536, which the remainder says to the proof.
+fn narrow(alloc: Global, numbers: &[Entry], most: usize) -> Result<Vec<u16>, AllocError> {
+    numbers
+        .iter()
+        .take(most)
+        .map(|number| (*number % 65536) as u16)
+        .collect(alloc)
 }
