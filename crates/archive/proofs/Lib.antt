@@ -1,4 +1,3 @@
-pub mod FourStores
 pub mod OwnedRows
 pub mod CountedRows
 pub mod OtherLevels

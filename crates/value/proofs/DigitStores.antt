@@ -1,6 +1,5 @@
 -- Digits as loops count and store them: how many a number has, and its last ones stored from the last on.
 -- Assumes nothing.
-use mathlib.Core.Bool.{Bool, true, false}
 use mathlib.Core.List.{List, [], ◌∷◌}
 use mathlib.Core.Logic.{◌⊎◌, inl, inr}
 use mathlib.Core.Path.{◌≡◌, refl, sym, ap, ◌∙◌}
@@ -11,11 +10,8 @@ use lib.ListN.{length, set, length-set}
 use lib.Seq.{sets}
 use borrow.Author.Tests.{eq-eqb}
 use Rattle.laws.proofs.Cases.{less_or_not}
-use Rattle.laws.proofs.Tests.{never_both}
 use Rattle.laws.proofs.Stores.{sets_in_front}
-use Rattle.value.specs.Numerals.{minus}
 use Rattle.value.specs.inner.Digits.{tenths, last_digits, digit_count}
-use Rattle.value.specs.inner.Shortening.{PutText, sign_text}
 use Rattle.value.proofs.DigitTexts.{power_within}
 use Rattle.value.proofs.DigitsBack.{last-length, count_zero, below-tenths, tenths-below, count_enough, count-least}
 
@@ -85,14 +81,3 @@ count_last most n k few from to =
     above (inl h) = omega (arith, h)
     above (inr h) =
         absurd (omega (arith, from, tenths-below (digit_count most n) n (count_enough most n few), power_within (digit_count most n) k h))
-
--- a minus in front, or nothing
-pub minus-put : (negative : Bool) (output : List ℕ) → negative ≡ true → PutText (sign_text negative) output 1 (set output 0 minus)
-unfolding sign_text
-minus-put true output e = record { bytes = refl; stored = refl }
-minus-put false output e = absurd (never_both e refl)
-
-pub no_minus_put : (negative : Bool) (output : List ℕ) → negative ≡ false → PutText (sign_text negative) output 0 output
-unfolding sign_text
-no_minus_put true output e = absurd (never_both refl e)
-no_minus_put false output e = record { bytes = refl; stored = refl }

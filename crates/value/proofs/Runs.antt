@@ -1,22 +1,16 @@
--- Reading a number as the code goes over its text: a digit more, and the digits in a row.
+-- Reading a number as the code goes over its text: the digits in a row.
 -- Assumes nothing.
 use mathlib.Core.Bool.{true, false}
 use mathlib.Core.List.{List, [], ◌∷◌}
 use mathlib.Core.Path.{◌≡◌, sym, ap, ap₂, ◌∙◌}
-use Prim.Native.Nat.{ℕ, ◌+◌, ◌≤◌, ◌<◌, ◌^◌}
+use Prim.Native.Nat.{ℕ, ◌+◌, ◌≤◌, ◌<◌}
 use native.Mathlib.Omega.{arith}
-use borrow.Author.Tests.{le-ltb}
 use lib.ListN.{length, get_or, drop}
 use lib.Seq.{drop-length}
 use Rattle.laws.proofs.Parts.{left_cons}
 use Rattle.value.specs.Numerals.{is_digit}
 use Rattle.value.specs.inner.Runs.{digit_run, with_digit, with_digits, run_of}
 use Rattle.value.proofs.DigitTexts.{run_none, run_more, run_stop}
-
--- a number of more than so many digits stays
-pub digit_dropped : (most n digit : ℕ) → 10 ^ most ≤ n → n ≡ with_digit most n digit
-unfolding with_digit
-digit_dropped most n digit h = sym (rw (le-ltb n (10 ^ most) h, with_digit))
 
 -- what a loop over digits in a row gives whose turn at `end` is next
 abbrev pub run_on : (most : ℕ) → List ℕ → (end magnitude : ℕ) → ℕ × ℕ
