@@ -4,7 +4,8 @@ use crate::tables::Table;
 use table::Card;
 use table::rows::Entry;
 
-// The parts of a table.
+// The parts of a table, as a case numbers them.
+// kept (plainer): `change_one` alone matches them; an enum would be made there and matched at once
 const CARD: Entry = 0;
 
 const SEGMENTS: Entry = 1;
