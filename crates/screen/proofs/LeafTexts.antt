@@ -1,17 +1,14 @@
 -- The text of a leaf by its name, as code takes it: no byte where the leaf is empty or not there, and some where it has a text. What is asked of
 -- what was sought can be asked of this text.
 -- Assumes nothing.
-use mathlib.Core.Bool.{Bool, true, false}
+use mathlib.Core.Bool.{true, false}
 use mathlib.Core.List.{List, [], ◌∷◌}
 use mathlib.Core.Logic.{◌⊎◌, inl, inr}
-use mathlib.Core.Path.{◌≡◌, refl, sym, ap, ◌∙◌}
+use mathlib.Core.Path.{◌≡◌, refl, sym, ap}
 use Prim.Native.Nat.{ℕ, suc, ◌≤◌}
 use native.Mathlib.Omega.{arith}
-use lib.Dec.{eqb}
-use lib.Pointwise.{pointwise}
 use lib.ListN.{length, take, drop, length-take, length-drop}
 use Rattle.laws.specs.Lists.{same}
-use Rattle.laws.proofs.Slices.{same_by_eq}
 use Rattle.table.specs.Lent.{Lent}
 use Rattle.look.specs.declared.leaf.Sought.{Sought}
 use Rattle.look.specs.declared.leaf.Sought.TheVariants.{At, Empty, NotThere}
@@ -20,10 +17,6 @@ use Rattle.look.proofs.FirstMatch.{finds_exactly}
 use Rattle.tested.proofs.NamedLeaves.{named-inside}
 use Rattle.screen.specs.Meeting.{sought_of, has_text, is_letter, says_letter, leaf_is}
 use Rattle.screen.specs.inner.Rows.{text_in}
-
--- what `==` says of a text and a literal
-pub told_same : (s t : List ℕ) {l : List ℕ} {r b : Bool} → l ≡ t → r ≡ pointwise eqb s l → r ≡ b → same s t ≡ b
-told_same s t v e q = sym (e ∙ ap (λ (l : List ℕ). pointwise eqb s l) v ∙ same_by_eq s t) ∙ q
 
 -- where a leaf is empty or not there
 pub no_text : (text : List ℕ) {s : Sought} → (s ≡ Empty) ⊎ (s ≡ NotThere) → [] ≡ text_found text s

@@ -9,6 +9,7 @@ ghost use Rattle.screen.specs.inner.Counting.{code_of, code_in, CodesCounted, Co
 use crate::leaf::leaf_text;
 use crate::refusal::Refusal;
 use form::kind::Kind;
+use look::text::same_bytes;
 use table::{Card, rows};
 
 // How many codes there are.
@@ -103,13 +104,14 @@ pub(crate) fn code_in(
 fn code_of(text: &[u8]) -> Option<Code>
     ensures { code_number result ≡ code_of text.now }
 {
-    if text == b"PAYS".as_slice() {
+    // kept (proof): the theorems that shut out a wrong comparing are about `same_bytes`
+    if same_bytes(text, b"PAYS") {
         Some(Code::Pays)
-    } else if text == b"TYPOR".as_slice() {
+    } else if same_bytes(text, b"TYPOR") {
         Some(Code::Typor)
-    } else if text == b"PROSS".as_slice() {
+    } else if same_bytes(text, b"PROSS") {
         Some(Code::Pross)
-    } else if text == b"FINGE".as_slice() {
+    } else if same_bytes(text, b"FINGE") {
         Some(Code::Finge)
     } else {
         None

@@ -6,6 +6,7 @@ ghost use Rattle.screen.specs.Meeting.{leaf_is, is_letter};
 ghost use Rattle.screen.specs.inner.Rows.{text_in, ReportRow, AskedText};
 
 use look::leaf::{Place, Sought};
+use look::text::same_bytes;
 use table::{Card, rows};
 
 // The text of a leaf of a segment row, counted from 0, by its field and subfield; no byte where the
@@ -50,7 +51,11 @@ pub(crate) fn leaf_says(
     requires { AskedText (lent card segments.now leaves.now text.now) row wanted.now }
     ensures { result ≡ leaf_is (lent card segments.now leaves.now text.now) row field subfield wanted.now }
 {
-    leaf_text(card, segments, leaves, text, row, field, subfield) == wanted
+    // kept (proof): the theorems that shut out a wrong comparing are about `same_bytes`
+    same_bytes(
+        leaf_text(card, segments, leaves, text, row, field, subfield),
+        wanted,
+    )
 }
 
 // Whether a text is one of these letters.

@@ -1,6 +1,7 @@
 // A table that the reader made, with what its rows say: their kinds, and leaves by their names (S5).
 use form::kind::Kind;
 use look::leaf::{Place, Sought, find_leaf_in_segment};
+use look::text::same_bytes;
 use table::Card;
 use table::rows::{self, Entry};
 
@@ -51,7 +52,8 @@ impl Lent<'_> {
 
     // Whether a row is a result with this code, 10.4.1.
     fn is_coded(&self, row: usize, code: &[u8]) -> bool {
-        self.kind_of(row) == Some(Kind::OBX) && self.text_of(row, CODE, 1) == code
+        // kept (proof): the theorems that shut out a wrong comparing are about `same_bytes`
+        self.kind_of(row) == Some(Kind::OBX) && same_bytes(self.text_of(row, CODE, 1), code)
     }
 
     // The text of a row's leaf by its field and subfield; none where it is empty or not there.
