@@ -1,4 +1,7 @@
 // The line of a message that the reader accepts: the verdict on its table (R4, R5).
+ghost use Rattle.std.specs.Prelude.{◌≤◌};
+ghost use Rattle.screen.specs.Refusals.{first_rule};
+
 use crate::codes::put_miscounted;
 use crate::fields::put_unfilled;
 use crate::lent::Lent;
@@ -44,7 +47,9 @@ fn put_no_report(rt: &impl Print, context: u8) {
 }
 
 // The rule that fails, what is wrong, and the row with its kind.
-fn put_failed(rt: &impl Print, table: &Lent, rule: u8, row: usize) {
+fn put_failed(rt: &impl Print, table: &Lent, rule: u8, row: usize)
+    requires { first_rule ≤ rule }
+{
     let _ = print!(rt; "no: rule {rule}, ");
     match rule {
         Refusal::NO_NAME..=Refusal::NO_LABORATORY => put_unfilled(rt, table, row, rule),
