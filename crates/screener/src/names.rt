@@ -18,7 +18,8 @@ pub fn context_name(context: u8) -> Name {
     Name(Context::name(context as usize))
 }
 
-// Nothing where it counts more than it has, as no name of a kind or a context does.
+// As many of its letters as it counts, and all of them where it counts more than it has, as no name
+// of a kind or a context does.
 impl fmt::Display for Name {
     fn fmt<W: fmt::Write>(&self, f: &mut fmt::Formatter<W>) -> fmt::Result {
         let Spelled(length, array) = self.0;
