@@ -16,7 +16,7 @@ ghost use Rattle.archive.specs.inner.Asked.{Widenable};
 ghost use Rattle.archive.specs.inner.OwnedRows.{PutNow};
 
 use crate::owned::put_rows;
-use crate::putting::put_numbers;
+use crate::putting::{put_bytes, put_numbers};
 use crate::refusal::Refusal;
 use crate::rereading::ever_read;
 use form::forms::SmallForm;
@@ -89,7 +89,7 @@ fn put_table(
     let many = card.leaves * LEAF_ROW;
     let end = card.text;
     let levels = levels::table();
-    new_text[..end].copy_from_slice(&text[..end]);
+    put_bytes(&text[..end], new_text);
     put_rows(
         &levels,
         card.context,

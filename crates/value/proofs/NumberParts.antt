@@ -18,9 +18,8 @@ use Rattle.laws.proofs.Tests.{Tested, passed, failed, tested, never_both, and_fi
 use Rattle.table.specs.Leaves.{split}
 use Rattle.table.specs.inner.Flat.{Without}
 use Rattle.table.proofs.Splitting.{first_part, other_parts, split_parts, split_without, split-joined, split-begun, first_more}
-use Rattle.value.specs.inner.Said.{Numeral}
 use Rattle.value.specs.Refusals.{not_a_number, many_digits}
-use Rattle.value.specs.Numerals.{point, all_digits, unsigned_text, is_negative, are_number, made_by, says_none, said_by, numeral_of}
+use Rattle.value.specs.Numerals.{Numeral, point, all_digits, unsigned_text, is_negative, are_number, made_by, says_none, said_by, numeral_of}
 use Rattle.value.specs.inner.Runs.{digit_run, judged_digits}
 use Rattle.value.proofs.DigitTexts.{
   digit_no_point,

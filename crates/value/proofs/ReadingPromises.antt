@@ -12,10 +12,9 @@ use lib.ListN.{length, length-append}
 use Rattle.laws.specs.Lists.{concat}
 use Rattle.laws.proofs.Tests.{Tested, passed, failed, tested, never_both}
 use Rattle.table.specs.Leaves.{split}
-use Rattle.value.specs.inner.Said.{Numeral}
 use Rattle.value.specs.declared.reading.Value.{Value}
 use Rattle.value.specs.Refusals.{not_a_number, many_digits}
-use Rattle.value.specs.Numerals.{point, unsigned_text, is_negative, are_number, NumberText, says_none, numeral_of}
+use Rattle.value.specs.Numerals.{Numeral, point, unsigned_text, is_negative, are_number, NumberText, says_none, numeral_of}
 use Rattle.value.specs.Values.{signed_of, with_sign, value_of}
 use Rattle.value.proofs.NumberParts.{said-none, said_many, said-number}
 use Rattle.value.proofs.NumberShape.{bare_parts, bare_apart, bare_of, number_exactly}

@@ -12,7 +12,7 @@ use Rattle.laws.proofs.Stores.{sets_first}
 use Rattle.laws.specs.Tables.{passing}
 use Rattle.laws.proofs.Passing.{FirstPassed, length-passing}
 use Rattle.table.specs.Lent.{Lent}
-use Rattle.value.specs.inner.Said.{Numeral}
+use Rattle.value.specs.Numerals.{Numeral}
 use Rattle.value.specs.declared.reading.Value.{Value}
 use Rattle.value.specs.Values.{with_sign, value_of}
 use Rattle.value.specs.Results.{value_field, is_numeric, numeric_rows, of_field, leaf_text_in, one_leaf, value_at}

@@ -8,11 +8,11 @@ use lib.IntN.{ℤ, pos}
 use Rattle.std.specs.Prelude.{Result, Ok, Err}
 use mir.Syntax.{w64}
 use mir.Val.{to_z, of_z}
-use Rattle.value.specs.inner.Said.{Numeral, reason, told}
+use Rattle.value.specs.inner.Said.{reason, told}
 use Rattle.value.specs.declared.numeral.Said.{Said}
 use Rattle.value.specs.declared.numeral.NotSaid.{NotSaid}
 use Rattle.value.specs.declared.reading.Value.{Value}
-use Rattle.value.specs.Numerals.{most_digits, numeral_of}
+use Rattle.value.specs.Numerals.{Numeral, most_digits, numeral_of}
 use Rattle.value.specs.Values.{signed_of, with_sign, value_of}
 use Rattle.value.specs.inner.Signs.{half_range}
 use Rattle.value.proofs.NumberParts.{Small, numeral_small}

@@ -12,10 +12,9 @@ use Rattle.laws.specs.Lists.{concat}
 use Rattle.laws.proofs.Cases.{less_or_not}
 use Rattle.laws.proofs.Tests.{Tested, passed, failed, tested}
 use Rattle.table.specs.Leaves.{split}
-use Rattle.value.specs.inner.Said.{Numeral}
 use Rattle.value.specs.declared.reading.Value.{Value}
 use Rattle.value.specs.Refusals.{not_a_number, many_digits}
-use Rattle.value.specs.Numerals.{point, unsigned_text, is_negative, are_number, made_by, says_none, said_by, numeral_of, behind_point}
+use Rattle.value.specs.Numerals.{Numeral, point, unsigned_text, is_negative, are_number, made_by, says_none, said_by, numeral_of, behind_point}
 use Rattle.value.specs.Values.{signed_of, with_sign, value_of, ReadsTo, Spelt}
 use Rattle.value.proofs.NumberParts.{said-none, said_many, said-number}
 use Rattle.value.proofs.NumberShape.{bare_parts, number_bare, bare_apart, bare_of, shaped}

@@ -16,8 +16,7 @@ use Rattle.laws.specs.Lists.{concat}
 use Rattle.table.specs.Leaves.{split}
 use Rattle.table.proofs.Splitting.{first_part, other_parts}
 use Rattle.value.specs.Refusals.{not_a_number}
-use Rattle.value.specs.Numerals.{plus, minus, point, is_digit, all_digits, unsigned_text, is_negative, made_by, says_none, said_by, numeral_of}
-use Rattle.value.specs.inner.Said.{Numeral}
+use Rattle.value.specs.Numerals.{Numeral, plus, minus, point, is_digit, all_digits, unsigned_text, is_negative, made_by, says_none, said_by, numeral_of}
 use Rattle.value.specs.inner.Runs.{digit_run, with_digits, run_of, judged_digits}
 use Rattle.value.proofs.DigitTexts.{digits_append, digits_broken, run_digits, run-ended, run_then_rest, run-whole, run-within, with_append, with_made}
 use Rattle.value.proofs.NumberParts.{behind-stopped, first_part_broken, one_part, said-judged, said-none, split-broken, split_digits, split-pointed, two_parts}

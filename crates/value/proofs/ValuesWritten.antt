@@ -1,14 +1,13 @@
 -- Writing a value, by the tests in their order: what is out of range, an output that is narrow, and the text.
 -- Assumes nothing.
-use mathlib.Core.Bool.{true, false}
+use mathlib.Core.Bool.{Bool, true, false}
 use mathlib.Core.List.{List}
 use mathlib.Core.Logic.{◌⊎◌, inl, inr}
-use mathlib.Core.Path.{◌≡◌, refl, sym, ap, ◌∙◌, subst⁻¹}
+use mathlib.Core.Path.{◌≡◌, refl, sym, ap, subst⁻¹}
 use Prim.Native.Nat.{ℕ, ◌≤◌, ◌<◌, ◌^◌}
 use borrow.Author.Tests.{lt-ltb, le-ltb, le-leb, lt-leb}
 use lib.Dec.{leb, ltb}
-use lib.IntN.{ℤ, pos, nat_abs}
-use lib.Signed.{lt_z}
+use lib.IntN.{ℤ, nat_abs}
 use lib.ListN.{length}
 use Rattle.laws.proofs.Tests.{and_both, and_fails_first, and_fails_second}
 use Rattle.value.specs.declared.writing.ValueWritten.{ValueWritten}
@@ -63,10 +62,11 @@ module _ (most : ℕ) (whole : ℤ) (decimals : ℕ) where
     refused number e {r} told =
         subst⁻¹ (λ (s : Spelling). GivesText s output r output) e (record { answers = told; text = refl })
 
-    -- by the value and its magnitude that the code has in hand
-    module _ {z : ℤ} (same : z ≡ whole) {magnitude : ℕ} (is : magnitude ≡ nat_abs z) where
+    -- by the sign and the magnitude that the code has in hand
+    module _ {negative : Bool} {magnitude : ℕ} (parts : (negative, magnitude) ≡ apart whole) where
       magnitude_is : magnitude ≡ nat_abs whole
-      magnitude_is = is ∙ ap nat_abs same
+      unfolding apart
+      magnitude_is = ap (λ (p : Bool × ℕ). p.1) parts
 
       pub wrote_large : (10 ^ most ≤ magnitude) ⊎ ((magnitude < 10 ^ most) × (most < decimals)) → {r : ValueWritten}
           → r ≡ spelling_told (refuses_value out_of_range) → WroteValue most whole decimals output r output
@@ -82,12 +82,12 @@ module _ (most : ℕ) (whole : ℤ) (decimals : ℕ) where
         wrote_narrow h told = refused narrow_output (spelling-narrow (length output) within h) told
 
         pub wrote_text : longest_text most ≤ length output → {n : ℕ} {output' : List ℕ}
-            → PutText (text_for most (lt_z z (pos 0)) magnitude decimals) output n output'
+            → PutText (text_for most negative magnitude decimals) output n output'
             → WroteValue most whole decimals output (record { number = 0; bytes = n }) output'
-        unfolding shortest_text apart spelling_told output_with
+        unfolding shortest_text spelling_told output_with
         wrote_text h {n} {output'} put =
-            let e : text_for most (lt_z z (pos 0)) magnitude decimals ≡ shortest_text most whole decimals =
-            (λ i. text_for most (lt_z (same i) (pos 0)) (magnitude_is i) decimals) in
+            let e : text_for most negative magnitude decimals ≡ shortest_text most whole decimals =
+            ap (λ (p : Bool × ℕ). text_for most p.0 p.1 decimals) parts in
             subst⁻¹ (λ (s : Spelling). GivesText s output (record { number = 0; bytes = n }) output') (spelling-text (length output) within h)
             (subst⁻¹ (λ (t : List ℕ). GivesText (spells t) output (record { number = 0; bytes = n }) output') (sym e)
             (record { answers = ap {B = ValueWritten} (λ (m : ℕ). record { number = 0; bytes = m }) put.bytes; text = put.stored }))

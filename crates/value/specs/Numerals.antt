@@ -3,7 +3,6 @@
 use Rattle.std.specs.Prelude.{Bool, true, false, ◌&&◌, ◌||◌, List, [], ◌∷◌, ◌++◌, ◌≡◌, ℕ, ◌+◌, ◌*◌, ◌-◌, ◌≤◌, leb, ltb, eqb, length, get_or}
 use Rattle.laws.specs.Lists.{concat}
 use Rattle.table.specs.Leaves.{split}
-use Rattle.value.specs.inner.Said.{Numeral}
 use Rattle.value.specs.Refusals.{not_a_number, many_digits}
 
 -- how many digits a number has at most
@@ -71,6 +70,15 @@ pub record NumberText (text : List ℕ) : Type 0 where
 unfoldable pub made_by : ℕ → List ℕ → ℕ
 made_by before [] = before
 made_by before (b ∷ s) = made_by (before * 10 + (b - 48)) s
+
+-- a number as its text says it: 0, or why the text says none; whether a minus stands in front; the
+-- number that all its digits make; how many of them stand behind the point. Beside a refusal the
+-- others are false and 0
+pub record Numeral : Type 0 where
+  pub number : ℕ
+  pub negative : Bool
+  pub magnitude : ℕ
+  pub decimals : ℕ
 
 -- no number, and why
 abbrev pub says_none : ℕ → Numeral

@@ -1,9 +1,8 @@
 -- The value of a text (rules D2 and D3), and the shortest text of a value (D4).
 -- Assumes nothing.
 use Rattle.std.specs.Prelude.{Bool, true, false, List, ◌++◌, ◌≡◌, ℕ, ◌+◌, ◌≤◌, ℤ, pos, neg_ℤ, length}
-use Rattle.value.specs.inner.Said.{Numeral}
 use Rattle.value.specs.declared.reading.Value.{Value}
-use Rattle.value.specs.Numerals.{NumberText, made_by, numeral_of}
+use Rattle.value.specs.Numerals.{Numeral, NumberText, made_by, numeral_of}
 
 -- the whole number of a sign and a magnitude: a minus before 0 gives 0
 unfoldable pub signed_of : Bool → ℕ → ℤ

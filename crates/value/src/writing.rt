@@ -8,6 +8,7 @@ ghost use Rattle.value.specs.inner.Shortening.{Spellable, PutText, digits_for, s
 
 use crate::digits::{DIGITS, ROOM, TOO_LARGE};
 use crate::refusal::Refusal;
+use crate::sign::without_sign;
 use form::number::Number;
 
 // What comes back (D5): 0, 22 or 23, and how many bytes were written, 0 on a refusal.
@@ -23,7 +24,7 @@ pub struct ValueWritten {
 pub fn write_value(whole: i64, decimals: usize, output: &mut [u8]) -> ValueWritten
     ensures { WroteValue most_digits whole decimals output.old result output.new }
 {
-    let magnitude = whole.unsigned_abs();
+    let (negative, magnitude) = without_sign(whole);
     if TOO_LARGE <= magnitude || DIGITS < decimals {
         refusal(Refusal::OUT_OF_RANGE)
     } else if output.len() < ROOM {
@@ -31,7 +32,7 @@ pub fn write_value(whole: i64, decimals: usize, output: &mut [u8]) -> ValueWritt
     } else {
         ValueWritten {
             number: Number::ACCEPTED,
-            bytes: put_value(whole < 0, magnitude, decimals, output),
+            bytes: put_value(negative, magnitude, decimals, output),
         }
     }
 }

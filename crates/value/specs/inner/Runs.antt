@@ -1,9 +1,8 @@
 -- How the text of a number is read: the digits that stand in a row, and the number that they make.
 -- Assumes nothing.
 use Rattle.std.specs.Prelude.{Bool, true, false, List, [], ◌∷◌, ℕ, ◌+◌, ◌*◌, ◌-◌, ◌^◌, ltb, eqb, length}
-use Rattle.value.specs.inner.Said.{Numeral}
 use Rattle.value.specs.Refusals.{not_a_number, many_digits}
-use Rattle.value.specs.Numerals.{is_digit, says_none}
+use Rattle.value.specs.Numerals.{Numeral, is_digit, says_none}
 
 -- the digits that a text begins with
 unfoldable pub digit_run : List ℕ → List ℕ

@@ -7,10 +7,9 @@ use Rattle.table.specs.Lent.{Lent}
 use Rattle.table.specs.Rows.{leaf_row_size, kind_in, owner_in, start_in, length_in}
 use Rattle.tested.specs.inner.Searchable.{Searchable}
 use Rattle.look.specs.Looking.{result_kind}
-use Rattle.value.specs.inner.Said.{Numeral}
 use Rattle.value.specs.declared.reading.Value.{Value}
 use Rattle.value.specs.Refusals.{not_a_number}
-use Rattle.value.specs.Numerals.{says_none, numeral_of}
+use Rattle.value.specs.Numerals.{Numeral, says_none, numeral_of}
 use Rattle.value.specs.Results.{value_field, of_field, leaf_text_in, numeric_rows, values_of}
 
 -- the first number from one on and before another that passes a test
