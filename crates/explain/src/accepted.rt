@@ -1,5 +1,7 @@
 // What is shown of an accepted message: a line a row, with its number, the number of its first line
 // in the file, and what people look for in it.
+ghost use Rattle.std.specs.Prelude.{◌≤◌};
+
 use crate::advised::{READ_LETTERS, write_advice};
 use crate::fields::put_fields;
 use crate::going::{Row, Rows, count_ends, count_lines};
@@ -83,7 +85,7 @@ fn write_row(rt: &impl Print, filed: TableRow<'_>, row: Row, first: usize, colum
     let (width, digits) = (columns.row, columns.line);
     let number = row.number;
     write!(line, "{number:>width$}  {first:>digits$}  ");
-    for _ in successors(filed.owner(), |owner| owner.owner()).take(DEEPEST) {
+    for _ in 0..count_owners(filed) {
         line.put(STEP);
     }
     put_kind(&mut line, filed.kind());
@@ -93,4 +95,13 @@ fn write_row(rt: &impl Print, filed: TableRow<'_>, row: Row, first: usize, colum
     }
     put_fields(&mut line, filed);
     line.write_cut(rt);
+}
+
+// How many owners a row has, one above the other.
+fn count_owners(filed: TableRow<'_>) -> usize
+    ensures { result ≤ 8 }
+{
+    successors(filed.owner(), |owner| owner.owner())
+        .take(DEEPEST)
+        .count()
 }

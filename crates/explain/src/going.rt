@@ -76,11 +76,17 @@ pub fn count_ends(part: &[u8]) -> usize {
 // The number of the row whose line an offset lies in; none where a line before it is broken, so
 // that rows cannot be counted up to there.
 pub fn row_of(message: &[u8], field: u8, offset: usize) -> Option<usize> {
-    let before = Rows::of(message)
-        .take_while(|row| row.start <= offset)
-        .count();
-    let end = Rows::of(message).last().map_or(0, |row| row.end);
-    if offset < end || message.len() <= end {
+    // kept (speed): one pass over the rows, and no further than the offset
+    let mut before = 0;
+    let mut end = 0;
+    for row in Rows::of(message) {
+        if offset < row.end {
+            return Some(row.number);
+        }
+        before = row.number;
+        end = row.end;
+    }
+    if message.len() <= end {
         return Some(before);
     }
     // the line at the end is broken: the offset lies in it or behind it

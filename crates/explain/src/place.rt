@@ -22,7 +22,7 @@ pub struct Refusal {
     pub form: Form,
     // of the whole input
     pub length: Length,
-    // what the large form answers
+    // whether the large form accepts it
     pub fits_large: bool,
 }
 
