@@ -1,14 +1,15 @@
 // The tests of leaf rows (S2, S4, T3, T4): each row against the one before it, each text by its
 // bytes.
-ghost use Rattle.std.specs.Prelude.{ℕ, ◌≡◌, ◌<◌, suc, ◌-◌, eqb, get_or, take, drop};
+ghost use Rattle.std.specs.Prelude.{ℕ, [], ◌∷◌, ◌≡◌, ◌<◌, ◌≤◌, suc, ◌+◌, ◌-◌, eqb, get_or, length, take, drop};
 ghost use Rattle.std.specs.List.{list_all};
+ghost use Rattle.laws.specs.Lists.{same};
 ghost use Rattle.laws.specs.Tables.{values};
 ghost use Rattle.form.specs.Header.{splitting};
 ghost use Rattle.table.specs.inner.Back.{leaf_at, separators_at};
 ghost use Rattle.table.specs.inner.Classes.{class_table};
 ghost use Rattle.table.specs.inner.RowTests.{next_place, leaf_text, go_on_from};
 ghost use Rattle.write.specs.inner.Local.{third_place};
-ghost use Rattle.write.specs.inner.Tests.{Decides, Laid, header_leaves_at};
+ghost use Rattle.write.specs.inner.Tests.{Decides, Laid, finer, header_leaves_at};
 ghost use Rattle.write.specs.inner.Asked.{SomeRows, TwoPlaces, LaidOut, Headed, FourWithin};
 
 use form::separators::Separators;
@@ -23,29 +24,74 @@ fn one_more(before: Entry, after: Entry) -> bool
     rows::wide(before) + 1 == rows::wide(after)
 }
 
-// Whether some numbers of a place are all 1, as those are that are finer than a number that has
-// risen.
-fn all_one(numbers: &[Entry]) -> bool
-    ensures { result ≡ list_all (λ number. eqb number 1) numbers.now }
+// Whether the place at `at` is that of the first leaf of its repetition.
+fn first_in_repetition(rows: &[Entry], at: usize) -> bool
+    requires { at + 5 ≤ length rows.now }
+    ensures { result ≡ same (1 ∷ 1 ∷ []) (finer rows.now at 3) }
 {
-    numbers.iter().all(|number| *number == 1)
+    rows[at + rows::SUBFIELD] == 1 && rows[at + rows::SUBSUBFIELD] == 1
+}
+
+// Whether it is that of the first leaf of its field.
+fn first_in_field(rows: &[Entry], at: usize) -> bool
+    requires { at + 5 ≤ length rows.now }
+    ensures { result ≡ same (1 ∷ 1 ∷ 1 ∷ []) (finer rows.now at 2) }
+{
+    rows[at + rows::REPETITION] == 1 && first_in_repetition(rows, at)
+}
+
+// Whether it is that of the first leaf of its segment.
+fn first_in_segment(rows: &[Entry], at: usize) -> bool
+    requires { at + 5 ≤ length rows.now }
+    ensures { result ≡ same (1 ∷ 1 ∷ 1 ∷ 1 ∷ []) (finer rows.now at 1) }
+{
+    rows[at + rows::FIELD] == 1 && first_in_field(rows, at)
 }
 
 // Whether the place at `to` comes next after the one at `from`: some number is one more, the
 // coarser are the same and the finer are 1.
+// kept (speed): the five numbers are compared one by one, since a loop over them took a third more.
 fn next_place(rows: &[Entry], from: usize, to: usize) -> bool
     requires { TwoPlaces rows.now from to }
     ensures { result ≡ next_place (take 5 (drop from rows.now)) (take 5 (drop to rows.now)) }
 {
-    let end = to + rows::START;
-    for level in 0..rows::START {
-        let before = rows[from + level];
-        let at = to + level;
-        if before != rows[at] {
-            return one_more(before, rows[at]) && all_one(&rows[at + 1..end]);
-        }
+    let segment = rows[from];
+    let later_segment = rows[to];
+    if segment != later_segment {
+        return one_more(segment, later_segment) && first_in_segment(rows, to);
     }
-    false
+    let field = rows[from + rows::FIELD];
+    let later_field = rows[to + rows::FIELD];
+    if field != later_field {
+        return one_more(field, later_field) && first_in_field(rows, to);
+    }
+    next_in_field(rows, from, to)
+}
+
+// The same of two places of one field.
+fn next_in_field(rows: &[Entry], from: usize, to: usize) -> bool
+    requires { TwoPlaces rows.now from to }
+    ensures { result ≡ next_place (finer rows.now from 2) (finer rows.now to 2) }
+{
+    let repetition = rows[from + rows::REPETITION];
+    let later_repetition = rows[to + rows::REPETITION];
+    if repetition != later_repetition {
+        return one_more(repetition, later_repetition) && first_in_repetition(rows, to);
+    }
+    next_in_repetition(rows, from, to)
+}
+
+// The same of two places of one repetition.
+fn next_in_repetition(rows: &[Entry], from: usize, to: usize) -> bool
+    requires { TwoPlaces rows.now from to }
+    ensures { result ≡ next_place (finer rows.now from 3) (finer rows.now to 3) }
+{
+    let subfield = rows[from + rows::SUBFIELD];
+    let later_subfield = rows[to + rows::SUBFIELD];
+    if subfield != later_subfield {
+        return one_more(subfield, later_subfield) && rows[to + rows::SUBSUBFIELD] == 1;
+    }
+    one_more(rows[from + rows::SUBSUBFIELD], rows[to + rows::SUBSUBFIELD])
 }
 
 // Whether each byte of a text is of class 0, so that it may be a leaf's text under the separators
@@ -114,7 +160,7 @@ impl Leaves<'_> {
         if self.rows[0] != 1 {
             return false;
         }
-        if !all_one(&self.rows[rows::FIELD..rows::START]) {
+        if !first_in_segment(self.rows, 0) {
             return false;
         }
         if self.rows[rows::LENGTH] != 1 {

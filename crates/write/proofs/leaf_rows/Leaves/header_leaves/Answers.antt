@@ -1,13 +1,9 @@
 -- `write::leaf_rows::Leaves::header_leaves` meets its contract: one law a return.
 -- Assumes nothing.
 use native.Mathlib.Omega.{arith}
-use mathlib.Core.List.{[], ◌∷◌}
-use mathlib.Core.Path.{◌≡◌, sym, ◌∙◌}
+use mathlib.Core.Path.{sym, ◌∙◌}
 use Prim.Native.Nat.{◌≤◌, ◌*◌}
-use lib.ListN.{length, take, drop}
-use Rattle.laws.specs.Lists.{same}
-use Rattle.write.specs.inner.Tests.{finer}
-use Rattle.write.proofs.PlaceTests.{all_ones, first_ones}
+use lib.ListN.{length}
 use Rattle.write.proofs.LaidRows.{in_text_fits}
 use Rattle.write.proofs.HeaderTest.{not_segment_one, not_first, not_one_byte, not_letter, not_field_two, four_decides}
 use Rattle.table.specs.Rows.{leaf_row_size}
@@ -21,13 +17,9 @@ rows-there s = omega (arith, s.requires.in_text.sized, s.requires.three)
 pub returns-then-self-ne1 : goal.returns-then-self-ne1
 returns-then-self-ne1 c = not_segment_one c.args.self.rows.now c.args.self.text.now c.requires c.if-self-ne1.true
 
--- the finer numbers of the first place
-finer_ones : (s : Start) → all_ones (take 4 (drop 1 s.args.self.rows.now)) ≡ same (1 ∷ 1 ∷ 1 ∷ 1 ∷ []) (finer s.args.self.rows.now 0 1)
-finer_ones s = first_ones s.args.self.rows.now (omega (arith, rows-there s))
-
-pub returns-then-not-all_one : goal.returns-then-not-all_one
-returns-then-not-all_one c =
-    not_first c.args.self.rows.now c.args.self.text.now c.requires (sym (c.all_one.ensures ∙ finer_ones (goal.at.returns-then-not-all_one c).Start) ∙ c.if-not-all_one.true)
+pub returns-then-not-first_in_segment : goal.returns-then-not-first_in_segment
+returns-then-not-first_in_segment c =
+    not_first c.args.self.rows.now c.args.self.text.now c.requires (sym c.first_in_segment.ensures ∙ c.if-not-first_in_segment.true)
 
 pub returns-then-self-ne1-2 : goal.returns-then-self-ne1-2
 returns-then-self-ne1-2 c = not_one_byte c.args.self.rows.now c.args.self.text.now c.requires c.if-self-ne1-2.true
@@ -46,5 +38,5 @@ returns-then-self-ne2 c = not_field_two c.args.self.rows.now c.args.self.text.no
 pub returns : goal.returns
 returns c =
     four_decides c.args.self.rows.now c.args.self.text.now c.requires c.if-self-ne1-2.false c.wide.ensures.0
-    c.if-self-ne1.false (sym (c.all_one.ensures ∙ finer_ones (goal.at.returns c).Start) ∙ c.if-not-all_one.false)
+    c.if-self-ne1.false (sym c.first_in_segment.ensures ∙ c.if-not-first_in_segment.false)
     c.if-self-wide-ne72.false c.if-self-ne2.false
