@@ -1,16 +1,18 @@
 -- Putting a text, line by line: what is left of it gives the whole.
 -- Assumes nothing.
 use mathlib.Core.Bool.{false}
-use mathlib.Core.List.{List, ◌∷◌, ◌++◌}
-use mathlib.Core.Path.{◌≡◌, sym, ap, ap₂, ◌∙◌, subst}
+use mathlib.Core.List.{List, [], ◌∷◌, ◌++◌}
+use mathlib.Core.Path.{◌≡◌, refl, sym, ap, ap₂, ◌∙◌, subst}
 use Prim.Native.Nat.{ℕ, ◌+◌, ◌-◌, ◌*◌, ◌≤◌, ◌<◌}
 use native.Mathlib.Omega.{arith}
 use lib.Dec.{eqb}
-use lib.ListN.{length, get_or, take, drop, length-take, length-drop}
+use lib.ListN.{length, get_or, take, drop, set, length-set, length-take, length-drop}
+use lib.Seq.{sets, drop-length}
 use Rattle.std.proofs.lemmas.List.{take-append-drop}
 use borrow.Author.Tests.{eqb-false, eq-eqb}
 use Rattle.laws.proofs.Every.{all_first, all_left, all_right}
 use Rattle.laws.proofs.Parts.{left_cons}
+use Rattle.laws.proofs.Stores.{sets_first}
 use Rattle.form.specs.declared.limits.Limits.{Limits}
 use Rattle.line.specs.Lines.{CR}
 use Rattle.form.specs.Limits.{Lawful}
@@ -18,6 +20,35 @@ use Rattle.form.proofs.RoundedUp.{some_more}
 use Rattle.write.specs.inner.Asked.{RoomForText, RoomForEnd}
 use Rattle.write.specs.inner.Filling.{Stand, filled, broken, line_opened, puts, Fits, InSegment}
 use Rattle.write.proofs.Filling.{puts-append, puts_opened, puts-room, opened_kept, opened_full, puts-kept, fits-first, fits_next, open_fits, break_fits}
+
+-- copying: what is left to copy from i on gives the whole
+pub record Copying (text output₀ : List ℕ) (out : ℕ) (output : List ℕ) (i : ℕ) : Type 0 where
+  pub up_to : i ≤ length text
+  pub same : length output ≡ length output₀
+  pub stored : sets output (out + i) (drop i text) ≡ sets output₀ out text
+
+pub copying_begins : (text output : List ℕ) (out : ℕ) → Copying text output out output 0
+copying_begins text output out =
+    record { up_to = omega arith; same = refl; stored = ap (λ (o : ℕ). sets output o text) (let e : out + 0 ≡ out = omega arith in e) }
+
+module _ {text output₀ : List ℕ} {out : ℕ} {output : List ℕ} {i : ℕ} (w : Copying text output₀ out output i) where
+  pub copying_more : i < length text → Copying text output₀ out (set output (out + i) (get_or text i 0)) (i + 1)
+  copying_more less =
+      record {
+        up_to = omega arith;
+        same = length-set output (out + i) (get_or text i 0) ∙ w.same;
+        stored =
+            ap (λ (o : ℕ). sets (set output (out + i) (get_or text i 0)) o (drop (i + 1) text)) (let e : out + (i + 1) ≡ out + i + 1 = omega arith in e)
+            ∙ sym (sets_first output (out + i) (get_or text i 0) (drop (i + 1) text))
+            ∙ ap (sets output (out + i)) (sym (left_cons text i 0 less))
+            ∙ w.stored;
+      }
+
+  pub copying_done : length text ≤ i → output ≡ sets output₀ out text
+  copying_done past =
+      let all : i ≡ length text = omega (arith, w.up_to) in
+      let none : drop i text ≡ [] = rw all (drop-length text) in
+      sym (ap (sets output (out + i)) none) ∙ w.stored
 
 pub record TextLeft (L : Limits) (f : ℕ) (s₀ : Stand) (whole : List ℕ) (s : Stand) (left : List ℕ) : Type 0 where
   pub in_segment : InSegment left

@@ -40,10 +40,12 @@ fn fill(going: Going, text: &[u8], output: &mut [u8]) -> Going
     ensures { stand output.new result ≡ filled (stand output.old going) text.now }
 {
     let at = going.out;
-    let end = at + text.len();
-    output[at..end].copy_from_slice(text);
+    // kept (C): byte by byte, since for a copy of slices the archive would need `memmove`, too.
+    for (i, byte) in text.iter().enumerate() {
+        output[at + i] = *byte;
+    }
     Going {
-        out: end,
+        out: at + text.len(),
         room: going.room - text.len(),
         lines: going.lines,
     }

@@ -7,7 +7,7 @@ use Rattle.form.specs.Forms.{limits_of}
 use Rattle.order.specs.Owners.{level}
 use Rattle.table.specs.Lent.{lent}
 use Rattle.write.specs.inner.EitherOwners.{levels_by}
-use Rattle.write.proofs.Sizes.{size_decides}
+use Rattle.write.proofs.Sizes.{lent_size_decides}
 use Rattle.write.proofs.test.is_table.Goals as goal
 
 pub returns : goal.returns
@@ -15,4 +15,4 @@ unfolding levels_by
 returns c =
     c.is_some.ensures
     ∙ ap (λ (o : Option ℕ). is_some o) c.bytes_by.ensures
-    ∙ size_decides (limits_of c.args.form) level (lent c.args.card c.args.segments.now c.args.leaves.now c.args.text.now)
+    ∙ lent_size_decides (limits_of c.args.form) level (lent c.args.card c.args.segments.now c.args.leaves.now c.args.text.now)
