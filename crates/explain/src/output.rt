@@ -118,7 +118,8 @@ impl Line {
     }
 
     // Writes the line out, whole.
-    pub fn write_whole(mut self, rt: &impl Print) {
+    // kept (speed): the line is lent, since its room would be copied where it is handed on
+    pub fn write_whole(&mut self, rt: &impl Print) {
         self.put_byte(b'\n');
         if let Some(bytes) = self.room.get(..self.length) {
             let _ = rt.write_all(bytes);
@@ -126,7 +127,7 @@ impl Line {
     }
 
     // Writes the line out, cut to its width, with dots where something of it is left out.
-    pub fn write_cut(mut self, rt: &impl Print) {
+    pub fn write_cut(&mut self, rt: &impl Print) {
         if self.is_past() {
             self.length = self.kept;
             self.put(CUT);
