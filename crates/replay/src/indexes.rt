@@ -51,7 +51,8 @@ impl Index {
     // Puts an entry at place i. Its bytes may be others than its length says, and lie there as far
     // as the place has room.
     fn put(&mut self, i: Entry, length: Entry, code: &[u8], count: Entry) {
-        if let Some(place) = self.codes.chunks_exact_mut(PLACE).nth(i as usize) {
+        let at = PLACE * i as usize;
+        if let Some(place) = self.codes.as_mut_slice().get_mut(at..at + PLACE) {
             lay(place, (length % 256) as u8, code);
         }
         if let Some(old) = self.counts.get_mut(i as usize + 1) {
@@ -60,15 +61,14 @@ impl Index {
     }
 
     // How many codes are named, and the sums of lengths, codes and counts.
-    pub fn put_sums(&self, rt: &impl Print) -> Result<(), Stop> {
+    pub fn put_sums(&self, rt: &impl Print) {
         let named = self.counts.first().copied().unwrap_or(0);
-        print!(rt;
+        let _ = print!(rt;
             " {named} {} {} {}",
             sum_lengths(&self.codes),
             sum_codes(&self.codes, named as usize),
             sum(self.counts.get(1..).unwrap_or(&[]))
-        )?;
-        Ok(())
+        );
     }
 }
 
@@ -94,10 +94,9 @@ fn code_before(i: usize) -> u8 {
 
 // The sum of the lengths at all places.
 fn sum_lengths(codes: &[u8]) -> u16 {
-    codes
-        .iter()
-        .step_by(PLACE)
-        .fold(0, |sum, length| summed(sum, u32::from(*length)))
+    codes.chunks_exact(PLACE).fold(0, |sum, place| {
+        summed(sum, place.first().copied().map_or(0, u32::from))
+    })
 }
 
 // The sum of the named codes' bytes, end to end, as far as there are places.
