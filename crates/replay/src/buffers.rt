@@ -105,6 +105,11 @@ pub fn byte_before(i: usize) -> u8 {
     ((7 * (i % SMALL) + 3) % SMALL) as u8
 }
 
+// The byte that follows a byte of a filled buffer.
+pub fn byte_after(byte: u8) -> u8 {
+    ((usize::from(byte) + 7) % SMALL) as u8
+}
+
 // Row number i of a filled buffer: (13 i + 5) mod 65,521.
 pub fn number_before(i: usize) -> Entry {
     ((13 * (i % LARGE) + 5) % LARGE) as Entry

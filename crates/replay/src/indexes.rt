@@ -1,10 +1,10 @@
 // The index of a case, in two buffers as `index` lays it: places of codes, and how many codes are
 // named with their counts behind.
-use crate::buffers::{byte_before, fill, number_before};
+use crate::buffers::{byte_after, byte_before, fill, number_before};
 use crate::input::CaseReader;
 use crate::stop::Stop;
 use crate::sums::{sum, sum_on, summed};
-use index::{CODE, PLACE};
+use index::PLACE;
 use std::alloc::{AllocError, Global};
 use std::io::Read;
 use table::rows::Entry;
@@ -43,7 +43,7 @@ impl Index {
         let places = places as usize;
         let mut codes = vec![in alloc; 0; PLACE * places]?;
         let mut counts = vec![in alloc; named; 1 + places]?;
-        fill(&mut codes, code_before);
+        fill_codes(&mut codes);
         fill(&mut counts[1..], number_before);
         Ok(Index { codes, counts })
     }
@@ -82,14 +82,26 @@ fn lay(place: &mut [u8], length: u8, code: &[u8]) {
     }
 }
 
-// Byte i of places of codes as they are to stand before an operation. The lengths of the places are
+// Fills places of codes as they are to stand before an operation. The lengths of the places are
 // filled as one buffer, and the bytes behind them as another.
-fn code_before(i: usize) -> u8 {
-    let place = i / PLACE;
-    match i % PLACE {
-        0 => byte_before(place),
-        k => byte_before(CODE * place + k - 1),
+fn fill_codes(codes: &mut [u8]) {
+    let mut next = byte_before(0);
+    for (i, place) in codes.chunks_exact_mut(PLACE).enumerate() {
+        if let Some((length, code)) = place.split_first_mut() {
+            *length = byte_before(i);
+            next = fill_on(code, next);
+        }
     }
+}
+
+// Fills bytes on from one, and answers the one behind them.
+fn fill_on(bytes: &mut [u8], first: u8) -> u8 {
+    let mut next = first;
+    for byte in bytes {
+        *byte = next;
+        next = byte_after(next);
+    }
+    next
 }
 
 // The sum of the lengths at all places.

@@ -101,7 +101,8 @@ impl<R: Read + Drop> CaseReader<R> {
         if PARTS < parts {
             return Err(Stop::TooLong);
         }
-        let mut message = Vec::new(self.alloc);
+        // room for the longest at once: to grow would take twice the memory
+        let mut message = Vec::with_capacity(self.alloc, BYTES)?;
         for _ in 0..parts {
             self.part(&mut message)?;
         }
@@ -163,12 +164,11 @@ impl<R: Read + Drop> CaseReader<R> {
     }
 }
 
-// Lengthens a message by so many bytes, and grows it no further than that.
+// Lengthens a message by so many bytes, for which it has room.
 fn lengthen(message: &mut Vec<u8>, count: usize) -> Result<(), Stop> {
     if BYTES.saturating_sub(message.len()) < count {
         return Err(Stop::TooLong);
     }
-    message.reserve_exact(count)?;
     message.resize(message.len().saturating_add(count), 0)?;
     Ok(())
 }
@@ -187,22 +187,22 @@ fn repeat(message: &mut Vec<u8>, from: usize, times: usize) -> Result<(), Stop> 
     Ok(())
 }
 
-// Lays the part with which the bytes begin, and which has so many of them, behind itself again and
-// again.
+// Lays the part with which the bytes begin, and which has so many of them, behind itself until the
+// bytes end. Each turn doubles what is laid, so there are no more turns than a number has bits.
 fn lay_copies(bytes: &mut [u8], count: usize) {
-    if count == 0 {
-        return;
-    }
-    if let Some((part, copies)) = bytes.split_at_mut_checked(count) {
-        for copy in copies.chunks_exact_mut(count) {
-            lay(copy, part);
-        }
+    let mut laid = count;
+    for _ in 0..usize::BITS {
+        let Some((before, behind)) = bytes.split_at_mut_checked(laid) else {
+            return;
+        };
+        lay(behind, before);
+        laid = laid.saturating_mul(2);
     }
 }
 
-// Lays a part's bytes into a copy as long as it.
-fn lay(copy: &mut [u8], part: &[u8]) {
-    for (byte, new) in copy.iter_mut().zip(part) {
+// Lays bytes over others, as far as both go.
+fn lay(bytes: &mut [u8], new: &[u8]) {
+    for (byte, new) in bytes.iter_mut().zip(new) {
         *byte = *new;
     }
 }
