@@ -16,8 +16,8 @@ const SMALL: usize = 251;
 
 pub const LARGE: usize = 65521;
 
-// The buffers that a table is filed in. They are made once, when a case first needs them, as long as
-// any case asks for, and lent to one case after another, so that none pays for their length.
+// The buffers that a table is filed in. They are made once, when a case first needs them, as long
+// as any case asks for, and lent to one case after another, so that none pays for their length.
 #[derive(Drop)]
 pub struct Buffers {
     text: Vec<u8>,
