@@ -3,6 +3,7 @@
 // To add an operation: a variant of `Operation`, its number in `try_from`, its line in `next_case`,
 // and a module whose `run` takes in the pieces of the case by the methods of `CaseReader`, all of
 // them before it writes, and then writes the line. Its cases go into `crates/replay/cases`.
+use crate::buffers::Buffers;
 use crate::input::CaseReader;
 use crate::stop::Stop;
 use crate::{
@@ -65,23 +66,27 @@ impl TryFrom<Entry> for Operation {
 }
 
 // Takes in the next case, runs it and writes its line.
-pub fn next_case<R: Read + Drop>(rt: &impl Print, input: &mut CaseReader<R>) -> Result<(), Stop> {
+pub fn next_case<R: Read + Drop>(
+    rt: &impl Print,
+    input: &mut CaseReader<R>,
+    buffers: &mut Buffers,
+) -> Result<(), Stop> {
     let number = input.operation()?;
     match Operation::try_from(number)? {
-        Operation::Read(form) => filing::run(rt, input, number, form),
-        Operation::Write(form) => writing::run(rt, input, number, form),
+        Operation::Read(form) => filing::run(rt, input, number, form, buffers),
+        Operation::Write(form) => writing::run(rt, input, number, form, buffers),
         Operation::LeafText => looking::run(rt, input),
         Operation::NextRow => finding::run(rt, input),
         Operation::SameOrder => comparing::run(rt, input),
         Operation::WalkLines => walking::run(rt, input),
         Operation::WatchOrder => watching::run(rt, input),
         Operation::FindLeaf => seeking::run(rt, input),
-        Operation::Screen(form) => screening::run(rt, input, number, form),
+        Operation::Screen(form) => screening::run(rt, input, number, form, buffers),
         Operation::NameKind => naming::run(rt, input),
-        Operation::Widen => widening::run(rt, input),
-        Operation::ReadIndexed(form) => indexing::run(rt, input, number, form),
+        Operation::Widen => widening::run(rt, input, buffers),
+        Operation::ReadIndexed(form) => indexing::run(rt, input, number, form, buffers),
         Operation::ReadValue => values::run(rt, input),
         Operation::WriteValue => value_writing::run(rt, input),
-        Operation::OrderValues(form) => order_values::run(rt, input, number, form),
+        Operation::OrderValues(form) => order_values::run(rt, input, number, form, buffers),
     }
 }

@@ -1,11 +1,10 @@
 // Changes of a table, each of three numbers: which part of it, the place there counted from 0, the
 // new number.
-use crate::tables::Table;
 use table::Card;
 use table::rows::Entry;
 
 // The parts of a table, as a case numbers them.
-// kept (plainer): `change_one` alone matches them; an enum would be made there and matched at once
+// kept (plainer): `change_all` alone matches them; an enum would be made there and matched at once
 const CARD: Entry = 0;
 
 const SEGMENTS: Entry = 1;
@@ -14,24 +13,23 @@ const LEAVES: Entry = 2;
 
 const TEXT: Entry = 3;
 
-impl Table {
-    // Makes all changes in order. One that is behind what is lent changes nothing.
-    pub fn change(&mut self, changes: &[Entry]) {
-        for change in changes.chunks_exact(3) {
-            if let [part, place, number] = *change {
-                self.change_one(part, place as usize, number);
+// Makes all changes in order. One that is behind what is lent changes nothing.
+pub fn change_all(
+    changes: &[Entry],
+    card: &mut Card,
+    text: &mut [u8],
+    segments: &mut [Entry],
+    leaves: &mut [Entry],
+) {
+    for change in changes.chunks_exact(3) {
+        if let [part, place, number] = *change {
+            match part {
+                CARD => change_card(card, place as usize, number),
+                SEGMENTS => set(segments, place as usize, number),
+                LEAVES => set(leaves, place as usize, number),
+                TEXT => set(text, place as usize, (number % 256) as u8),
+                _ => {}
             }
-        }
-    }
-
-    // Makes one change.
-    fn change_one(&mut self, part: Entry, place: usize, number: Entry) {
-        match part {
-            CARD => change_card(&mut self.card, place, number),
-            SEGMENTS => set(&mut self.segments, place, number),
-            LEAVES => set(&mut self.leaves, place, number),
-            TEXT => set(&mut self.text, place, (number % 256) as u8),
-            _ => {}
         }
     }
 }

@@ -1,5 +1,5 @@
 // Operations 1 and 10001: a message into a table in lent buffers.
-use crate::buffers::Buffers;
+use crate::buffers::{Buffers, Lent};
 use crate::input::CaseReader;
 use crate::stop::Stop;
 use crate::sums::sum;
@@ -14,20 +14,18 @@ pub fn run<R: Read + Drop>(
     input: &mut CaseReader<R>,
     operation: Entry,
     form: Form,
+    buffers: &mut Buffers,
 ) -> Result<(), Stop> {
     let message = message_of(form, input)?;
-    let mut buffers = Buffers::new(input.alloc(), input.numbers()?)?;
-    buffers.fill();
-    let answer = read(
-        form,
-        &message,
-        &mut buffers.text,
-        &mut buffers.segments,
-        &mut buffers.leaves,
-    );
-    print!(rt; "{operation}")?;
-    put_filing(rt, answer, &buffers)?;
-    println!(rt; "")?;
+    let Lent {
+        text,
+        segments,
+        leaves,
+    } = buffers.lend_filled(input.numbers()?)?;
+    let answer = read(form, &message, text, segments, leaves);
+    let _ = print!(rt; "{operation}");
+    put_filing(rt, answer, text, segments, leaves);
+    let _ = println!(rt; "");
     Ok(())
 }
 
@@ -40,16 +38,16 @@ fn message_of<R: Read + Drop>(form: Form, input: &mut CaseReader<R>) -> Result<V
 }
 
 // The number, the place and the card's five numbers, and the sums of the three buffers.
-pub fn put_filing(rt: &impl Print, answer: Answer, buffers: &Buffers) -> Result<(), Stop> {
+pub fn put_filing(
+    rt: &impl Print,
+    answer: Answer,
+    text: &[u8],
+    segments: &[Entry],
+    leaves: &[Entry],
+) {
     let card = answer.card;
-    print!(rt; " {} {}", answer.number, answer.place)?;
-    print!(rt; " {} {}", card.separator, card.context)?;
-    print!(rt; " {} {} {}", card.segments, card.leaves, card.text)?;
-    print!(rt;
-        " {} {} {}",
-        sum(&buffers.text),
-        sum(&buffers.segments),
-        sum(&buffers.leaves)
-    )?;
-    Ok(())
+    let _ = print!(rt; " {} {}", answer.number, answer.place);
+    let _ = print!(rt; " {} {}", card.separator, card.context);
+    let _ = print!(rt; " {} {} {}", card.segments, card.leaves, card.text);
+    let _ = print!(rt; " {} {} {}", sum(text), sum(segments), sum(leaves));
 }

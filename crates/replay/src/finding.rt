@@ -11,6 +11,6 @@ pub fn run<R: Read + Drop>(rt: &impl Print, input: &mut CaseReader<R>) -> Result
     let table = Table::take_in(input)?;
     let [after, kind, owner] = input.numbers::<3>()?;
     let row = next_row(table.card, &table.segments, after as usize, kind, owner);
-    println!(rt; "4 {row}")?;
+    let _ = println!(rt; "4 {row}");
     Ok(())
 }

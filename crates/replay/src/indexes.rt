@@ -1,10 +1,10 @@
 // The index of a case, in two buffers as `index` lays it: places of codes, and how many codes are
 // named with their counts behind.
-use crate::buffers::{byte_before, fill, number_before};
+use crate::buffers::{byte_after, byte_before, fill, number_before};
 use crate::input::CaseReader;
 use crate::stop::Stop;
 use crate::sums::{sum, sum_on, summed};
-use index::{CODE, PLACE};
+use index::PLACE;
 use std::alloc::{AllocError, Global};
 use std::io::Read;
 use table::rows::Entry;
@@ -43,7 +43,7 @@ impl Index {
         let places = places as usize;
         let mut codes = vec![in alloc; 0; PLACE * places]?;
         let mut counts = vec![in alloc; named; 1 + places]?;
-        fill(&mut codes, code_before);
+        fill_codes(&mut codes);
         fill(&mut counts[1..], number_before);
         Ok(Index { codes, counts })
     }
@@ -51,7 +51,8 @@ impl Index {
     // Puts an entry at place i. Its bytes may be others than its length says, and lie there as far
     // as the place has room.
     fn put(&mut self, i: Entry, length: Entry, code: &[u8], count: Entry) {
-        if let Some(place) = self.codes.chunks_exact_mut(PLACE).nth(i as usize) {
+        let at = PLACE * i as usize;
+        if let Some(place) = self.codes.as_mut_slice().get_mut(at..at + PLACE) {
             lay(place, (length % 256) as u8, code);
         }
         if let Some(old) = self.counts.get_mut(i as usize + 1) {
@@ -60,15 +61,14 @@ impl Index {
     }
 
     // How many codes are named, and the sums of lengths, codes and counts.
-    pub fn put_sums(&self, rt: &impl Print) -> Result<(), Stop> {
+    pub fn put_sums(&self, rt: &impl Print) {
         let named = self.counts.first().copied().unwrap_or(0);
-        print!(rt;
+        let _ = print!(rt;
             " {named} {} {} {}",
             sum_lengths(&self.codes),
             sum_codes(&self.codes, named as usize),
             sum(self.counts.get(1..).unwrap_or(&[]))
-        )?;
-        Ok(())
+        );
     }
 }
 
@@ -82,22 +82,33 @@ fn lay(place: &mut [u8], length: u8, code: &[u8]) {
     }
 }
 
-// Byte i of places of codes as they are to stand before an operation. The lengths of the places are
+// Fills places of codes as they are to stand before an operation. The lengths of the places are
 // filled as one buffer, and the bytes behind them as another.
-fn code_before(i: usize) -> u8 {
-    let place = i / PLACE;
-    match i % PLACE {
-        0 => byte_before(place),
-        k => byte_before(CODE * place + k - 1),
+fn fill_codes(codes: &mut [u8]) {
+    let mut next = byte_before(0);
+    for (i, place) in codes.chunks_exact_mut(PLACE).enumerate() {
+        if let Some((length, code)) = place.split_first_mut() {
+            *length = byte_before(i);
+            next = fill_on(code, next);
+        }
     }
+}
+
+// Fills bytes on from one, and answers the one behind them.
+fn fill_on(bytes: &mut [u8], first: u8) -> u8 {
+    let mut next = first;
+    for byte in bytes {
+        *byte = next;
+        next = byte_after(next);
+    }
+    next
 }
 
 // The sum of the lengths at all places.
 fn sum_lengths(codes: &[u8]) -> u16 {
-    codes
-        .iter()
-        .step_by(PLACE)
-        .fold(0, |sum, length| summed(sum, u32::from(*length)))
+    codes.chunks_exact(PLACE).fold(0, |sum, place| {
+        summed(sum, place.first().copied().map_or(0, u32::from))
+    })
 }
 
 // The sum of the named codes' bytes, end to end, as far as there are places.

@@ -1,6 +1,6 @@
 // Operations 107 and 10107: messages that are read one after another, each lent the index and the
 // tally that the last one left. Each is taken in when it is read.
-use crate::buffers::Buffers;
+use crate::buffers::{Buffers, Lent};
 use crate::filing::put_filing;
 use crate::indexes::Index;
 use crate::input::CaseReader;
@@ -18,18 +18,19 @@ pub fn run<R: Read + Drop>(
     input: &mut CaseReader<R>,
     operation: Entry,
     form: Form,
+    buffers: &mut Buffers,
 ) -> Result<(), Stop> {
     let mut index = Index::take_in(input)?;
     input.begin();
     let mut tally = tally_of(input.numbers()?);
-    let mut buffers = Buffers::new(input.alloc(), input.numbers()?)?;
+    let lengths = input.numbers()?;
     let messages = input.number()?;
-    print!(rt; "{operation}")?;
+    let _ = print!(rt; "{operation}");
     for _ in 0..messages {
         let message = message_of(form, input)?;
-        tally = read_one(rt, form, &message, tally, &mut buffers, &mut index)?;
+        tally = read_one(rt, form, &message, tally, lengths, buffers, &mut index)?;
     }
-    println!(rt; "")?;
+    let _ = println!(rt; "");
     Ok(())
 }
 
@@ -58,23 +59,28 @@ fn read_one(
     form: Form,
     message: &[u8],
     before: Tally,
+    lengths: [Entry; 3],
     buffers: &mut Buffers,
     index: &mut Index,
 ) -> Result<Tally, Stop> {
-    buffers.fill();
+    let Lent {
+        text,
+        segments,
+        leaves,
+    } = buffers.lend_filled(lengths)?;
     let indexed = read_indexed(
         before,
         form,
         message,
-        &mut buffers.text,
-        &mut buffers.segments,
-        &mut buffers.leaves,
+        text,
+        segments,
+        leaves,
         &mut index.codes,
         &mut index.counts,
     );
     let tally = indexed.tally;
-    put_filing(rt, indexed.answer, buffers)?;
-    print!(rt; " {} {} {}", tally.messages, tally.segments, tally.results)?;
-    index.put_sums(rt)?;
+    put_filing(rt, indexed.answer, text, segments, leaves);
+    let _ = print!(rt; " {} {} {}", tally.messages, tally.segments, tally.results);
+    index.put_sums(rt);
     Ok(tally)
 }

@@ -12,6 +12,9 @@ const MOST: usize = 65518;
 // The most parts that a message has.
 const PARTS: Entry = 8;
 
+// As many numbers as are read at once.
+const BLOCK: usize = 256;
+
 // Takes in pieces, and holds how many more numbers and bytes the case may have.
 #[derive(Drop)]
 pub struct CaseReader<R: Read + Drop> {
@@ -53,10 +56,9 @@ impl<R: Read + Drop> CaseReader<R> {
 
     // So many numbers.
     pub fn numbers<const N: usize>(&mut self) -> Result<[Entry; N], Stop> {
+        self.take(N)?;
         let mut numbers = [0; N];
-        for number in &mut numbers {
-            *number = self.number()?;
-        }
+        self.fill(&mut numbers)?;
         Ok(numbers)
     }
 
@@ -64,10 +66,8 @@ impl<R: Read + Drop> CaseReader<R> {
     pub fn row(&mut self) -> Result<Vec<Entry>, Stop> {
         let count = self.count()? as usize;
         self.take(count)?;
-        let mut row = Vec::new(self.alloc);
-        for _ in 0..count {
-            row.push(self.count()?)?;
-        }
+        let mut row = vec![in self.alloc; 0; count]?;
+        self.fill(&mut row)?;
         Ok(row)
     }
 
@@ -101,7 +101,8 @@ impl<R: Read + Drop> CaseReader<R> {
         if PARTS < parts {
             return Err(Stop::TooLong);
         }
-        let mut message = Vec::new(self.alloc);
+        // room for the longest at once: to grow would take twice the memory
+        let mut message = Vec::with_capacity(self.alloc, BYTES)?;
         for _ in 0..parts {
             self.part(&mut message)?;
         }
@@ -111,23 +112,14 @@ impl<R: Read + Drop> CaseReader<R> {
     // Takes in a part, and lays it behind a message as often as it stands. It has room there at
     // least once, also where it stands not at all.
     fn part(&mut self, message: &mut Vec<u8>) -> Result<(), Stop> {
-        let times = self.count()?;
+        let times = self.count()? as usize;
         let count = self.count()? as usize;
-        let room = BYTES.saturating_sub(message.len());
-        if room < count {
-            return Err(Stop::TooLong);
+        let from = message.len();
+        lengthen(message, count)?;
+        if let Some(part) = message.as_mut_slice().get_mut(from..) {
+            self.reader.read_exact(part)?;
         }
-        let part = self.exactly(count)?;
-        if part.is_empty() {
-            return Ok(());
-        }
-        for _ in 0..times {
-            if BYTES.saturating_sub(message.len()) < count {
-                return Err(Stop::TooLong);
-            }
-            message.extend_from_slice(&part)?;
-        }
-        Ok(())
+        repeat(message, from, times)
     }
 
     // Counts numbers or bytes that the case has, before they come.
@@ -143,10 +135,74 @@ impl<R: Read + Drop> CaseReader<R> {
         Ok(Entry::from_le_bytes(four))
     }
 
+    // As many numbers as there is room for.
+    fn fill(&mut self, numbers: &mut [Entry]) -> Result<(), Stop> {
+        for block in numbers.chunks_mut(BLOCK) {
+            self.fill_block(block)?;
+        }
+        Ok(())
+    }
+
+    // A block of numbers, with one read. The input is left at the byte behind them.
+    fn fill_block(&mut self, numbers: &mut [Entry]) -> Result<(), Stop> {
+        let mut bytes = [0; 4 * BLOCK];
+        let end = numbers.len().saturating_mul(4).min(bytes.len());
+        self.reader.read_exact(&mut bytes[..end])?;
+        for (number, four) in numbers.iter_mut().zip(bytes.chunks_exact(4)) {
+            if let [a, b, c, d] = *four {
+                *number = Entry::from_le_bytes([a, b, c, d]);
+            }
+        }
+        Ok(())
+    }
+
     // So many bytes.
     fn exactly(&mut self, count: usize) -> Result<Vec<u8>, Stop> {
         let mut bytes = vec![in self.alloc; 0; count]?;
         self.reader.read_exact(&mut bytes)?;
         Ok(bytes)
+    }
+}
+
+// Lengthens a message by so many bytes, for which it has room.
+fn lengthen(message: &mut Vec<u8>, count: usize) -> Result<(), Stop> {
+    if BYTES.saturating_sub(message.len()) < count {
+        return Err(Stop::TooLong);
+    }
+    message.resize(message.len().saturating_add(count), 0)?;
+    Ok(())
+}
+
+// Lays what stands in a message from a place on there so often, end to end.
+fn repeat(message: &mut Vec<u8>, from: usize, times: usize) -> Result<(), Stop> {
+    if times == 0 {
+        message.truncate(from);
+        return Ok(());
+    }
+    let count = message.len().saturating_sub(from);
+    lengthen(message, count.saturating_mul(times - 1))?;
+    if let Some(bytes) = message.as_mut_slice().get_mut(from..) {
+        lay_copies(bytes, count);
+    }
+    Ok(())
+}
+
+// Lays the part with which the bytes begin, and which has so many of them, behind itself until the
+// bytes end. Each turn doubles what is laid, so there are no more turns than a number has bits.
+fn lay_copies(bytes: &mut [u8], count: usize) {
+    let mut laid = count;
+    for _ in 0..usize::BITS {
+        let Some((before, behind)) = bytes.split_at_mut_checked(laid) else {
+            return;
+        };
+        lay(behind, before);
+        laid = laid.saturating_mul(2);
+    }
+}
+
+// Lays bytes over others, as far as both go.
+fn lay(bytes: &mut [u8], new: &[u8]) {
+    for (byte, new) in bytes.iter_mut().zip(new) {
+        *byte = *new;
     }
 }

@@ -20,6 +20,6 @@ pub fn run<R: Read + Drop>(rt: &impl Print, input: &mut CaseReader<R>) -> Result
         place,
         &substitute,
     );
-    println!(rt; "3 {} {}", text.len(), sum(text))?;
+    let _ = println!(rt; "3 {} {}", text.len(), sum(text));
     Ok(())
 }

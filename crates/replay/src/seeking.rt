@@ -21,6 +21,6 @@ pub fn run<R: Read + Drop>(rt: &impl Print, input: &mut CaseReader<R>) -> Result
         Sought::At(start, length) => (start, length),
         Sought::Empty | Sought::NotThere => (0, 0),
     };
-    println!(rt; "101 {} {start} {length}", sought.number())?;
+    let _ = println!(rt; "101 {} {start} {length}", sought.number());
     Ok(())
 }

@@ -4,8 +4,8 @@ use std::io;
 
 #[derive(Clone, Copy, Debug, PartialEq, Eq)]
 pub enum Stop {
-    // The input has ended, or reading or writing failed.
-    InputOrOutput,
+    // The input has ended, or a read failed.
+    NoInput,
     // No operation has the number.
     NoOperation,
     // A piece of a case is longer than any case has it.
@@ -15,7 +15,7 @@ pub enum Stop {
 
 impl From<io::Error> for Stop {
     fn from(_error: io::Error) -> Stop {
-        Stop::InputOrOutput
+        Stop::NoInput
     }
 }
 

@@ -1,15 +1,25 @@
 // Tables of cases.
+use crate::buffers::{Buffers, Lent, cut};
+use crate::changes::change_all;
 use crate::input::CaseReader;
 use crate::stop::Stop;
 use form::forms::{Form, LargeForm};
 use look::leaf::Place;
 use read::read;
-use std::alloc::Global;
 use std::io::Read;
 use table::Card;
 use table::rows::{Entry, LEAF_ROW, SEGMENT_ROW};
 
 // A card, and what is lent with it.
+#[derive(Clone, Copy)]
+pub struct LentTable<'a> {
+    pub card: Card,
+    pub segments: &'a [Entry],
+    pub leaves: &'a [Entry],
+    pub text: &'a [u8],
+}
+
+// A card, and the rows and the text area that came with it.
 #[derive(Drop)]
 pub struct Table {
     pub card: Card,
@@ -19,14 +29,6 @@ pub struct Table {
 }
 
 impl Table {
-    // A table of a form: of the small form one among the pieces, of the large form one by reading.
-    pub fn of<R: Read + Drop>(form: Form, input: &mut CaseReader<R>) -> Result<Table, Stop> {
-        match form {
-            Form::Small => Table::take_in(input),
-            Form::Large => Table::read_and_change(input),
-        }
-    }
-
     // A table among the pieces: five numbers, the segment rows, the leaf rows, the text area.
     pub fn take_in<R: Read + Drop>(input: &mut CaseReader<R>) -> Result<Table, Stop> {
         Ok(Table {
@@ -37,33 +39,52 @@ impl Table {
         })
     }
 
+    // The same, lent.
+    pub fn lend(&self) -> LentTable<'_> {
+        LentTable {
+            card: self.card,
+            segments: &self.segments,
+            leaves: &self.leaves,
+            text: &self.text,
+        }
+    }
+}
+
+impl<'a> LentTable<'a> {
     // A table by reading: what the reader of the large form gives for a message in parts, then
     // changed.
-    fn read_and_change<R: Read + Drop>(input: &mut CaseReader<R>) -> Result<Table, Stop> {
+    pub fn read_and_change<R: Read + Drop>(
+        input: &mut CaseReader<R>,
+        buffers: &'a mut Buffers,
+    ) -> Result<LentTable<'a>, Stop> {
         let message = input.parts()?;
         // the message counts as one number
         input.take(1)?;
         let changes = input.row()?;
-        let mut table = Table::read(input.alloc(), &message)?;
-        table.change(&changes);
-        Ok(table)
+        Ok(LentTable::read(&message, &changes, buffers.lend()?))
     }
 
-    // The table that the reader gives, its buffers cut to what the card counts.
-    fn read(alloc: Global, message: &[u8]) -> Result<Table, Stop> {
-        let mut text = vec![in alloc; 0; LargeForm::BYTES]?;
-        let mut segments = vec![in alloc; 0; SEGMENT_ROW * LargeForm::SEGMENTS]?;
-        let mut leaves = vec![in alloc; 0; LEAF_ROW * LargeForm::LEAVES]?;
-        let card = read(Form::Large, message, &mut text, &mut segments, &mut leaves).card;
-        text.truncate(card.text);
-        segments.truncate(SEGMENT_ROW * card.segments.min(LargeForm::SEGMENTS));
-        leaves.truncate(LEAF_ROW * card.leaves.min(LargeForm::LEAVES));
-        Ok(Table {
+    // The table that the reader gives, its buffers cut to what the card counts, and then changed.
+    fn read(message: &[u8], changes: &[Entry], lent: Lent<'a>) -> LentTable<'a> {
+        let Lent {
+            text,
+            segments,
+            leaves,
+        } = lent;
+        let mut card = read(Form::Large, message, text, segments, leaves).card;
+        let text = cut(text, card.text);
+        let segments = cut(
+            segments,
+            SEGMENT_ROW * card.segments.min(LargeForm::SEGMENTS),
+        );
+        let leaves = cut(leaves, LEAF_ROW * card.leaves.min(LargeForm::LEAVES));
+        change_all(changes, &mut card, text, segments, leaves);
+        LentTable {
             card,
             segments,
             leaves,
             text,
-        })
+        }
     }
 }
 

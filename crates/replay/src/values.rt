@@ -8,6 +8,6 @@ use value::reading::read_value;
 pub fn run<R: Read + Drop>(rt: &impl Print, input: &mut CaseReader<R>) -> Result<(), Stop> {
     let text = input.bytes()?;
     let value = read_value(&text);
-    println!(rt; "1021 {} {} {}", value.number, value.whole, value.decimals)?;
+    let _ = println!(rt; "1021 {} {} {}", value.number, value.whole, value.decimals);
     Ok(())
 }

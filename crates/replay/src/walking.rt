@@ -15,38 +15,37 @@ const MOST_LINES: usize = 65792;
 // calls more.
 pub fn run<R: Read + Drop>(rt: &impl Print, input: &mut CaseReader<R>) -> Result<(), Stop> {
     let message = input.bytes()?;
-    print!(rt; "6")?;
-    let at = walk(rt, &message)?;
-    put_call(rt, &message, at)?;
-    put_call(rt, &message, at)?;
-    println!(rt; "")?;
+    let _ = print!(rt; "6");
+    let at = walk(rt, &message);
+    put_call(rt, &message, at);
+    put_call(rt, &message, at);
+    let _ = println!(rt; "");
     Ok(())
 }
 
 // Walks until a call stays where it is, and answers that place.
-fn walk(rt: &impl Print, message: &[u8]) -> Result<usize, Stop> {
+fn walk(rt: &impl Print, message: &[u8]) -> usize {
     let mut at = 0;
     for _ in 0..MOST_LINES {
-        put_call(rt, message, at)?;
+        put_call(rt, message, at);
         let next = next_place(message, at);
         if next == at {
             break;
         }
         at = next;
     }
-    Ok(at)
+    at
 }
 
 // What the call at a place gives: for a line 1, its length and its sum, for the end 0, for a fault
 // its number and its place.
-fn put_call(rt: &impl Print, message: &[u8], at: usize) -> Result<(), Stop> {
-    match line_at(message, at) {
+fn put_call(rt: &impl Print, message: &[u8], at: usize) {
+    let _ = match line_at(message, at) {
         Found::Line { .. } => {
             let part = line_part(message, at);
-            print!(rt; " 1 {} {}", part.len(), sum(part))?;
+            print!(rt; " 1 {} {}", part.len(), sum(part))
         }
-        Found::End => print!(rt; " 0")?,
-        Found::Fault { number, place } => print!(rt; " {number} {place}")?,
-    }
-    Ok(())
+        Found::End => print!(rt; " 0"),
+        Found::Fault { number, place } => print!(rt; " {number} {place}"),
+    };
 }

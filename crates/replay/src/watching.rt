@@ -9,13 +9,13 @@ use std::io::Read;
 pub fn run<R: Read + Drop>(rt: &impl Print, input: &mut CaseReader<R>) -> Result<(), Stop> {
     let context = input.number()?;
     let kinds = input.row()?;
-    print!(rt; "7")?;
+    let _ = print!(rt; "7");
     let mut watcher = Watcher::begin((context % 256) as u8);
     for kind in &kinds {
         let told = watcher.tell((*kind % 256) as u8);
         watcher = told.watcher;
-        print!(rt; " {}", u8::from(told.yes))?;
+        let _ = print!(rt; " {}", u8::from(told.yes));
     }
-    println!(rt; "")?;
+    let _ = println!(rt; "");
     Ok(())
 }

@@ -1,6 +1,6 @@
 // Operation 106: a table of narrow rows, whose numbers are below 65,536, into a table in lent
 // buffers.
-use crate::buffers::Buffers;
+use crate::buffers::{Buffers, Lent};
 use crate::filing::put_filing;
 use crate::input::CaseReader;
 use crate::stop::Stop;
@@ -16,24 +16,31 @@ const NARROW_SEGMENTS: usize = 1100;
 const NARROW_LEAVES: usize = 14400;
 
 // Widens the table into buffers of the lengths that follow it.
-pub fn run<R: Read + Drop>(rt: &impl Print, input: &mut CaseReader<R>) -> Result<(), Stop> {
+pub fn run<R: Read + Drop>(
+    rt: &impl Print,
+    input: &mut CaseReader<R>,
+    buffers: &mut Buffers,
+) -> Result<(), Stop> {
     let table = Table::take_in(input)?;
-    let mut buffers = Buffers::new(input.alloc(), input.numbers()?)?;
-    buffers.fill();
-    let segments = narrow(input.alloc(), &table.segments, NARROW_SEGMENTS)?;
-    let leaves = narrow(input.alloc(), &table.leaves, NARROW_LEAVES)?;
+    let Lent {
+        text,
+        segments,
+        leaves,
+    } = buffers.lend_filled(input.numbers()?)?;
+    let narrow_segments = narrow(input.alloc(), &table.segments, NARROW_SEGMENTS)?;
+    let narrow_leaves = narrow(input.alloc(), &table.leaves, NARROW_LEAVES)?;
     let answer = widen(
         table.card,
-        &segments,
-        &leaves,
+        &narrow_segments,
+        &narrow_leaves,
         &table.text,
-        &mut buffers.text,
-        &mut buffers.segments,
-        &mut buffers.leaves,
+        text,
+        segments,
+        leaves,
     );
-    print!(rt; "106")?;
-    put_filing(rt, answer, &buffers)?;
-    println!(rt; "")?;
+    let _ = print!(rt; "106");
+    put_filing(rt, answer, text, segments, leaves);
+    let _ = println!(rt; "");
     Ok(())
 }
 

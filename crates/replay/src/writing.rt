@@ -1,9 +1,9 @@
 // Operations 2 and 10002: a table into its message.
-use crate::buffers::filled_output;
+use crate::buffers::{Buffers, filled_output};
 use crate::input::CaseReader;
 use crate::stop::Stop;
 use crate::sums::sum;
-use crate::tables::Table;
+use crate::tables::{LentTable, Table};
 use form::forms::Form;
 use std::io::Read;
 use table::rows::Entry;
@@ -16,18 +16,26 @@ pub fn run<R: Read + Drop>(
     input: &mut CaseReader<R>,
     operation: Entry,
     form: Form,
+    buffers: &mut Buffers,
 ) -> Result<(), Stop> {
-    let table = Table::of(form, input)?;
+    let own;
+    let table = match form {
+        Form::Small => {
+            own = Table::take_in(input)?;
+            own.lend()
+        }
+        Form::Large => LentTable::read_and_change(input, buffers)?,
+    };
     let mut output = filled_output(input.alloc(), input.number()?)?;
     let written = write(
         form,
         table.card,
-        &table.segments,
-        &table.leaves,
-        &table.text,
+        table.segments,
+        table.leaves,
+        table.text,
         &mut output,
     );
-    print!(rt; "{operation} {} {}", written.number, written.place)?;
-    println!(rt; " {} {} {}", written.bytes, written.lines, sum(&output))?;
+    let _ = print!(rt; "{operation} {} {}", written.number, written.place);
+    let _ = println!(rt; " {} {} {}", written.bytes, written.lines, sum(&output));
     Ok(())
 }
